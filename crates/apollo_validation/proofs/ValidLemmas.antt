@@ -24,7 +24,8 @@ use Rattle.apollo_validation.specs.declared.lists.NamedList.TheVariants.{Argumen
 use Rattle.apollo_validation.specs.declared.lists.NamedList.TheVariants.{InputFieldDefinitions, ArgumentDefinitions, EnumValues}
 use Rattle.apollo_validation.specs.declared.lists.DocumentKind.{DocumentKind}
 use Rattle.apollo_validation.specs.declared.lists.DocumentKind.TheVariants.{Executable, TypeSystem}
-use Rattle.apollo_validation.specs.Lists.{EachOf, IsExecutable, IsForeign, OneOf, RepeatsAs, RepeatsIn, UniqueAs, UniqueIn, is_judged, items_of, list_of, nodes, rule_of}
+use Rattle.apollo_validation.specs.Lists.{EachOf, IsExecutable, IsForeign, OneOf, RepeatsAs, RepeatsIn, UniqueAs, UniqueIn}
+use Rattle.apollo_validation.specs.Lists.{is_judged, items_of, list_of, nodes, rule_of}
 use Rattle.apollo_validation.specs.Validity.{AreBreaches, Breaks, BreaksTypeSystem, IsValid, IsValidTypeSystem, parts_in}
 use Rattle.apollo_validation.specs.Validity.{executable_definitions, operation_names, lone_anonymous_operation, lists}
 use Rattle.apollo_validation.specs.Validity.{fragment_names, fragments_used, spreads_defined, no_cycles, variables}
@@ -123,7 +124,8 @@ valid_keeps document valid b (variables (operation, there, so)) =
 to_breaks :
     (document : Place) (b : Breach)
     → ((((((((OneOf (child_nodes document) IsForeign b ⊎ Repeats UniqueOperationNames (named_definitions Operation (defined document)) b)
-    ⊎ IsNotAlone (parts_in document) b) ⊎ OneOf (nodes document) (RepeatsIn Executable) b) ⊎ Repeats UniqueFragmentNames (named_definitions Fragment (defined document)) b)
+    ⊎ IsNotAlone (parts_in document) b) ⊎ OneOf (nodes document) (RepeatsIn Executable) b)
+    ⊎ Repeats UniqueFragmentNames (named_definitions Fragment (defined document)) b)
     ⊎ IsUnusedFragment (parts_in document) b) ⊎ IsUndefinedSpread (parts_in document) b) ⊎ IsOnCycle (parts_in document) b) ⊎ BreaksVariables
     (parts_in document) b)
     → Breaks document b
@@ -140,7 +142,8 @@ to_breaks document b (inr so) = variables so
 from_breaks :
     (document : Place) (b : Breach) → Breaks document b
     → (((((((OneOf (child_nodes document) IsForeign b ⊎ Repeats UniqueOperationNames (named_definitions Operation (defined document)) b)
-    ⊎ IsNotAlone (parts_in document) b) ⊎ OneOf (nodes document) (RepeatsIn Executable) b) ⊎ Repeats UniqueFragmentNames (named_definitions Fragment (defined document)) b)
+    ⊎ IsNotAlone (parts_in document) b) ⊎ OneOf (nodes document) (RepeatsIn Executable) b)
+    ⊎ Repeats UniqueFragmentNames (named_definitions Fragment (defined document)) b)
     ⊎ IsUnusedFragment (parts_in document) b) ⊎ IsUndefinedSpread (parts_in document) b) ⊎ IsOnCycle (parts_in document) b) ⊎ BreaksVariables
     (parts_in document) b
 from_breaks document b (executable_definitions so) = inl (inl (inl (inl (inl (inl (inl (inl so)))))))
@@ -176,7 +179,8 @@ are_valid document executable operation_unique alone unique fragment_unique used
 pub adds_all :
     (d : Place) (v0 v1 v2 v3 v4 v5 v6 v7 v8 v9 : Violations) → Adds (OneOf (child_nodes d) IsForeign) (EachOf (child_nodes d) IsExecutable) v0 v1
     → Adds (Repeats UniqueOperationNames (named_definitions Operation (defined d))) (AreUnique (named_definitions Operation (defined d))) v1 v2
-    → Adds (IsNotAlone (parts_in d)) (AnonymousIsAlone (parts_in d)) v2 v3 → Adds (OneOf (nodes d) (RepeatsIn Executable)) (EachOf (nodes d) (UniqueIn Executable)) v3 v4
+    → Adds (IsNotAlone (parts_in d)) (AnonymousIsAlone (parts_in d)) v2 v3
+    → Adds (OneOf (nodes d) (RepeatsIn Executable)) (EachOf (nodes d) (UniqueIn Executable)) v3 v4
     → Adds (Repeats UniqueFragmentNames (named_definitions Fragment (defined d))) (AreUnique (named_definitions Fragment (defined d))) v4 v5
     → Adds (IsUnusedFragment (parts_in d)) (FragmentsAreUsed (parts_in d)) v5 v6 → Adds (IsUndefinedSpread (parts_in d)) (SpreadsAreDefined (parts_in d)) v6 v7
     → Adds (IsOnCycle (parts_in d)) (HasNoCycles (parts_in d)) v7 v8 → Adds (BreaksVariables (parts_in d)) (VariablesAreWell (parts_in d)) v8 v9

@@ -1,5 +1,5 @@
 -- Lists in a tree whose items have to have different names, and definitions that are not executable.
-use Rattle.std.specs.Prelude.{◌≡◌, List, Bool, true, false, not, ◌&&◌, ◌||◌, Option, Some, None, is_empty, option_and_then, option_map, if◌then◌else◌}
+use Rattle.std.specs.Prelude.{◌≡◌, List, Bool, true, false, not, ◌&&◌, ◌||◌, Option, Some, None, [], ◌∷◌, option_and_then, option_map, if◌then◌else◌}
 use Rattle.std.specs.List.{Contains, filter, filter_map, list_any}
 use Rattle.document_grammar.specs.declared.kind.SyntaxKind.TheVariants.{ARGUMENTS, ARGUMENTS_DEFINITION, ENUM_VALUES_DEFINITION, FIELDS_DEFINITION}
 use Rattle.document_grammar.specs.declared.kind.SyntaxKind.TheVariants.{FRAGMENT_DEFINITION, INPUT_FIELDS_DEFINITION, OBJECT_VALUE, OPERATION_DEFINITION}
@@ -110,9 +110,13 @@ IsForeign p b = (is_executable p ≡ false) × (b ≡ breach ExecutableDefinitio
 abbrev pub IsExecutable : Place → Type 0
 IsExecutable p = is_executable p ≡ true
 
+abbrev pub has_item : List Place → Bool
+has_item [] = false
+has_item (p ∷ ps) = true
+
 -- What a document is judged as: as one of the type system if it has definitions, and none of them is an operation or a fragment.
 abbrev pub document_kind : Place → DocumentKind
 document_kind document =
-    if not (is_empty (child_nodes document)) && not (list_any is_executable (child_nodes document))
+    if has_item (child_nodes document) && not (list_any is_executable (child_nodes document))
     then TypeSystem
     else Executable

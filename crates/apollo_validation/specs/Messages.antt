@@ -54,16 +54,16 @@ owner p = option_and_then parent_place (parent_place p)
 abbrev pub name_of_other : Option Place → Option Name
 name_of_other other = option_and_then own_name other
 
--- a field or an enum value, after the name of its type: `Type.field`
+-- a field or an enum value: `Type.field`
 abbrev pub member : Place → Text
 member p = or_nothing (name_of_other (owner p)) ++ codes "." ++ name_at p
 
--- what has an argument: `@directive` or `Type.field`
+-- the directive or the field that has an argument: `@directive` or `Type.field`
 abbrev pub with_arguments : Option Place → Text
 with_arguments None = []
 with_arguments (Some p) = if is_kind DIRECTIVE_DEFINITION (kind_at p) then codes "@" ++ name_at p else member p
 
--- an argument, after what has it: `@directive(argument:)` or `Type.field(argument:)`
+-- an argument: `@directive(argument:)` or `Type.field(argument:)`
 abbrev pub argument : Place → Text
 argument p = with_arguments (owner p) ++ codes "(" ++ name_at p ++ codes ":)"
 

@@ -11,7 +11,7 @@ use Rattle.executable_document.specs.Mentions.{name_in, name_of}
 abbrev pub is_about_fragment : SyntaxKind → Bool
 is_about_fragment kind = is_kind FRAGMENT_DEFINITION kind || is_kind FRAGMENT_SPREAD kind
 
--- the name of what an element defines or mentions
+-- the name that an element defines or mentions
 abbrev pub own_name : Place → Option Name
 own_name p =
     if is_about_fragment (kind_at p)

@@ -1,11 +1,11 @@
 // Lists in a tree whose items have to have different names, and definitions that are not executable.
-ghost use Rattle.std.specs.Prelude.{◌≡◌, IfOk, OnOk, is_empty, map, not, option_map};
+ghost use Rattle.std.specs.Prelude.{◌≡◌, IfOk, OnOk, map, option_map};
 ghost use Rattle.std.specs.List.{list_any};
 ghost use Rattle.apollo_tree.specs.Children.{child_nodes};
 ghost use Rattle.apollo_tree.specs.References.{node_place};
 ghost use Rattle.executable_document.specs.Mentions.{as_named};
 ghost use Rattle.definition_rules.specs.Violations.{Adds};
-ghost use Rattle.apollo_validation.specs.Lists.{EachOf, IsExecutable, IsForeign, OneOf, RepeatsIn, UniqueIn, document_kind, is_executable, is_judged, item_of, items_of, judged_list, list_of, nodes, rule_of};
+ghost use Rattle.apollo_validation.specs.Lists.{EachOf, IsExecutable, IsForeign, OneOf, RepeatsIn, UniqueIn, document_kind, has_item, is_executable, is_judged, item_of, items_of, judged_list, list_of, nodes, rule_of};
 
 use crate::names::own_name;
 use apollo_tree::{SyntaxKind, SyntaxNode};
@@ -200,7 +200,7 @@ fn has_executable(document: &SyntaxNode<'_>) -> bool
 }
 
 fn has_definition(document: &SyntaxNode<'_>) -> bool
-    ensures { result ≡ not (is_empty (child_nodes (node_place document.now))) }
+    ensures { result ≡ has_item (child_nodes (node_place document.now)) }
 {
     document.children().next().is_some()
 }

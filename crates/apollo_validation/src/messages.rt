@@ -17,6 +17,26 @@ fn is_schema(node: &SyntaxNode<'_>) -> bool
     kind.is(SyntaxKind::SCHEMA_DEFINITION) || kind.is(SyntaxKind::SCHEMA_EXTENSION)
 }
 
+// Two names and the words around them.
+fn with_names<A: Allocator>(
+    alloc: A,
+    before: &str,
+    name: &str,
+    between: &str,
+    other: &str,
+    after: &str,
+) -> Result<String<A>, AllocError>
+    ensures { IfOk result (λ text. string_bytes text ≡ before.now ++ name.now ++ between.now ++ other.now ++ after.now) }
+{
+    let mut text = String::new(alloc);
+    text.push_str(before)?;
+    text.push_str(name)?;
+    text.push_str(between)?;
+    text.push_str(other)?;
+    text.push_str(after)?;
+    Ok(text)
+}
+
 fn not_executable<A: Allocator>(
     alloc: A,
     definition: &SyntaxNode<'_>,
@@ -33,7 +53,14 @@ fn not_executable<A: Allocator>(
 fn only_one<A: Allocator>(alloc: A, noun: &str, name: &str) -> Result<String<A>, AllocError>
     ensures { IfOk result (λ text. string_bytes text ≡ only_one noun.now name.now) }
 {
-    format!(in alloc; "There can be only one {noun} named \"{name}\".")
+    with_names(
+        alloc,
+        "There can be only one ",
+        noun,
+        " named \"",
+        name,
+        "\".",
+    )
 }
 
 fn only_one_variable<A: Allocator>(alloc: A, name: &str) -> Result<String<A>, AllocError>
@@ -49,7 +76,14 @@ fn within_itself<A: Allocator>(alloc: A, name: &str, other: &str) -> Result<Stri
     if name == other {
         return format!(in alloc; "Cannot spread fragment \"{name}\" within itself.");
     }
-    format!(in alloc; "Cannot spread fragment \"{name}\" within itself via \"{other}\".")
+    with_names(
+        alloc,
+        "Cannot spread fragment \"",
+        name,
+        "\" within itself via \"",
+        other,
+        "\".",
+    )
 }
 
 fn not_defined<A: Allocator>(
@@ -57,12 +91,17 @@ fn not_defined<A: Allocator>(
     name: &str,
     operation: Option<&str>,
 ) -> Result<String<A>, AllocError>
-    ensures { IfOk result (λ text. string_bytes text ≡ not_defined name.now (option_map (λ n. n.now) operation)) }
+    ensures { IfOk result (λ text. string_bytes text ≡ not_defined name.now (option_map (λ n. n.now) operation.entry)) }
 {
     match operation {
-        Some(operation) => {
-            format!(in alloc; "Variable \"${name}\" is not defined by operation \"{operation}\".")
-        }
+        Some(operation) => with_names(
+            alloc,
+            "Variable \"$",
+            name,
+            "\" is not defined by operation \"",
+            operation,
+            "\".",
+        ),
         None => format!(in alloc; "Variable \"${name}\" is not defined."),
     }
 }
@@ -72,12 +111,17 @@ fn never_used<A: Allocator>(
     name: &str,
     operation: Option<&str>,
 ) -> Result<String<A>, AllocError>
-    ensures { IfOk result (λ text. string_bytes text ≡ never_used name.now (option_map (λ n. n.now) operation)) }
+    ensures { IfOk result (λ text. string_bytes text ≡ never_used name.now (option_map (λ n. n.now) operation.entry)) }
 {
     match operation {
-        Some(operation) => {
-            format!(in alloc; "Variable \"${name}\" is never used in operation \"{operation}\".")
-        }
+        Some(operation) => with_names(
+            alloc,
+            "Variable \"$",
+            name,
+            "\" is never used in operation \"",
+            operation,
+            "\".",
+        ),
         None => format!(in alloc; "Variable \"${name}\" is never used."),
     }
 }
@@ -103,26 +147,28 @@ fn owner<'t>(node: &SyntaxNode<'t>) -> Option<SyntaxNode<'t>>
 
 // The name of another party.
 fn name_of_other<'t>(other: Option<SyntaxNode<'t>>) -> Option<&'t str>
-    ensures { option_map (λ n. n.now) result ≡ name_of_other (option_map node_place other) }
+    ensures { option_map (λ n. n.now) result ≡ name_of_other (option_map node_place other.entry) }
 {
     own_name(&other?)
 }
 
-// A field or an enum value, after the name of its type.
+// A field or an enum value, as `Type.field`.
 fn member<A: Allocator>(alloc: A, node: &SyntaxNode<'_>) -> Result<String<A>, AllocError>
     ensures { IfOk result (λ text. string_bytes text ≡ member (node_place node.now)) }
 {
     let holder = or_nothing(name_of_other(owner(node)));
-    let name = name_at(node);
-    format!(in alloc; "{holder}.{name}")
+    let mut text = String::from_str(alloc, holder)?;
+    text.push_str(".")?;
+    text.push_str(name_at(node))?;
+    Ok(text)
 }
 
-// What has an argument.
+// The directive or the field that has an argument, as `@directive` or `Type.field`.
 fn with_arguments<A: Allocator>(
     alloc: A,
     node: Option<SyntaxNode<'_>>,
 ) -> Result<String<A>, AllocError>
-    ensures { IfOk result (λ text. string_bytes text ≡ with_arguments (option_map node_place node)) }
+    ensures { IfOk result (λ text. string_bytes text ≡ with_arguments (option_map node_place node.entry)) }
 {
     let Some(node) = node else {
         return Ok(String::new(alloc));
@@ -134,20 +180,25 @@ fn with_arguments<A: Allocator>(
     member(alloc, &node)
 }
 
-// An argument, after what has it.
+// An argument, as `@directive(argument:)` or `Type.field(argument:)`.
 fn argument<A: Allocator + Copy>(alloc: A, node: &SyntaxNode<'_>) -> Result<String<A>, AllocError>
     ensures { IfOk result (λ text. string_bytes text ≡ argument (node_place node.now)) }
 {
-    let holder = with_arguments(alloc, owner(node))?;
-    let holder = holder.as_str();
-    let name = name_at(node);
-    format!(in alloc; "{holder}({name}:)")
+    let mut text = with_arguments(alloc, owner(node))?;
+    text.push_str("(")?;
+    text.push_str(name_at(node))?;
+    text.push_str(":)")?;
+    Ok(text)
 }
 
 fn only_once<A: Allocator>(alloc: A, noun: &str, thing: &str) -> Result<String<A>, AllocError>
     ensures { IfOk result (λ text. string_bytes text ≡ only_once noun.now thing.now) }
 {
-    format!(in alloc; "{noun} \"{thing}\" can only be defined once.")
+    let mut text = String::from_str(alloc, noun)?;
+    text.push_str(" \"")?;
+    text.push_str(thing)?;
+    text.push_str("\" can only be defined once.")?;
+    Ok(text)
 }
 
 // A part of a type that is defined twice.

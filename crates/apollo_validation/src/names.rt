@@ -30,7 +30,7 @@ fn is_about_fragment(kind: SyntaxKind) -> bool
     kind.is(SyntaxKind::FRAGMENT_DEFINITION) || kind.is(SyntaxKind::FRAGMENT_SPREAD)
 }
 
-// The name of what a node defines or mentions.
+// The name that a node defines or mentions.
 pub(crate) fn own_name<'t>(node: &SyntaxNode<'t>) -> Option<&'t str>
     ensures { option_map (λ n. n.now) result ≡ own_name (node_place node.now) }
 {
@@ -49,7 +49,7 @@ pub(crate) fn own_name<'t>(node: &SyntaxNode<'t>) -> Option<&'t str>
 
 // A name, or nothing where there is none.
 pub(crate) fn or_nothing<'t>(name: Option<&'t str>) -> &'t str
-    ensures { result.now ≡ or_nothing (option_map (λ n. n.now) name) }
+    ensures { result.now ≡ or_nothing (option_map (λ n. n.now) name.entry) }
 {
     match name {
         Some(name) => name,

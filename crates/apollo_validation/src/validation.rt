@@ -101,7 +101,7 @@ pub fn validate_type_system<'t>(
     Ok(list)
 }
 
-/// The same by the rules for what the document is judged as: see `document_kind`.
+/// The same by the rules for documents of its kind, which `document_kind` says.
 pub fn validate<'t>(
     alloc: Global,
     document: &SyntaxNode<'t>,

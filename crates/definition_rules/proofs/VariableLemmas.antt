@@ -13,7 +13,7 @@ use Rattle.definition_rules.specs.declared.violations.Violations.{Violations}
 use Rattle.definition_rules.specs.Violations.{Breach, Adds, count}
 use Rattle.definition_rules.specs.Graphs.{IsSpreadGraph}
 use Rattle.definition_rules.specs.Known.{AreReached, DefinedIn, EntersNames, IsUsedAmong, UndefinedIn}
-use Rattle.definition_rules.specs.Parts.{Parts, at, Reaches}
+use Rattle.definition_rules.specs.Parts.{Parts, at}
 use Rattle.definition_rules.specs.Rules.{AllAmong, Among, HasName, IsUndefinedVariable, IsUsed, VariablesAreDefined}
 use Rattle.definition_rules.proofs.OperationLemmas.{from_reaches, to_reaches}
 use Rattle.definition_rules.proofs.AddLemmas.{Below, AllBelow, adds_full, adds_same}
@@ -132,20 +132,22 @@ among_full numbers Breaks IsWell n old new le full adds =
 
 -- ---- one operation, and the definitions that it reaches
 pub are_reached :
-    (ds : List Parts) (graph : Graph) (operation : ℕ) (numbers : List ℕ) → IsSpreadGraph ds graph
-    → ((number : ℕ) → Contains numbers number ↔ Reached (HasEdge graph) (operation ∷ []) number) → AreReached ds operation numbers
-are_reached ds graph operation numbers spreads found number = (
-  (λ there. to_reaches ds graph (operation ∷ []) spreads number ((found number).0 there)),
-  (λ reached. (found number).1 (from_reaches ds graph (operation ∷ []) spreads number reached)),
-)
+    (ds : List Parts) (graph : Graph) (operation : ℕ) (numbers found : List ℕ) → numbers ≡ found → IsSpreadGraph ds graph
+    → ((number : ℕ) → Contains found number ↔ Reached (HasEdge graph) (operation ∷ []) number) → AreReached ds operation numbers
+are_reached ds graph operation numbers found same spreads is = record {
+  each = λ number. (
+    (λ there. to_reaches ds graph (operation ∷ []) spreads number ((is number).0 (rw same at there))),
+    (λ reached. rw same ((is number).1 (from_reaches ds graph (operation ∷ []) spreads number reached))),
+  );
+}
 
 pub used_to : (ds : List Parts) (operation : ℕ) (numbers : List ℕ) → AreReached ds operation numbers → (name : Name) → IsUsedAmong ds numbers name
     → IsUsed ds operation name
-used_to ds operation numbers are name (number, there, has) = record { number = number; reached = (are number).0 there; has = has }
+used_to ds operation numbers are name (number, there, has) = record { number = number; reached = (are.each number).0 there; has = has }
 
 pub used_from : (ds : List Parts) (operation : ℕ) (numbers : List ℕ) → AreReached ds operation numbers → (name : Name) → IsUsed ds operation name
     → IsUsedAmong ds numbers name
-used_from ds operation numbers are name so = (so.number, (are so.number).1 so.reached, so.has)
+used_from ds operation numbers are name so = (so.number, (are.each so.number).1 so.reached, so.has)
 
 pub undefined_of :
     (ds : List Parts) (operation : ℕ) (numbers : List ℕ) (old new : Violations) → AreReached ds operation numbers
@@ -154,7 +156,7 @@ pub undefined_of :
 undefined_of ds operation numbers old new are adds =
     adds_same (Among numbers (UndefinedIn ds operation)) (IsUndefinedVariable ds operation) (AllAmong numbers (DefinedIn ds operation))
     (VariablesAreDefined ds operation) old new
-    (λ b (number, there, unknown). record { number = number; reached = (are number).0 there; unknown = unknown })
-    (λ b so. (so.number, (are so.number).1 so.reached, so.unknown))
-    (λ all number reached. all number ((are number).1 reached))
+    (λ b (number, there, unknown). record { number = number; reached = (are.each number).0 there; unknown = unknown })
+    (λ b so. (so.number, (are.each so.number).1 so.reached, so.unknown))
+    (λ all number reached. all number ((are.each number).1 reached))
     adds

@@ -14,9 +14,9 @@ pub record EntersNames {V : Type 0} (old new : Entries V) (items : List Named) :
   pub entered : (name : Name) → HasName items name → HasEntry new name
   pub no_others : (name : Name) → HasEntry new name → HasEntry old name ⊎ HasName items name
 
--- the definitions that an operation reaches
-abbrev pub AreReached : List Parts → ℕ → List ℕ → Type 0
-AreReached ds operation numbers = (number : ℕ) → Contains numbers number ↔ Reaches ds (operation ∷ []) number
+-- These are the definitions that an operation reaches.
+pub record AreReached (ds : List Parts) (operation : ℕ) (numbers : List ℕ) : Type 0 where
+  pub each : (number : ℕ) → Contains numbers number ↔ Reaches ds (operation ∷ []) number
 
 -- one of some definitions uses the variable
 abbrev pub IsUsedAmong : List Parts → List ℕ → Name → Type 0

@@ -114,7 +114,6 @@ fn add_undefined<'t>(
 }
 
 // Adds what breaks the rules on the variables of an operation.
-#[tactic(auto, using(crate::proofs::VariableLemmas::are_reached))]
 fn add_operation<'t>(
     alloc: Global,
     violations: &mut Violations<'t>,

@@ -9,8 +9,8 @@ loop-node-init c = walk_begins (RepeatsIn c.args.kind) (UniqueIn c.args.kind) _ 
     (ap rest_descendant_nodes c.into_iter-node-iterator.ensures.into_iter_gives ∙ c.descendants-node-items.ensures)
 
 pub loop-node-preserved : goal.loop-node-preserved
-loop-node-preserved c = walk_goes_on (RepeatsIn c.args.kind) (UniqueIn c.args.kind) _ _ _ _ _ c.loop-node.violations _ c.in-Some.ensures.steps c.loop-node.invariant
-    c.in_ok-add_list.ensures
+loop-node-preserved c = walk_goes_on (RepeatsIn c.args.kind) (UniqueIn c.args.kind) _ _ _ _ _ c.loop-node.violations _ c.in-Some.ensures.steps
+    c.loop-node.invariant c.in_ok-add_list.ensures
 
 pub returns : goal.returns
 returns c = walk_ends (RepeatsIn c.args.kind) (UniqueIn c.args.kind) _ _ _ _ c.in-None.ensures.steps.0 c.loop-node.invariant

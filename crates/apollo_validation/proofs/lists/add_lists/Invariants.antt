@@ -5,4 +5,6 @@ use Rattle.apollo_validation.proofs.WalkLemmas.{Walked}
 use Rattle.apollo_validation.proofs.lists.add_lists.Given as goal
 
 abbrev pub invariant-loop-node : goal.invariant-loop-node
-invariant-loop-node l = Walked (RepeatsIn l.kind) (UniqueIn l.kind) (rest_descendant_nodes l.node-iterator) (nodes (node_place l.root)) l.initial.violations l.violations
+invariant-loop-node l =
+    Walked (RepeatsIn l.kind) (UniqueIn l.kind) (rest_descendant_nodes l.node-iterator) (nodes (node_place l.root))
+    l.initial.violations l.violations

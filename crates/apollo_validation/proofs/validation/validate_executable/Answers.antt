@@ -26,7 +26,8 @@ add_all-requires-clause-fragments c =
 
 pub returns-clause-exact : goal.returns-clause-exact
 returns-clause-exact c =
-    exact (Breaks (node_place c.args.document.now)) (IsValid (node_place c.args.document.now)) c.args.most c.new-violations.result c.add_all.new.violations c.new-violations.ensures.none
+    let d = node_place c.args.document.now in
+    exact (Breaks d) (IsValid d) c.args.most c.new-violations.result c.add_all.new.violations c.new-violations.ensures.none
     c.new-violations.ensures.most
     c.in_ok-add_all.ensures
 

@@ -6,7 +6,7 @@ use Rattle.name_lists.specs.Names.{first_number}
 use Rattle.name_lists.proofs.Numbers.{named_more}
 use Rattle.definition_rules.specs.Violations.{count}
 use Rattle.definition_rules.specs.Rules.{item_at, names}
-use Rattle.definition_rules.proofs.NameLemmas.{first_earlier, item_at_index, item_read, names_long}
+use Rattle.definition_rules.proofs.NameLemmas.{first_earlier, item_read, names_long}
 use Rattle.definition_rules.proofs.NameLemmas.{names_more, repeat_more, repeats_all, repeats_full, unique_more}
 use Rattle.definition_rules.proofs.naming.add_repeats.Goals as goal
 use Rattle.definition_rules.proofs.naming.add_repeats.Goals.{in-Some+in_ok-add_repeat, in_default}
@@ -43,7 +43,7 @@ loop-number-preserved c =
                 let less = first_earlier items n first below is in
                 let inside = c.loop-number-test.true in
                 let there : first < length c.args.items.now = omega arith in
-                let read_first = item_at_index c.args.items.now first w.index-items-first.result there in
+                let read_first = item_read c.args.items.now first w.index-items-first.result there w.index-items-first.is in
                 rw w.violations-is (repeat_more c.args.rule items n first _ _ _ below is inv.adds (rw (read, read_first) w.in_ok-add_repeat.ensures))
             | in_default w ↦
                 rw w.violations-is (unique_more c.args.rule items n _ _ below (rw read (earlier ∙ w.in_default.is)) inv.adds)

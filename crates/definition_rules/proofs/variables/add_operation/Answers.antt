@@ -5,11 +5,17 @@ use Rattle.definition_rules.proofs.AddLemmas.{adds_then}
 use Rattle.definition_rules.proofs.VariableLemmas.{are_reached, undefined_of}
 use Rattle.definition_rules.proofs.variables.add_operation.Goals as goal
 
+pub add_unused-requires-clause-reached : goal.add_unused-requires-clause-reached
+add_unused-requires-clause-reached c =
+    are_reached (map as_parts c.args.parts.now) c.args.graph.now c.args.operation c.deref-reached.result.now c.in_ok-found.found.items
+    c.deref-reached.ensures.value c.requires.graph c.in_ok-found.ensures.found
+
 pub returns-clause-adds : goal.returns-clause-adds
 returns-clause-adds c =
     let ds = map as_parts c.args.parts.now in
     let o = c.args.operation in
-    let are = are_reached ds c.args.graph.now o c.in_ok-found.found.items c.requires.graph c.in_ok-found.ensures.found in
+    let numbers = c.deref-reached.result.now in
+    let are = are_reached ds c.args.graph.now o numbers c.in_ok-found.found.items c.deref-reached.ensures.value c.requires.graph c.in_ok-found.ensures.found in
     adds_then (IsUnusedVariable ds o) (IsUndefinedVariable ds o) (VariablesAreUsed ds o) (VariablesAreDefined ds o) _ c.add_unused.new.violations _
     c.in_ok-add_unused.ensures
-    (undefined_of ds o _ _ _ are (rw c.deref.ensures.value at c.in_ok-add_undefined.ensures))
+    (undefined_of ds o numbers _ _ are c.in_ok-add_undefined.ensures)
