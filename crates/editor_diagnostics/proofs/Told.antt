@@ -14,8 +14,10 @@ use Rattle.json.specs.Value.{items_of}
 use Rattle.apollo_lexer.specs.Diagnostics.{Diagnostic}
 use Rattle.line_index.specs.declared.PositionEncoding.{PositionEncoding}
 use Rattle.editor_diagnostics.specs.Positions.{cursor_at, position_in, position_of}
-use Rattle.editor_diagnostics.specs.Publication.{diagnostic_of, diagnostics_of, more_diagnostics, publish_params}
-use Rattle.editor_diagnostics.specs.Tokens.{all_tokens, front_tokens}
+use Rattle.editor_diagnostics.specs.Publication.{diagnostic_of, diagnostics_of, more_diagnostics, publish_params, remark_diagnostic}
+use Rattle.editor_diagnostics.specs.Remarks.{Remarked, as_remarked}
+use Rattle.editor_diagnostics.specs.Tokens.{all_tokens, front_tokens, tokens_of_remarks}
+use Rattle.editor_diagnostics.specs.declared.remark.Remark.{Remark}
 
 -- three additions, one after the other
 told_thrice : {X Y : Type 0} (f : X → List Y) (old a b c one two three : List X) → one ≡ old ++ a → two ≡ one ++ b → three ≡ two ++ c
@@ -64,22 +66,34 @@ pub params_tokens : (uri : List ℕ) (version : Option ℤ) (values : List Json)
 params_tokens uri None values = ap (λ (x : List Token). front_tokens uri None ++ x) (items_then values (end_object ∷ []))
 params_tokens uri (Some version) values = ap (λ (x : List Token). front_tokens uri (Some version) ++ x) (items_then values (end_object ∷ []))
 
+-- the tokens of remarks are those of their diagnostics
+remarks_tokens : (encoding : PositionEncoding) (text : List ℕ) (remarks : List Remark)
+    → tokens_of_remarks encoding text remarks ≡ flat_map json_tokens (map (remark_diagnostic encoding text) (map as_remarked remarks))
+remarks_tokens encoding text remarks =
+    sym (flat_map-map (λ (r : Remarked). json_tokens (remark_diagnostic encoding text r)) as_remarked remarks)
+    ∙ sym (flat_map-map json_tokens (remark_diagnostic encoding text) (map as_remarked remarks))
+
 -- the front, the diagnostics and the end make the parameters
 pub whole_params : (uri : List ℕ) (version : Option ℤ) (encoding : PositionEncoding) (text : List ℕ) (errors told : List Diagnostic) (more : ℕ)
-    (p q r : List Token)
+    (remarks : List Remark) (p q r s : List Token)
     → told ≡ take 100 errors → more ≡ length errors - 100 → p ≡ front_tokens uri version → q ≡ p ++ all_tokens encoding text told
-    → r ≡ q ++ flat_map json_tokens (more_diagnostics encoding text more)
-    → r ++ end_array ∷ end_object ∷ [] ≡ json_tokens (object (publish_params uri version (diagnostics_of encoding text errors)))
-whole_params uri version encoding text errors told more p q r t m i j k =
+    → r ≡ q ++ flat_map json_tokens (more_diagnostics encoding text more) → s ≡ r ++ tokens_of_remarks encoding text remarks
+    → s ++ end_array ∷ end_object ∷ [] ≡ json_tokens (object (publish_params uri version (diagnostics_of encoding text errors (map as_remarked remarks))))
+whole_params uri version encoding text errors told more remarks p q r s t m i j k l =
     let firsts : List Json = map (diagnostic_of encoding text) (take 100 errors) in
     let others : List Json = more_diagnostics encoding text (length errors - 100) in
+    let last : List Json = map (remark_diagnostic encoding text) (map as_remarked remarks) in
     let f : List Token = front_tokens uri version in
     let a : List Token = flat_map json_tokens firsts in
     let b : List Token = flat_map json_tokens others in
+    let c : List Token = flat_map json_tokens last in
     let e : List Token = end_array ∷ end_object ∷ [] in
-    let q_is : q ≡ f ++ a = j ∙ ap (λ (x : List Token). x ++ all_tokens encoding text told) i
-    ∙ ap (λ (x : List Token). f ++ x) (ap (all_tokens encoding text) t ∙ sym (flat_map-map json_tokens (diagnostic_of encoding text) (take 100 errors))) in
-    let r_is : r ≡ (f ++ a) ++ b = k ∙ ap (λ (x : List Token). x ++ flat_map json_tokens (more_diagnostics encoding text more)) q_is
-    ∙ ap (λ (n : ℕ). (f ++ a) ++ flat_map json_tokens (more_diagnostics encoding text n)) m in
-    ap (λ (x : List Token). x ++ e) (r_is ∙ append_assoc f a b ∙ ap (λ (x : List Token). f ++ x) (sym (flat_map-append json_tokens firsts others)))
-    ∙ append_assoc f (flat_map json_tokens (firsts ++ others)) e ∙ sym (params_tokens uri version (firsts ++ others))
+    let firsts_are : all_tokens encoding text told ≡ a =
+    ap (all_tokens encoding text) t ∙ sym (flat_map-map json_tokens (diagnostic_of encoding text) (take 100 errors)) in
+    let others_are : flat_map json_tokens (more_diagnostics encoding text more) ≡ b =
+    ap (λ (n : ℕ). flat_map json_tokens (more_diagnostics encoding text n)) m in
+    let s_is : s ≡ ((f ++ a) ++ b) ++ c = rw (l, k, j, i, firsts_are, others_are, remarks_tokens encoding text remarks) in
+    let all : flat_map json_tokens (firsts ++ (others ++ last)) ≡ a ++ (b ++ c) = rw (flat_map-append, flat_map-append) in
+    let grouped : ((f ++ a) ++ b) ++ c ≡ f ++ (a ++ (b ++ c)) = rw (append_assoc, append_assoc) in
+    ap (λ (x : List Token). x ++ e) (s_is ∙ grouped ∙ ap (λ (x : List Token). f ++ x) (sym all))
+    ∙ append_assoc f (flat_map json_tokens (firsts ++ (others ++ last))) e ∙ sym (params_tokens uri version (firsts ++ (others ++ last)))

@@ -1,3 +1,4 @@
 pub mod Positions
 pub mod Publication
+pub mod Remarks
 pub mod Tokens

@@ -1,4 +1,4 @@
--- The notice of a document's errors to a client.
+-- The notice of a document's errors, and of what else is said of it, to a client.
 use Rattle.std.specs.Prelude.{ℕ, zero, suc, ℤ, ◌==◌, if◌then◌else◌, ◌+◌, ◌-◌, List, [], ◌∷◌, ◌++◌, length, map, take, Option, Some, None, codes, decimal}
 use Rattle.std.specs.Fmt.{signed_decimal}
 use Rattle.json.specs.Json.{Json, Members, array, member, no_members, number, object, string}
@@ -8,22 +8,26 @@ use Rattle.line_index.specs.declared.Position.{Position}
 use Rattle.line_index.specs.declared.PositionEncoding.{PositionEncoding}
 use Rattle.rpc_messages.specs.Messages.{IsNoticeOf}
 use Rattle.editor_diagnostics.specs.Positions.{IsReadAt, position_of, range_value}
+use Rattle.editor_diagnostics.specs.Remarks.{Remarked, severity_number}
+use Rattle.editor_diagnostics.specs.declared.remark.Severity.{Severity}
+use Rattle.editor_diagnostics.specs.declared.remark.Severity.TheVariants.{Error}
 
 -- ---- diagnostics
 
--- what follows the range of a diagnostic: it is an error
-abbrev pub words_of : List ℕ → Members
-words_of message =
-    member (codes "severity") (number (decimal 1)) (member (codes "source") (string (codes "gqlls")) (member (codes "message") (string message) no_members))
+-- what follows the range of a diagnostic
+abbrev pub words_of : Severity → List ℕ → Members
+words_of severity message =
+    member (codes "severity") (number (decimal (severity_number severity)))
+    (member (codes "source") (string (codes "gqlls")) (member (codes "message") (string message) no_members))
 
 -- a `Diagnostic` (Language Server Protocol 3.17)
-abbrev pub diagnostic : Position → Position → List ℕ → Json
-diagnostic start end message = object (member (codes "range") (range_value start end) (words_of message))
+abbrev pub diagnostic : Position → Position → Severity → List ℕ → Json
+diagnostic start end severity message = object (member (codes "range") (range_value start end) (words_of severity message))
 
 -- the diagnostic of an error is from where the error begins to where the text ends that it is about
 abbrev pub diagnostic_of : PositionEncoding → List ℕ → Diagnostic → Json
 diagnostic_of encoding text error =
-    diagnostic (position_of encoding text error.index) (position_of encoding text (error.index + length (subject_text error.subject))) error.message
+    diagnostic (position_of encoding text error.index) (position_of encoding text (error.index + length (subject_text error.subject))) Error error.message
 
 abbrev pub noun_of : ℕ → List ℕ
 noun_of n = if n == 1 then codes "error" else codes "errors"
@@ -34,11 +38,17 @@ more_words n = decimal n ++ (codes " more " ++ noun_of n)
 -- the number of further errors, at the front of the text
 abbrev pub more_diagnostics : PositionEncoding → List ℕ → ℕ → List Json
 more_diagnostics encoding text zero = []
-more_diagnostics encoding text (suc n) = diagnostic (position_of encoding text 0) (position_of encoding text 0) (more_words (suc n)) ∷ []
+more_diagnostics encoding text (suc n) = diagnostic (position_of encoding text 0) (position_of encoding text 0) Error (more_words (suc n)) ∷ []
 
--- the diagnostics of the first hundred errors, and then one that says how many more there are
-abbrev pub diagnostics_of : PositionEncoding → List ℕ → List Diagnostic → List Json
-diagnostics_of encoding text errors = map (diagnostic_of encoding text) (take 100 errors) ++ more_diagnostics encoding text (length errors - 100)
+-- the diagnostic of a remark, from where it begins to where it ends
+abbrev pub remark_diagnostic : PositionEncoding → List ℕ → Remarked → Json
+remark_diagnostic encoding text r = diagnostic (position_of encoding text r.start) (position_of encoding text r.end) r.severity r.message
+
+-- the diagnostics of the first hundred errors, then one that says how many more there are, and then those of all remarks
+abbrev pub diagnostics_of : PositionEncoding → List ℕ → List Diagnostic → List Remarked → List Json
+diagnostics_of encoding text errors remarks =
+    map (diagnostic_of encoding text) (take 100 errors)
+    ++ (more_diagnostics encoding text (length errors - 100) ++ map (remark_diagnostic encoding text) remarks)
 
 -- ---- notices
 
@@ -56,8 +66,9 @@ publish_params uri None diagnostics = member (codes "uri") (string uri) (member 
 abbrev pub IsNoticeAbout : List ℕ → Option ℤ → List Json → List ℕ → Type 0
 IsNoticeAbout uri version diagnostics body = IsNoticeOf method (publish_params uri version diagnostics) body
 
--- the body tells the errors of this text, at the positions where a client reads them
+-- the body has the errors of this text and these remarks, at the positions where a client reads them
 pub record IsPublication
-    (uri : List ℕ) (version : Option ℤ) (encoding : PositionEncoding) (text : List ℕ) (errors : List Diagnostic) (body : List ℕ) : Type 0 where
-  pub notice : IsNoticeAbout uri version (diagnostics_of encoding text errors) body
+    (uri : List ℕ) (version : Option ℤ) (encoding : PositionEncoding) (text : List ℕ) (errors : List Diagnostic) (remarks : List Remarked)
+    (body : List ℕ) : Type 0 where
+  pub notice : IsNoticeAbout uri version (diagnostics_of encoding text errors remarks) body
   pub read : (offset : ℕ) → IsReadAt encoding text offset (position_of encoding text offset)

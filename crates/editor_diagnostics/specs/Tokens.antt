@@ -6,7 +6,9 @@ use Rattle.json.specs.Token.{Token, begin_object, begin_array, key, string, numb
 use Rattle.json.specs.Tree.{json_tokens}
 use Rattle.apollo_lexer.specs.Diagnostics.{Diagnostic}
 use Rattle.line_index.specs.declared.PositionEncoding.{PositionEncoding}
-use Rattle.editor_diagnostics.specs.Publication.{diagnostic_of}
+use Rattle.editor_diagnostics.specs.Publication.{diagnostic_of, remark_diagnostic}
+use Rattle.editor_diagnostics.specs.Remarks.{as_remarked}
+use Rattle.editor_diagnostics.specs.declared.remark.Remark.{Remark}
 
 -- the parameters, up to the diagnostics
 abbrev pub front_tokens : List ℕ → Option ℤ → List Token
@@ -19,3 +21,9 @@ error_tokens encoding text error = json_tokens (diagnostic_of encoding text erro
 
 abbrev pub all_tokens : PositionEncoding → List ℕ → List Diagnostic → List Token
 all_tokens encoding text = flat_map (error_tokens encoding text)
+
+abbrev pub remark_tokens : PositionEncoding → List ℕ → Remark → List Token
+remark_tokens encoding text remark = json_tokens (remark_diagnostic encoding text (as_remarked remark))
+
+abbrev pub tokens_of_remarks : PositionEncoding → List ℕ → List Remark → List Token
+tokens_of_remarks encoding text = flat_map (remark_tokens encoding text)

@@ -1,6 +1,7 @@
 //! The notices by which a language server tells a client the errors of a document.
 //!
-//! `publication` tells of each error where it is, as the client counts lines and columns, and what is wrong; `withdrawal` takes all of them back.
+//! `publication` says of each error and each further remark where it is, as the client counts lines and columns, and what is wrong; `withdrawal` takes all
+//! of them back.
 //!
 //! `gqlls_run`, the crate above, calls `publication` after each change.
 #![tactic(auto)]
@@ -8,7 +9,9 @@
 mod diagnostic;
 mod positions;
 mod publishing;
+mod remark;
 
 pub use diagnostic::TOLD;
 pub use positions::Positions;
 pub use publishing::{publication, withdrawal};
+pub use remark::{Remark, Severity};

@@ -1,5 +1,5 @@
-// The notice of a document's errors to a client.
-ghost use Rattle.std.specs.Prelude.{◌≡◌, ◌++◌, ◌∷◌, [], IfOk, OnOk, None, flat_map, string_bytes, take};
+// The notice of a document's errors, and of what else is said of it, to a client.
+ghost use Rattle.std.specs.Prelude.{◌≡◌, ◌++◌, ◌∷◌, [], IfOk, OnOk, None, flat_map, map, string_bytes, take};
 ghost use Rattle.json.specs.Json.{Members, object};
 ghost use Rattle.json.specs.Token.{end_array, end_object};
 ghost use Rattle.json.specs.Tree.{json_tokens};
@@ -7,10 +7,12 @@ ghost use Rattle.rpc_messages.specs.Answers.{AreOfObject};
 ghost use Rattle.rpc_messages.specs.Messages.{IsNotice, IsNoticeOf};
 ghost use Rattle.rpc_messages.specs.Pieces.{tokens_of};
 ghost use Rattle.editor_diagnostics.specs.Publication.{IsNoticeAbout, IsPublication, method, more_diagnostics, more_words, noun_of};
-ghost use Rattle.editor_diagnostics.specs.Tokens.{all_tokens, front_tokens};
+ghost use Rattle.editor_diagnostics.specs.Remarks.{as_remarked};
+ghost use Rattle.editor_diagnostics.specs.Tokens.{all_tokens, front_tokens, tokens_of_remarks};
 
-use crate::diagnostic::{TOLD, push_diagnostic, push_error};
+use crate::diagnostic::{TOLD, push_diagnostic, push_error, push_remark};
 use crate::positions::Positions;
+use crate::remark::{Remark, Severity};
 use apollo_lexer::Error;
 use rpc_messages::{Piece, notice};
 use std::alloc::{AllocError, Global};
@@ -96,7 +98,22 @@ fn push_more<'p>(
     if more == 0 {
         return Ok(());
     }
-    push_diagnostic(pieces, positions, 0, 0, words)
+    push_diagnostic(pieces, positions, 0, 0, Severity::Error, words)
+}
+
+// Adds the diagnostics of remarks.
+fn push_remarks<'p>(
+    pieces: &mut Vec<Piece<'p>>,
+    positions: &Positions<'_>,
+    remarks: &'p [Remark],
+) -> Result<(), AllocError>
+    ensures { OnOk result (flat_map tokens_of pieces.new.items ≡ flat_map tokens_of pieces.old.items
+        ++ tokens_of_remarks positions.now.encoding positions.now.text.now remarks.now) }
+{
+    for remark in remarks {
+        push_remark(pieces, positions, remark)?;
+    }
+    Ok(())
 }
 
 // Ends the parameters, and gives the notice.
@@ -110,17 +127,19 @@ fn end(alloc: Global, pieces: &mut Vec<Piece<'_>>) -> Result<Vec<u8>, AllocError
     notice(alloc, METHOD, pieces.as_slice())
 }
 
-/// The notice of the errors of a document with this name, version and text: the first hundred, and then one at the front of the text that says how
-/// many more there are. It fails only where memory is refused.
+/// The notice of the errors of a document with this name, version and text, and of what else is said of it: the first hundred errors, then one at the
+/// front of the text that says how many more there are, and then all remarks. It fails only where memory is refused.
 pub fn publication(
     alloc: Global,
     uri: &str,
     version: Option<i64>,
     positions: &Positions<'_>,
     errors: &[Error],
+    remarks: &[Remark],
 ) -> Result<Vec<u8>, AllocError>
     ensures notifies { IfOk result (λ body. IsNotice body.items) }
-    ensures published { IfOk result (λ body. IsPublication uri.now version positions.now.encoding positions.now.text.now errors.now body.items) }
+    ensures published { IfOk result (λ body. IsPublication uri.now version positions.now.encoding positions.now.text.now errors.now
+        (map as_remarked remarks.now) body.items) }
 {
     let told = first_errors(errors);
     let more = errors.len().saturating_sub(TOLD);
@@ -129,6 +148,7 @@ pub fn publication(
     push_front(&mut pieces, uri, version)?;
     push_errors(&mut pieces, positions, told)?;
     push_more(&mut pieces, positions, more, words.as_str())?;
+    push_remarks(&mut pieces, positions, remarks)?;
     let body = end(alloc, &mut pieces)?;
     Ok(body)
 }

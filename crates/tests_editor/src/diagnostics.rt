@@ -2,7 +2,7 @@
 use crate::messages::put_body;
 use crate::printing::put;
 use apollo_lexer::{Error, static_error};
-use editor_diagnostics::{Positions, publication, withdrawal};
+use editor_diagnostics::{Positions, Remark, Severity, publication, withdrawal};
 use line_index::{Position, PositionEncoding};
 use std::alloc::{AllocError, Global};
 use std::slice;
@@ -18,7 +18,26 @@ fn notice_of(
     errors: &[Error],
 ) -> Result<Vec<u8>, AllocError> {
     let positions = Positions::new(alloc, TEXT, encoding)?;
-    publication(alloc, "a", version, &positions, errors)
+    publication(alloc, "a", version, &positions, errors, &[])
+}
+
+// The notice of one warning, which is about the last character.
+fn one_warning(alloc: Global) -> Result<Vec<u8>, AllocError> {
+    let positions = Positions::new(alloc, TEXT, PositionEncoding::Utf16)?;
+    let remark = Remark {
+        start: 6,
+        end: 7,
+        severity: Severity::Warning,
+        message: String::from_str(alloc, "unused")?,
+    };
+    publication(
+        alloc,
+        "a",
+        None,
+        &positions,
+        &[],
+        slice::from_ref(&remark),
+    )
 }
 
 // The notice of one error.
@@ -68,6 +87,7 @@ fn put_offset(alloc: Global, found: &mut String) -> Result<(), AllocError> {
 
 pub fn put_answers(alloc: Global, found: &mut String) -> Result<(), AllocError> {
     put_body(alloc, found, one_error(alloc)?)?;
+    put_body(alloc, found, one_warning(alloc)?)?;
     put_body(alloc, found, withdrawal(alloc, "a")?)?;
     put_more(alloc, found, (103, 75))?;
     put_more(alloc, found, (101, 74))?;

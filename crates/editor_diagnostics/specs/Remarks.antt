@@ -1,0 +1,20 @@
+-- What is said of a document besides its syntax errors.
+use Rattle.std.specs.Prelude.{ℕ, List, string_bytes}
+use Rattle.editor_diagnostics.specs.declared.remark.Remark.{Remark}
+use Rattle.editor_diagnostics.specs.declared.remark.Severity.{Severity}
+use Rattle.editor_diagnostics.specs.declared.remark.Severity.TheVariants.{Error, Warning}
+
+-- `DiagnosticSeverity` (Language Server Protocol 3.17)
+abbrev pub severity_number : Severity → ℕ
+severity_number Error = 1
+severity_number Warning = 2
+
+-- the bytes from one offset up to another, how serious it is, and the message
+pub record Remarked : Type 0 where
+  pub start : ℕ
+  pub end : ℕ
+  pub severity : Severity
+  pub message : List ℕ
+
+abbrev pub as_remarked : Remark → Remarked
+as_remarked r = record { start = r.start; end = r.end; severity = r.severity; message = string_bytes r.message }

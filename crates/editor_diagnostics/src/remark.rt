@@ -1,0 +1,33 @@
+// What is said of a document besides its syntax errors.
+ghost use Rattle.std.specs.Prelude.{◌≡◌};
+ghost use Rattle.editor_diagnostics.specs.Remarks.{severity_number};
+
+/// How serious a diagnostic is: a `DiagnosticSeverity` (Language Server Protocol 3.17).
+#[derive(Clone, Copy)]
+pub enum Severity {
+    Error,
+    Warning,
+}
+
+impl Severity {
+    /// The protocol's number of it.
+    pub(crate) fn number(self) -> usize
+        ensures { result ≡ severity_number self }
+    {
+        match self {
+            Severity::Error => 1,
+            Severity::Warning => 2,
+        }
+    }
+}
+
+/// A diagnostic of a document besides its syntax errors.
+#[derive(Drop)]
+pub struct Remark {
+    /// The byte offset at which the part of the text begins that it is about.
+    pub start: usize,
+    /// The byte offset at which that part ends.
+    pub end: usize,
+    pub severity: Severity,
+    pub message: String,
+}
