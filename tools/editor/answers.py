@@ -1,4 +1,5 @@
 """What the Language Server Protocol wants of any answer about a document, whatever its text is. Each function asks about a `View` and says whether the answer is right."""
+from client import errors_of
 
 OPTIONS = {"tabSize": 2, "insertSpaces": True}
 
@@ -100,11 +101,11 @@ def completions(view):
 
 def layout(view):
     """A text gets a layout exactly where it has no errors; then it still has none, and keeps its layout."""
-    has_errors = view.client.open("file:///anew", view.text.text)["diagnostics"] != []
+    has_errors = errors_of(view.client.open("file:///anew", view.text.text)) != []
     edits = view.ask("formatting", options=OPTIONS)
     if has_errors or edits is None:
         return has_errors and edits is None
-    errors = view.client.open("file:///anew", view.text.changed(edits))["diagnostics"]
+    errors = errors_of(view.client.open("file:///anew", view.text.changed(edits)))
     return errors == [] and view.client.ask_about("file:///anew", "formatting", options=OPTIONS) == []
 
 

@@ -6,6 +6,11 @@ import re
 import subprocess
 
 
+def errors_of(notice):
+    """The syntax errors in a notice of diagnostics: a violation of a rule of validation has the rule's name as its code."""
+    return [it for it in notice["diagnostics"] if "code" not in it]
+
+
 class Client:
     """A server that runs, and what is sent to it and read from it."""
 

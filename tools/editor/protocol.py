@@ -169,6 +169,25 @@ def changes():
     expect("the end", client.end(), 0)
 
 
+def violations():
+    """Rules of validation, in the words of graphql-js: a warning where something isn't used or may be in another file, and else an error."""
+    def found(text):
+        return [(it["range"], it["severity"], it["code"], it["message"]) for it in client.open(URI, text)["diagnostics"]]
+
+    client = started()
+    expect("a valid document", found("query Q($a: Int) { b(c: $a) ...F }\nfragment F on A { d }"), [])
+    expect("unused things", found("query Q($a: Int, $b: Int) { c(d: $b) }\nfragment F on A { e }"),
+           [(span(1, 9, 10), 2, "NoUnusedFragments", 'Fragment "F" is never used.'),
+            (span(0, 8, 10), 2, "NoUnusedVariables", 'Variable "$a" is never used in operation "Q".')])
+    expect("an unknown fragment", found("{ ...F }"), [(span(0, 5, 6), 2, "KnownFragmentNames", 'Unknown fragment "F".')])
+    expect("a repeated argument", found("{ a(b: 1, b: 2) }"), [(span(0, 10, 11), 1, "UniqueArgumentNames", 'There can be only one argument named "b".')])
+    expect("a repeated field", found("type A { b: C b: D }"), [(span(0, 14, 15), 1, "UniqueFieldDefinitionNames", 'Field "A.b" can only be defined once.')])
+    expect("a type beside an operation", found("{ a }\ntype B { c: D }"),
+           [(span(1, 5, 6), 2, "ExecutableDefinitions", 'The "B" definition is not executable.')])
+    expect("as many as a hundred", len(found("{ " + "...F " * 200 + "}")), 100)
+    client.end()
+
+
 def diagnostics():
     client = started()
     one = client.open(URI, "{ hero(id) { name }")
@@ -317,7 +336,7 @@ def refused_words():
         expect(f"the words {words}", (ended.returncode, ended.stdout, ended.stderr), (2, b"", usage))
 
 
-TESTS = [states, statuses_without_shutdown, faulty_messages, pieces_of_input, capabilities, changes, diagnostics, lambda: names("utf-16", 0), lambda: names("utf-8", 2),
+TESTS = [states, statuses_without_shutdown, faulty_messages, pieces_of_input, capabilities, changes, diagnostics, violations, lambda: names("utf-16", 0), lambda: names("utf-8", 2),
          lambda: parts("utf-16", 0), lambda: parts("utf-8", 2), names_of_symbols, more_folds, completion, layout, limits, refused_words]
 for test in TESTS:
     test()

@@ -10,7 +10,7 @@ import sys
 from pathlib import Path
 
 import answers
-from client import Client, Text
+from client import Client, Text, errors_of
 
 GQLCST = Path(__file__).resolve().parent.parent.parent / "crates/gqlcst/out/gqlcst"
 PIECES = ["😀", "é", "a", " ", "\n", "{", "}", '"', '"""', "# x", "1 ", "type T { a: B }\n", "\r", "漢", "\r\n", "query ($a: [Int!] = [1]) { b }", "@d", "...", "fragment on A { b }"]
@@ -51,11 +51,11 @@ class Run:
                 text = Text(text.text[:start] + new + text.text[end:], self.encoding)
         return changes, text
 
-    def fault(self, uri, text, errors):
+    def fault(self, uri, text, notice):
         """The fault in the server's messages about a document, or nothing."""
-        if errors != self.client.open("file:///anew", text.text)["diagnostics"]:
-            return "other errors than the text opened anew"
-        if GQLCST.exists() and not at_their_offsets(text, errors):
+        if notice["diagnostics"] != self.client.open("file:///anew", text.text)["diagnostics"]:
+            return "other diagnostics than the text opened anew"
+        if GQLCST.exists() and not at_their_offsets(text, errors_of(notice)):
             return "other offsets of errors than gqlcst's"
         offset = text.boundary(self.random.randint(0, len(text.text)))
         feature = self.random.choice(answers.ALL)
@@ -72,7 +72,7 @@ class Run:
         for version in range(1, edits + 1):
             changes, text = self.edit(text)
             said = self.client.change(uri, version, changes)
-            fault = "the version" if said["version"] != version else self.fault(uri, text, said["diagnostics"])
+            fault = "the version" if said["version"] != version else self.fault(uri, text, said)
             self.edits += 1
             if fault:
                 self.wrong += 1

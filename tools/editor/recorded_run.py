@@ -66,6 +66,10 @@ def diagnostic(start, end, message):
     return {"range": span(0, start, end), "severity": 1, "source": "gqlls", "message": message}
 
 
+def warning(range, rule, message):
+    return {"range": range, "code": rule, "severity": 2, "source": "gqlls", "message": message}
+
+
 def symbol(name, kind, detail, range, chosen, *children):
     found = {"name": name, "kind": kind, **({} if detail is None else {"detail": detail})}
     return {**found, "range": range, "selectionRange": chosen, "children": list(children)}
@@ -112,7 +116,8 @@ CONVERSATION = [
      result(12, [word(name, 7, span(1, 10, 11)) for name in ["A", "Boolean", "Float", "ID", "Int", "String"]])),
     (request(13, "textDocument/semanticTokens/range", textDocument=DOCUMENT, range=span(1, 0, 13)),
      result(13, {"data": [1, 2, 4, 2, 0, 0, 5, 1, 7, 0, 0, 1, 1, 4, 0, 0, 2, 1, 6, 0]})),
-    (notification("textDocument/didChange", textDocument={"uri": URI, "version": 3}, contentChanges=[{"text": FOLDED}]), published(3)),
+    (notification("textDocument/didChange", textDocument={"uri": URI, "version": 3}, contentChanges=[{"text": FOLDED}]),
+     published(3, warning(span(7, 7, 8), "ExecutableDefinitions", 'The "S" definition is not executable.'))),
     (request(14, "textDocument/foldingRange", textDocument=DOCUMENT),
      result(14, [{"startLine": 0, "endLine": 2}, {"startLine": 0, "endLine": 1}, {"startLine": 4, "endLine": 6, "kind": "comment"}])),
     (request(15, "textDocument/definition", textDocument=DOCUMENT, position=at(0, 2)), result(15, None)),

@@ -14,20 +14,23 @@ use Rattle.editor_diagnostics.specs.declared.remark.Severity.TheVariants.{Error}
 
 -- ---- diagnostics
 
--- what follows the range of a diagnostic
+-- what follows the range of an error, or the code of a remark
 abbrev pub words_of : Severity → List ℕ → Members
 words_of severity message =
     member (codes "severity") (number (decimal (severity_number severity)))
     (member (codes "source") (string (codes "gqlls")) (member (codes "message") (string message) no_members))
 
 -- a `Diagnostic` (Language Server Protocol 3.17)
-abbrev pub diagnostic : Position → Position → Severity → List ℕ → Json
-diagnostic start end severity message = object (member (codes "range") (range_value start end) (words_of severity message))
+abbrev pub ranged : Position → Position → Members → Json
+ranged start end words = object (member (codes "range") (range_value start end) words)
+
+abbrev pub diagnostic : Position → Position → List ℕ → Json
+diagnostic start end message = ranged start end (words_of Error message)
 
 -- the diagnostic of an error is from where the error begins to where the text ends that it is about
 abbrev pub diagnostic_of : PositionEncoding → List ℕ → Diagnostic → Json
 diagnostic_of encoding text error =
-    diagnostic (position_of encoding text error.index) (position_of encoding text (error.index + length (subject_text error.subject))) Error error.message
+    diagnostic (position_of encoding text error.index) (position_of encoding text (error.index + length (subject_text error.subject))) error.message
 
 abbrev pub noun_of : ℕ → List ℕ
 noun_of n = if n == 1 then codes "error" else codes "errors"
@@ -38,11 +41,14 @@ more_words n = decimal n ++ (codes " more " ++ noun_of n)
 -- the number of further errors, at the front of the text
 abbrev pub more_diagnostics : PositionEncoding → List ℕ → ℕ → List Json
 more_diagnostics encoding text zero = []
-more_diagnostics encoding text (suc n) = diagnostic (position_of encoding text 0) (position_of encoding text 0) Error (more_words (suc n)) ∷ []
+more_diagnostics encoding text (suc n) = diagnostic (position_of encoding text 0) (position_of encoding text 0) (more_words (suc n)) ∷ []
 
--- the diagnostic of a remark, from where it begins to where it ends
+-- the diagnostic of a remark is from where it begins to where it ends
+abbrev pub words_of_remark : Remarked → Members
+words_of_remark r = member (codes "code") (string r.code) (words_of r.severity r.message)
+
 abbrev pub remark_diagnostic : PositionEncoding → List ℕ → Remarked → Json
-remark_diagnostic encoding text r = diagnostic (position_of encoding text r.start) (position_of encoding text r.end) r.severity r.message
+remark_diagnostic encoding text r = ranged (position_of encoding text r.start) (position_of encoding text r.end) (words_of_remark r)
 
 -- the diagnostics of the first hundred errors, then one that says how many more there are, and then those of all remarks
 abbrev pub diagnostics_of : PositionEncoding → List ℕ → List Diagnostic → List Remarked → List Json

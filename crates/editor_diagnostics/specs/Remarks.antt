@@ -9,12 +9,13 @@ abbrev pub severity_number : Severity → ℕ
 severity_number Error = 1
 severity_number Warning = 2
 
--- the bytes from one offset up to another, how serious it is, and the message
+-- the bytes from one offset up to another, the rule that it is about, how serious it is, and the message
 pub record Remarked : Type 0 where
   pub start : ℕ
   pub end : ℕ
+  pub code : List ℕ
   pub severity : Severity
   pub message : List ℕ
 
 abbrev pub as_remarked : Remark → Remarked
-as_remarked r = record { start = r.start; end = r.end; severity = r.severity; message = string_bytes r.message }
+as_remarked r = record { start = r.start; end = r.end; code = r.code.now; severity = r.severity; message = string_bytes r.message }

@@ -12,7 +12,7 @@ ghost use Rattle.editor_diagnostics.specs.Tokens.{all_tokens, front_tokens, toke
 
 use crate::diagnostic::{TOLD, push_diagnostic, push_error, push_remark};
 use crate::positions::Positions;
-use crate::remark::{Remark, Severity};
+use crate::remark::Remark;
 use apollo_lexer::Error;
 use rpc_messages::{Piece, notice};
 use std::alloc::{AllocError, Global};
@@ -98,7 +98,7 @@ fn push_more<'p>(
     if more == 0 {
         return Ok(());
     }
-    push_diagnostic(pieces, positions, 0, 0, Severity::Error, words)
+    push_diagnostic(pieces, positions, 0, 0, words)
 }
 
 // Adds the diagnostics of remarks.
@@ -148,7 +148,8 @@ pub fn publication(
     push_front(&mut pieces, uri, version)?;
     push_errors(&mut pieces, positions, told)?;
     push_more(&mut pieces, positions, more, words.as_str())?;
-    push_remarks(&mut pieces, positions, remarks)?;
+    // a slice of its own, since no more than two lifetimes of the signature may meet in the pieces
+    push_remarks(&mut pieces, positions, &remarks[..])?;
     let body = end(alloc, &mut pieces)?;
     Ok(body)
 }

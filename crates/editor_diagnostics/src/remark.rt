@@ -28,6 +28,8 @@ pub struct Remark {
     pub start: usize,
     /// The byte offset at which that part ends.
     pub end: usize,
+    /// The rule that it is about (`Diagnostic.code`).
+    pub code: &'static str,
     pub severity: Severity,
     pub message: String,
 }

@@ -27,6 +27,7 @@ fn one_warning(alloc: Global) -> Result<Vec<u8>, AllocError> {
     let remark = Remark {
         start: 6,
         end: 7,
+        code: "NoUnusedVariables",
         severity: Severity::Warning,
         message: String::from_str(alloc, "unused")?,
     };

@@ -1,0 +1,46 @@
+-- What is said of a document: the rules of validation that it breaks.
+use Rattle.std.specs.Prelude.{◌≡◌, Bool, ◌||◌, if◌then◌else◌, List, map, find, unwrap_or}
+use Rattle.document_grammar.specs.declared.kind.SyntaxKind.TheVariants.{ENUM_VALUE, FRAGMENT_NAME, NAME, VARIABLE}
+use Rattle.document_grammar.specs.Numbers.{is_kind}
+use Rattle.apollo_tree.specs.Order.{Place, kind_at, range_at}
+use Rattle.apollo_tree.specs.Children.{child_nodes}
+use Rattle.definition_rules.specs.declared.violations.Rule.{Rule}
+use Rattle.definition_rules.specs.declared.violations.Rule.TheVariants.{ExecutableDefinitions, KnownFragmentNames, NoUnusedFragments, NoUnusedVariables}
+use Rattle.definition_rules.specs.RuleNames.{rule_name}
+use Rattle.definition_rules.specs.Violations.{Breach}
+use Rattle.apollo_validation.specs.Lists.{kind_of}
+use Rattle.apollo_validation.specs.Messages.{message_of}
+use Rattle.apollo_validation.specs.Validity.{AreBreaches, BreaksAs}
+use Rattle.editor_diagnostics.specs.Remarks.{Remarked}
+use Rattle.editor_diagnostics.specs.declared.remark.Severity.{Severity}
+use Rattle.editor_diagnostics.specs.declared.remark.Severity.TheVariants.{Error, Warning}
+
+-- a warning for what is never used and for what another file may define, and else an error
+abbrev pub severity_of : Rule → Severity
+severity_of ExecutableDefinitions = Warning
+severity_of KnownFragmentNames = Warning
+severity_of NoUnusedFragments = Warning
+severity_of NoUnusedVariables = Warning
+severity_of _ = Error
+
+abbrev pub names : Place → Bool
+names p = is_kind NAME (kind_at p) || is_kind FRAGMENT_NAME (kind_at p) || is_kind VARIABLE (kind_at p) || is_kind ENUM_VALUE (kind_at p)
+
+-- the element that is marked for one: its name, if it has one, and else all of it
+abbrev pub marked : Place → Place
+marked p = if is_kind VARIABLE (kind_at p) then p else unwrap_or (find names (child_nodes p)) p
+
+abbrev pub remark_of : Breach → Remarked
+remark_of b = record {
+  start = (range_at (marked b.place)).0;
+  end = (range_at (marked b.place)).1;
+  code = rule_name b.rule;
+  severity = severity_of b.rule;
+  message = message_of b;
+}
+
+-- the remarks are those on what breaks a rule: all of it, or a hundred of them
+pub record AreRemarks (document : Place) (remarks : List Remarked) : Type 0 where
+  pub breaches : List Breach
+  pub exact : AreBreaches 100 (BreaksAs (kind_of document) document) breaches
+  pub are : remarks ≡ map remark_of breaches

@@ -1,0 +1,8 @@
+//! What an editor shows of a document without syntax errors: the rules of validation that it breaks.
+//!
+//! `gqlls_run`, the crate above, publishes `remarks` after each change.
+#![tactic(auto)]
+
+mod remarks;
+
+pub use remarks::remarks;

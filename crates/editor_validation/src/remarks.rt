@@ -1,0 +1,78 @@
+// Violations as remarks on a document.
+ghost use Rattle.std.specs.Prelude.{◌≡◌, IfOk, map};
+ghost use Rattle.apollo_tree.specs.References.{node_place};
+ghost use Rattle.definition_rules.specs.Violations.{as_breach};
+ghost use Rattle.editor_diagnostics.specs.Remarks.{as_remarked};
+ghost use Rattle.editor_validation.specs.Remarks.{AreRemarks, marked, names, remark_of, severity_of};
+
+use apollo_tree::{SyntaxKind, SyntaxNode};
+use apollo_validation::{Rule, Violation, message, validate};
+use editor_diagnostics::{Remark, Severity};
+use std::alloc::{AllocError, Global};
+
+// How many remarks on a document a client gets.
+const MOST: usize = 100;
+
+fn severity_of(rule: Rule) -> Severity
+    ensures { result ≡ severity_of rule }
+{
+    match rule {
+        Rule::ExecutableDefinitions
+        | Rule::KnownFragmentNames
+        | Rule::NoUnusedFragments
+        | Rule::NoUnusedVariables => Severity::Warning,
+        _ => Severity::Error,
+    }
+}
+
+// Whether a node names its parent.
+fn names(node: &SyntaxNode<'_>) -> bool
+    ensures { result ≡ names (node_place node.now) }
+{
+    let kind = node.kind();
+    kind.is(SyntaxKind::NAME)
+        || kind.is(SyntaxKind::FRAGMENT_NAME)
+        || kind.is(SyntaxKind::VARIABLE)
+        || kind.is(SyntaxKind::ENUM_VALUE)
+}
+
+// The node that is marked for one: its name, if it has one.
+fn marked<'t>(node: &SyntaxNode<'t>) -> SyntaxNode<'t>
+    ensures { node_place result ≡ marked (node_place node.now) }
+{
+    if node.kind().is(SyntaxKind::VARIABLE) {
+        return *node;
+    }
+    for child in node.children() {
+        if names(&child) {
+            return child;
+        }
+    }
+    *node
+}
+
+fn remark_of(alloc: Global, violation: &Violation<'_>) -> Result<Remark, AllocError>
+    ensures { IfOk result (λ remark. as_remarked remark ≡ remark_of (as_breach violation.now)) }
+{
+    let range = marked(&violation.node).text_range();
+    Ok(Remark {
+        start: range.start(),
+        end: range.end(),
+        code: violation.rule.name(),
+        severity: severity_of(violation.rule),
+        message: message(alloc, violation)?,
+    })
+}
+
+/// What is said of a document, by the root of its tree: of each rule of validation that it breaks where, and what is wrong. There are at most a
+/// hundred remarks. It fails only where memory is refused.
+pub fn remarks(alloc: Global, document: &SyntaxNode<'_>) -> Result<Vec<Remark>, AllocError>
+    ensures { IfOk result (λ found. AreRemarks (node_place document.now) (map as_remarked found.items)) }
+{
+    let violations = validate(alloc, document, MOST)?;
+    let mut found = Vec::new(alloc);
+    for violation in &violations {
+        found.push(remark_of(alloc, violation)?)?;
+    }
+    Ok(found)
+}
