@@ -1,5 +1,6 @@
 pub mod Graphs
 pub mod Known
 pub mod Parts
+pub mod RuleNames
 pub mod Rules
 pub mod Violations

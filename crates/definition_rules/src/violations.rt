@@ -37,6 +37,34 @@ pub enum Rule {
     UniqueEnumValueNames,
 }
 
+impl Rule {
+    ghost use Rattle.std.specs.Prelude.{◌≡◌};
+    ghost use Rattle.definition_rules.specs.RuleNames.{rule_name};
+
+    /// Its name, without the `Rule` that graphql-js adds.
+    pub fn name(self) -> &'static str
+        ensures { result.now ≡ rule_name self }
+    {
+        match self {
+            Rule::ExecutableDefinitions => "ExecutableDefinitions",
+            Rule::UniqueOperationNames => "UniqueOperationNames",
+            Rule::LoneAnonymousOperation => "LoneAnonymousOperation",
+            Rule::UniqueArgumentNames => "UniqueArgumentNames",
+            Rule::UniqueFragmentNames => "UniqueFragmentNames",
+            Rule::NoUnusedFragments => "NoUnusedFragments",
+            Rule::KnownFragmentNames => "KnownFragmentNames",
+            Rule::NoFragmentCycles => "NoFragmentCycles",
+            Rule::UniqueInputFieldNames => "UniqueInputFieldNames",
+            Rule::UniqueVariableNames => "UniqueVariableNames",
+            Rule::NoUndefinedVariables => "NoUndefinedVariables",
+            Rule::NoUnusedVariables => "NoUnusedVariables",
+            Rule::UniqueFieldDefinitionNames => "UniqueFieldDefinitionNames",
+            Rule::UniqueArgumentDefinitionNames => "UniqueArgumentDefinitionNames",
+            Rule::UniqueEnumValueNames => "UniqueEnumValueNames",
+        }
+    }
+}
+
 /// A place at which a document breaks a rule.
 #[derive(Clone, Copy)]
 pub struct Violation<'t> {

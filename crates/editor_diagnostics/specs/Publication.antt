@@ -1,4 +1,4 @@
--- The notice of a document's errors, and of what else is said of it, to a client.
+-- The notice of a document's errors and further remarks to a client.
 use Rattle.std.specs.Prelude.{ℕ, zero, suc, ℤ, ◌==◌, if◌then◌else◌, ◌+◌, ◌-◌, List, [], ◌∷◌, ◌++◌, length, map, take, Option, Some, None, codes, decimal}
 use Rattle.std.specs.Fmt.{signed_decimal}
 use Rattle.json.specs.Json.{Json, Members, array, member, no_members, number, object, string}

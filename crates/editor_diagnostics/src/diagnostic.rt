@@ -58,7 +58,7 @@ fn push_ranged<'p>(
 ) -> Result<(), AllocError>
     ensures { OnOk result ((members : Members) → flat_map tokens_of words.now ≡ members_tokens members
         → flat_map tokens_of pieces.new.items ≡ flat_map tokens_of pieces.old.items ++ json_tokens (ranged
-            (position_of positions.now.encoding positions.now.text.now start) (position_of positions.now.encoding positions.now.text.now end) members)) }
+        (position_of positions.now.encoding positions.now.text.now start) (position_of positions.now.encoding positions.now.text.now end) members)) }
 {
     pieces.extend_from_slice(&[Piece::Object, Piece::Key("range")])?;
     pieces.extend_from_slice(&positions.range(start, end))?;

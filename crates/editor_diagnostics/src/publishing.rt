@@ -1,4 +1,4 @@
-// The notice of a document's errors, and of what else is said of it, to a client.
+// The notice of a document's errors and further remarks to a client.
 ghost use Rattle.std.specs.Prelude.{◌≡◌, ◌++◌, ◌∷◌, [], IfOk, OnOk, None, flat_map, map, string_bytes, take};
 ghost use Rattle.json.specs.Json.{Members, object};
 ghost use Rattle.json.specs.Token.{end_array, end_object};
@@ -127,7 +127,7 @@ fn end(alloc: Global, pieces: &mut Vec<Piece<'_>>) -> Result<Vec<u8>, AllocError
     notice(alloc, METHOD, pieces.as_slice())
 }
 
-/// The notice of the errors of a document with this name, version and text, and of what else is said of it: the first hundred errors, then one at the
+/// The notice of the errors of a document with this name, version and text, and of further remarks on it: the first hundred errors, then one at the
 /// front of the text that says how many more there are, and then all remarks. It fails only where memory is refused.
 pub fn publication(
     alloc: Global,

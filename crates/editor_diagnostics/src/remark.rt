@@ -1,4 +1,4 @@
-// What is said of a document besides its syntax errors.
+// Remarks on a document besides its syntax errors.
 ghost use Rattle.std.specs.Prelude.{◌≡◌};
 ghost use Rattle.editor_diagnostics.specs.Remarks.{severity_number};
 

@@ -1,4 +1,4 @@
--- What is said of a document: the rules of validation that it breaks.
+-- Remarks on a document: the rules of validation that it breaks.
 use Rattle.std.specs.Prelude.{◌≡◌, Bool, ◌||◌, if◌then◌else◌, List, map, find, unwrap_or}
 use Rattle.document_grammar.specs.declared.kind.SyntaxKind.TheVariants.{ENUM_VALUE, FRAGMENT_NAME, NAME, VARIABLE}
 use Rattle.document_grammar.specs.Numbers.{is_kind}
@@ -15,7 +15,7 @@ use Rattle.editor_diagnostics.specs.Remarks.{Remarked}
 use Rattle.editor_diagnostics.specs.declared.remark.Severity.{Severity}
 use Rattle.editor_diagnostics.specs.declared.remark.Severity.TheVariants.{Error, Warning}
 
--- a warning for what is never used and for what another file may define, and else an error
+-- a warning where something is never used or another file may define it, and else an error
 abbrev pub severity_of : Rule → Severity
 severity_of ExecutableDefinitions = Warning
 severity_of KnownFragmentNames = Warning
@@ -39,7 +39,7 @@ remark_of b = record {
   message = message_of b;
 }
 
--- the remarks are those on what breaks a rule: all of it, or a hundred of them
+-- there is a remark for each breach of a rule, or for a hundred of them
 pub record AreRemarks (document : Place) (remarks : List Remarked) : Type 0 where
   pub breaches : List Breach
   pub exact : AreBreaches 100 (BreaksAs (kind_of document) document) breaches

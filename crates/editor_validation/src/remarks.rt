@@ -64,8 +64,8 @@ fn remark_of(alloc: Global, violation: &Violation<'_>) -> Result<Remark, AllocEr
     })
 }
 
-/// What is said of a document, by the root of its tree: of each rule of validation that it breaks where, and what is wrong. There are at most a
-/// hundred remarks. It fails only where memory is refused.
+/// The remarks on a document, by the root of its tree: one for each place at which it breaks a rule of validation, at most a hundred of them. It fails
+/// only where memory is refused.
 pub fn remarks(alloc: Global, document: &SyntaxNode<'_>) -> Result<Vec<Remark>, AllocError>
     ensures { IfOk result (λ found. AreRemarks (node_place document.now) (map as_remarked found.items)) }
 {

@@ -12,7 +12,7 @@ use Rattle.editor_text.specs.Client.{Opened}
 use Rattle.rpc_messages.specs.declared.reply.Reply.{Reply}
 use Rattle.rpc_messages.specs.declared.reply.Reply.TheVariants.{Nothing, Answer, Notice, Exit}
 
--- what is said of a parse besides its errors: if it has none, the rules of validation that the document breaks
+-- the remarks on a parse: if it has no errors, the rules of validation that the document breaks
 abbrev pub AreRemarksOn : List Diagnostic → Forest → List Remarked → Type 0
 AreRemarksOn [] tree remarks = AreRemarks (record { whole = tree; index = 0 }) remarks
 AreRemarksOn (error ∷ errors) tree remarks = remarks ≡ []
@@ -20,7 +20,7 @@ AreRemarksOn (error ∷ errors) tree remarks = remarks ≡ []
 abbrev pub AreRemarksOf : Parsed → List Remarked → Type 0
 AreRemarksOf parsed remarks = AreRemarksOn parsed.errors parsed.tree remarks
 
--- the body publishes the errors of a parse of this text within the limits, and what else is said of it, at their positions as the client counts them
+-- the body publishes the errors of a parse of this text within the limits, and the remarks on it, at their positions as the client counts them
 pub record IsTold (limits : Limits) (uri : List ℕ) (version : Option ℤ) (content : Opened) (body : List ℕ) : Type 0 where
   pub parsed : Parsed
   pub promise : Promise content.text limits.recursion limits.tokens parsed

@@ -29,11 +29,8 @@ fn parsed(
     Ok(tree)
 }
 
-// What is said of a document's tree besides its errors.
-fn remarks_of(
-    alloc: Global,
-    tree: &SyntaxTree<DocumentRoot>,
-) -> Result<Vec<Remark>, AllocError>
+// The remarks on a document, which has none where it has syntax errors.
+fn remarks_of(alloc: Global, tree: &SyntaxTree<DocumentRoot>) -> Result<Vec<Remark>, AllocError>
     ensures { IfOk result (λ found. AreRemarksOf tree.now (map as_remarked found.items)) }
 {
     if !tree.errors().as_slice().is_empty() {
@@ -80,7 +77,7 @@ impl Document {
         Ok(())
     }
 
-    /// The notice of its errors, and of what else is said of it, by its name and the version that the client gave it.
+    /// The notice of its errors and the remarks on it, by its name and the version that the client gave it.
     pub(crate) fn told(
         &self,
         alloc: Global,

@@ -31,14 +31,7 @@ fn one_warning(alloc: Global) -> Result<Vec<u8>, AllocError> {
         severity: Severity::Warning,
         message: String::from_str(alloc, "unused")?,
     };
-    publication(
-        alloc,
-        "a",
-        None,
-        &positions,
-        &[],
-        slice::from_ref(&remark),
-    )
+    publication(alloc, "a", None, &positions, &[], slice::from_ref(&remark))
 }
 
 // The notice of one error.

@@ -4,32 +4,12 @@
 
 use apollo_parser::Parser;
 use apollo_tree::SyntaxNode;
-use apollo_validation::{Rule, Violation, message, validate};
+use apollo_validation::{Violation, message, validate};
 use std::alloc::{AllocError, Global};
 use std::io;
 
 // As many violations as a document may have.
 const MOST: usize = 10_000;
-
-fn rule_name(rule: Rule) -> &'static str {
-    match rule {
-        Rule::ExecutableDefinitions => "ExecutableDefinitions",
-        Rule::UniqueOperationNames => "UniqueOperationNames",
-        Rule::LoneAnonymousOperation => "LoneAnonymousOperation",
-        Rule::UniqueArgumentNames => "UniqueArgumentNames",
-        Rule::UniqueFragmentNames => "UniqueFragmentNames",
-        Rule::NoUnusedFragments => "NoUnusedFragments",
-        Rule::KnownFragmentNames => "KnownFragmentNames",
-        Rule::NoFragmentCycles => "NoFragmentCycles",
-        Rule::UniqueInputFieldNames => "UniqueInputFieldNames",
-        Rule::UniqueVariableNames => "UniqueVariableNames",
-        Rule::NoUndefinedVariables => "NoUndefinedVariables",
-        Rule::NoUnusedVariables => "NoUnusedVariables",
-        Rule::UniqueFieldDefinitionNames => "UniqueFieldDefinitionNames",
-        Rule::UniqueArgumentDefinitionNames => "UniqueArgumentDefinitionNames",
-        Rule::UniqueEnumValueNames => "UniqueEnumValueNames",
-    }
-}
 
 fn offset(node: SyntaxNode<'_>) -> usize {
     node.text_range().start()
@@ -41,7 +21,7 @@ fn put_violation(
     violation: &Violation<'_>,
 ) -> Result<(), AllocError> {
     rows.push_str("\n  ")?;
-    rows.push_str(rule_name(violation.rule))?;
+    rows.push_str(violation.rule.name())?;
     let at = offset(violation.node);
     write!(rows, "@{at}")?;
     if let Some(other) = violation.other {

@@ -1,0 +1,27 @@
+-- The names of rules.
+use Rattle.std.specs.Prelude.{ℕ, List, codes}
+use Rattle.definition_rules.specs.declared.violations.Rule.{Rule}
+use Rattle.definition_rules.specs.declared.violations.Rule.TheVariants.{ExecutableDefinitions, UniqueOperationNames, LoneAnonymousOperation}
+use Rattle.definition_rules.specs.declared.violations.Rule.TheVariants.{UniqueArgumentNames, UniqueFragmentNames, NoUnusedFragments}
+use Rattle.definition_rules.specs.declared.violations.Rule.TheVariants.{KnownFragmentNames, NoFragmentCycles, UniqueInputFieldNames}
+use Rattle.definition_rules.specs.declared.violations.Rule.TheVariants.{UniqueVariableNames, NoUndefinedVariables, NoUnusedVariables}
+use Rattle.definition_rules.specs.declared.violations.Rule.TheVariants.{UniqueFieldDefinitionNames, UniqueArgumentDefinitionNames}
+use Rattle.definition_rules.specs.declared.violations.Rule.TheVariants.{UniqueEnumValueNames}
+
+-- as in graphql-js, without the `Rule` at the end
+abbrev pub rule_name : Rule → List ℕ
+rule_name ExecutableDefinitions = codes "ExecutableDefinitions"
+rule_name UniqueOperationNames = codes "UniqueOperationNames"
+rule_name LoneAnonymousOperation = codes "LoneAnonymousOperation"
+rule_name UniqueArgumentNames = codes "UniqueArgumentNames"
+rule_name UniqueFragmentNames = codes "UniqueFragmentNames"
+rule_name NoUnusedFragments = codes "NoUnusedFragments"
+rule_name KnownFragmentNames = codes "KnownFragmentNames"
+rule_name NoFragmentCycles = codes "NoFragmentCycles"
+rule_name UniqueInputFieldNames = codes "UniqueInputFieldNames"
+rule_name UniqueVariableNames = codes "UniqueVariableNames"
+rule_name NoUndefinedVariables = codes "NoUndefinedVariables"
+rule_name NoUnusedVariables = codes "NoUnusedVariables"
+rule_name UniqueFieldDefinitionNames = codes "UniqueFieldDefinitionNames"
+rule_name UniqueArgumentDefinitionNames = codes "UniqueArgumentDefinitionNames"
+rule_name UniqueEnumValueNames = codes "UniqueEnumValueNames"
