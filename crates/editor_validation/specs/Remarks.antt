@@ -8,7 +8,7 @@ use Rattle.definition_rules.specs.declared.violations.Rule.{Rule}
 use Rattle.definition_rules.specs.declared.violations.Rule.TheVariants.{ExecutableDefinitions, KnownFragmentNames, NoUnusedFragments, NoUnusedVariables}
 use Rattle.definition_rules.specs.RuleNames.{rule_name}
 use Rattle.definition_rules.specs.Violations.{Breach}
-use Rattle.apollo_validation.specs.Lists.{kind_of}
+use Rattle.apollo_validation.specs.Lists.{document_kind}
 use Rattle.apollo_validation.specs.Messages.{message_of}
 use Rattle.apollo_validation.specs.Validity.{AreBreaches, BreaksAs}
 use Rattle.editor_diagnostics.specs.Remarks.{Remarked}
@@ -42,5 +42,5 @@ remark_of b = record {
 -- there is a remark for each breach of a rule, or for a hundred of them
 pub record AreRemarks (document : Place) (remarks : List Remarked) : Type 0 where
   pub breaches : List Breach
-  pub exact : AreBreaches 100 (BreaksAs (kind_of document) document) breaches
+  pub exact : AreBreaches 100 (BreaksAs (document_kind document) document) breaches
   pub are : remarks ≡ map remark_of breaches

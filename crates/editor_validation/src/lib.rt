@@ -3,6 +3,6 @@
 //! `gqlls_run`, the crate above, publishes `remarks` after each change.
 #![tactic(auto)]
 
-mod remarks;
+mod broken_rules;
 
-pub use remarks::remarks;
+pub use broken_rules::remarks;

@@ -1,4 +1,4 @@
-// Violations as remarks on a document.
+// Broken rules as remarks on a document.
 ghost use Rattle.std.specs.Prelude.{◌≡◌, IfOk, map};
 ghost use Rattle.apollo_tree.specs.References.{node_place};
 ghost use Rattle.definition_rules.specs.Violations.{as_breach};
