@@ -8,7 +8,8 @@ from pathlib import Path
 
 from .shared import BUILD, INCLUDE, PACKAGE, TOP, kit, need, rattle, run, static_library, stop, version
 
-CALLS = ["dumyroke_format", "dumyroke_lex", "dumyroke_parse", "dumyroke_parse_selection_set", "dumyroke_parse_type", "dumyroke_string_value"]
+CALLS = ["dumyroke_format", "dumyroke_lex", "dumyroke_measure", "dumyroke_parse", "dumyroke_parse_selection_set", "dumyroke_parse_type"]
+CALLS += ["dumyroke_string_value", "dumyroke_validate"]
 
 
 def make_archive(archive):

@@ -1,18 +1,22 @@
 """The statuses and the rows of the library for C, for Rust, for Python and for the page, from the structs in crates/apollo_tree/src/compact.rt and in
-crates/dumyroke_flat/src/rows.rt. The header, which is written by hand, has to have the same fields."""
+`rows.rt` of crates/dumyroke_flat and crates/dumyroke_validation; and the rules of validation, from crates/definition_rules/src/violations.rt. The header,
+which is written by hand, has to have the same fields and rules."""
 
 import re
 
 from .layout import CRATES, TOP, mark
 
-SOURCE = "crates/apollo_tree/src/compact.rt and crates/dumyroke_flat/src/rows.rt"
-SOURCES = [CRATES / "apollo_tree/src/compact.rt", CRATES / "dumyroke_flat/src/rows.rt"]
+SOURCE = "crates/apollo_tree/src/compact.rt, and rows.rt of crates/dumyroke_flat and crates/dumyroke_validation"
+SOURCES = [CRATES / "apollo_tree/src/compact.rt", CRATES / "dumyroke_flat/src/rows.rt", CRATES / "dumyroke_validation/src/rows.rt"]
+RULES = CRATES / "definition_rules/src/violations.rt"
 HEADER = TOP / "bindings/c/include/dumyroke.h"
 
 # The bytes of each type of a field, and its name in C and in Python.
-TYPES = {"usize": (8, "size_t", "c_size_t"), "u32": (4, "uint32_t", "c_uint32"), "u16": (2, "uint16_t", "c_uint16"), "u8": (1, "uint8_t", "c_uint8")}
+TYPES = {"usize": (8, "size_t", "c_size_t"), "u64": (8, "uint64_t", "c_uint64")}
+TYPES |= {"u32": (4, "uint32_t", "c_uint32"), "u16": (2, "uint16_t", "c_uint16"), "u8": (1, "uint8_t", "c_uint8")}
 # The rows that languages read, with their names in C.
 READ = {"CompactElement": "element", "ItemRow": "item", "ErrorRow": "error", "Counts": "counts"}
+READ |= {"ViolationRow": "violation", "ViolationCounts": "violation_counts", "OperationRow": "operation", "MeasureCounts": "measure_counts"}
 
 
 def statuses(text):
@@ -33,6 +37,12 @@ def structs(text):
     return made
 
 
+def rules():
+    """The rules of validation with their sections, in the order of their numbers."""
+    body = re.search(r"^pub enum Rule \{\n(.*?)^\}", RULES.read_text(), re.DOTALL | re.MULTILINE)[1]
+    return re.findall(r"^    /// (.*)\n    (\w+),", body, re.MULTILINE)
+
+
 def offsets(fields):
     """The byte offset of each field, as C lays them out, and the size of the struct."""
     at, most, found = 0, 1, {}
@@ -50,6 +60,12 @@ def in_header(header, name):
     return [(field.strip(), kind) for kind, names in re.findall(r"^\s*(\w+) ([\w, ]+);", lines, re.MULTILINE) for field in names.split(",")]
 
 
+def enum_in_header(header, name):
+    """The numbers of an enum of the header."""
+    body = re.search(rf"^enum dumyroke_{name} \{{\n(.*?)^\}}", header, re.DOTALL | re.MULTILINE)[1]
+    return {name: int(number) for name, number in re.findall(r"^    DUMYROKE_(\w+) = (\d+)", body, re.MULTILINE)}
+
+
 def check_header(text):
     """Ends where the header has other fields or other statuses."""
     header, made = HEADER.read_text(), structs(text)
@@ -57,9 +73,11 @@ def check_header(text):
         wanted = [(field, TYPES[kind][1]) for field, kind in made[name]]
         if in_header(header, short) != wanted:
             raise SystemExit(f"dumyroke.h: the struct dumyroke_{short} has not the fields of {name}")
-    found = {name: int(number) for name, number in re.findall(r"^    DUMYROKE_(\w+) = (\d+)", header, re.MULTILINE)}
-    if found != statuses(text):
+    if enum_in_header(header, "status") != statuses(text):
         raise SystemExit("dumyroke.h: its statuses are not those of rows.rt")
+    wanted = {re.sub(r"(?<!^)(?=[A-Z])", "_", name).upper(): number for number, (_, name) in enumerate(rules())}
+    if enum_in_header(header, "rule") != wanted:
+        raise SystemExit("dumyroke.h: its rules are not those of violations.rt")
 
 
 def for_python(text):
@@ -68,13 +86,19 @@ def for_python(text):
     lines = "".join(f"{name} = {number}\n" for name, number in statuses(text).items())
     classes = "".join(
         f"\n\nclass {name}(Structure):\n    _fields_ = [\n" + "".join(f'        ("{field}", {TYPES[kind][2]}),\n' for field, kind in made[name]) + "    ]\n"
-        for name in ("ItemRow", "ErrorRow", "Counts")
+        for name in READ
+        if name != "CompactElement"
     )
+    named = "".join(f'    "{name}",\n' for _, name in rules())
     return f'''{mark("#", SOURCE)}"""The statuses and the rows of the C library."""
 
-from ctypes import Structure, c_size_t, c_uint16, c_uint32
+from ctypes import Structure, c_size_t, c_uint16, c_uint32, c_uint64
 
 {lines}
+RULES = (
+{named})
+"""The rules of validation, by their numbers."""
+
 ELEMENT_SIZE = {offsets(made["CompactElement"])[1]}
 """The bytes of an element's row."""
 
@@ -99,7 +123,9 @@ def for_rust(text):
         f"\n/// `dumyroke_{short}`\n#[repr(C)]\n#[derive(Debug, Clone, Copy, Default, PartialEq, Eq)]\npub(crate) struct {name} {{\n{fields[name]}}}\n"
         for name, short in READ.items()
     )
-    return f"""{mark("//", SOURCE)}//! The statuses and the rows of the library, which bindings/c/include/dumyroke.h describes.
+    listed = "".join(f"    /// Section {section}.\n    {name},\n" for section, name in rules())
+    named = ", ".join(f"Rule::{name}" for _, name in rules())
+    return f"""{mark("//", SOURCE)}//! The statuses, the rows and the rules of the library, which bindings/c/include/dumyroke.h describes.
 #![allow(dead_code)]
 
 {lines}
@@ -110,7 +136,16 @@ pub(crate) struct Limits {{
     pub(crate) recursion: usize,
     pub(crate) tokens: usize,
 }}
-{rows}"""
+{rows}
+/// A rule of validation, under the name that graphql-js gives it, with its section of the standard (October 2021).
+#[derive(Debug, Clone, Copy, PartialEq, Eq, Hash)]
+#[non_exhaustive]
+pub enum Rule {{
+{listed}}}
+
+/// The rules, by their numbers.
+pub(crate) const RULES: [Rule; {len(rules())}] = [{named}];
+"""
 
 
 def for_page(text):

@@ -25,8 +25,13 @@ enum dumyroke_status {
     DUMYROKE_NO_MEMORY = 3,
     /* The text is not one string literal with its quotes and nothing else. Only from dumyroke_string_value. */
     DUMYROKE_NOT_A_STRING = 4,
-    /* The text is not a document within both limits. Only from dumyroke_format. */
-    DUMYROKE_NOT_A_DOCUMENT = 5
+    /* The text is not a document within both limits. Only from dumyroke_format, dumyroke_validate and dumyroke_measure. */
+    DUMYROKE_NOT_A_DOCUMENT = 5,
+    /* The operations have no figures: two fragments have one name; an operation leads to a cycle of fragments; or to a spread of a fragment that
+     * is not defined. Only from dumyroke_measure. */
+    DUMYROKE_SAME_NAME = 6,
+    DUMYROKE_CYCLE = 7,
+    DUMYROKE_UNDEFINED = 8
 };
 
 /* The limits of a parse. */
@@ -168,6 +173,118 @@ uint32_t dumyroke_string_value(const uint8_t *literal, size_t literal_length, ui
  *
  * Returns DUMYROKE_OK, DUMYROKE_NOT_UTF8, DUMYROKE_NOT_A_DOCUMENT or DUMYROKE_NO_MEMORY. Unless it is DUMYROKE_OK, only `bytes` is written. */
 uint32_t dumyroke_format(const uint8_t *text, size_t text_length, dumyroke_limits limits, uint8_t *formatted, size_t room, size_t *bytes);
+
+/* The rules of validation that need no schema, under the names that graphql-js gives them, each with its section of the standard (October 2021). The
+ * last three are for documents that have definitions of the type system alone, with the two on arguments and input fields. */
+enum dumyroke_rule {
+    DUMYROKE_EXECUTABLE_DEFINITIONS = 0,   /* 5.1.1: a document has operations and fragments alone */
+    DUMYROKE_UNIQUE_OPERATION_NAMES = 1,   /* 5.2.1.1 */
+    DUMYROKE_LONE_ANONYMOUS_OPERATION = 2, /* 5.2.2.1: an operation without a name is the only one */
+    DUMYROKE_UNIQUE_ARGUMENT_NAMES = 3,    /* 5.4.2 */
+    DUMYROKE_UNIQUE_FRAGMENT_NAMES = 4,    /* 5.5.1.1 */
+    DUMYROKE_NO_UNUSED_FRAGMENTS = 5,      /* 5.5.1.4: an operation spreads each fragment, directly or through others */
+    DUMYROKE_KNOWN_FRAGMENT_NAMES = 6,     /* 5.5.2.1: each fragment that is spread is defined */
+    DUMYROKE_NO_FRAGMENT_CYCLES = 7,       /* 5.5.2.2 */
+    DUMYROKE_UNIQUE_INPUT_FIELD_NAMES = 8, /* 5.6.3 */
+    DUMYROKE_UNIQUE_VARIABLE_NAMES = 9,    /* 5.8.1 */
+    DUMYROKE_NO_UNDEFINED_VARIABLES = 10,  /* 5.8.3: an operation declares each variable that it or a fragment it reaches uses */
+    DUMYROKE_NO_UNUSED_VARIABLES = 11,     /* 5.8.4: it, or a fragment it reaches, uses each variable that it declares */
+    DUMYROKE_UNIQUE_FIELD_DEFINITION_NAMES = 12,    /* 3.6, 3.7 and 3.10 */
+    DUMYROKE_UNIQUE_ARGUMENT_DEFINITION_NAMES = 13, /* 3.6.1 and 3.13 */
+    DUMYROKE_UNIQUE_ENUM_VALUE_NAMES = 14           /* 3.9 */
+};
+
+/* A violation of a rule. Offsets are in bytes of the text. */
+typedef struct dumyroke_violation {
+    /* The node that breaks the rule: a definition, a spread, a variable, an argument, a field of an object or a variable's definition. */
+    size_t start, end;
+    /* The other party: the first of the name, the operation whose variables are meant, or the other operation or fragment. Zeros if there is none. */
+    size_t other_start, other_end;
+    /* Where the message is in the messages, and how many bytes it has. It is UTF-8, with no zero after it. */
+    size_t message, message_length;
+    /* One of enum dumyroke_rule. */
+    uint32_t rule;
+    /* 1 if there is another party. */
+    uint32_t has_other;
+} dumyroke_violation;
+
+/* What dumyroke_validate found, whether or not there was room for it. All numbers are 0 unless the status is DUMYROKE_OK. */
+typedef struct dumyroke_violation_counts {
+    /* At most `most`. The text is a document that keeps all rules exactly if this is 0 and `most` is not. */
+    size_t violations;
+    /* The bytes of all messages together. */
+    size_t message_bytes;
+    /* One of enum dumyroke_status, also the result of the call. */
+    uint32_t status;
+} dumyroke_violation_counts;
+
+/* Validates a document by the rules that need no schema, within both limits of a parse.
+ *
+ * Writes the violations and their messages, each as far as there is room, as dumyroke_parse does. If there are fewer than `most`, they are all. That a
+ * second call needs just the counted room is tested, not proved.
+ *
+ *   text       `text_length` bytes of UTF-8.
+ *   most       how many violations are looked for.
+ *   violations room for `violation_room` violations.
+ *   messages   room for `message_room` bytes.
+ *   counts     what there is. Never NULL.
+ *
+ * Any other pointer may be NULL where its length is 0. No two of the four may overlap.
+ *
+ * Returns DUMYROKE_OK, DUMYROKE_NOT_UTF8, DUMYROKE_NOT_A_DOCUMENT or DUMYROKE_NO_MEMORY. Unless it is DUMYROKE_OK, only `counts` is written. */
+uint32_t dumyroke_validate(const uint8_t *text, size_t text_length, dumyroke_limits limits, size_t most,
+                           dumyroke_violation *violations, size_t violation_room,
+                           uint8_t *messages, size_t message_room,
+                           dumyroke_violation_counts *counts);
+
+/* An operation, and its figures: those of the operation with the selections of its fragment in place of each fragment spread. A figure stops at
+ * UINT64_MAX. Offsets are in bytes of the text. */
+typedef struct dumyroke_operation {
+    size_t start, end;
+    /* Its name. Zeros if it has none. */
+    size_t name_start, name_end;
+    /* The greatest number of fields in one another: 2 for `{a{b}}`. */
+    uint64_t depth;
+    /* The number of fields, `__typename` among them. */
+    uint64_t fields;
+    /* The number of fields that no field encloses. */
+    uint64_t root_fields;
+    uint64_t aliases;
+    /* The number of directives: of the operation, its variables, its selections, and its fragments at each of their spreads. */
+    uint64_t directives;
+    /* The number of fields, where each selection set counts a response name once. Inline fragments and fragments have selection sets of their own.
+     * Apollo Router limits this number as `max_height`. */
+    uint64_t height;
+    /* The number of root fields, counted like `height`. */
+    uint64_t distinct_root_fields;
+} dumyroke_operation;
+
+/* What dumyroke_measure found, whether or not there was room for it. Numbers that are not named for the status are 0. */
+typedef struct dumyroke_measure_counts {
+    /* DUMYROKE_OK: the operations. */
+    size_t operations;
+    /* DUMYROKE_SAME_NAME: a fragment, and after it the first one of its name. DUMYROKE_CYCLE: a spread that is part of the cycle. DUMYROKE_UNDEFINED: a
+     * spread of no fragment. */
+    size_t start, end;
+    size_t other_start, other_end;
+    /* One of enum dumyroke_status, also the result of the call. */
+    uint32_t status;
+} dumyroke_measure_counts;
+
+/* Measures each operation of a document with all its fragments expanded, within both limits of a parse. A document of n bytes may expand to 2^n fields;
+ * the call takes no longer for that. Fragments that no operation leads to may be on a cycle, or spread what is not defined.
+ *
+ *   text       `text_length` bytes of UTF-8.
+ *   operations room for `operation_room` operations. If `counts` says that there are more, call again with that much room. That it is enough is
+ *              tested, not proved.
+ *   counts     what there is. Never NULL.
+ *
+ * Any other pointer may be NULL where its length is 0. No two of the three may overlap.
+ *
+ * Returns one of enum dumyroke_status but DUMYROKE_TOO_LONG and DUMYROKE_NOT_A_STRING. Unless it is DUMYROKE_OK, only `counts` is written. */
+uint32_t dumyroke_measure(const uint8_t *text, size_t text_length, dumyroke_limits limits,
+                          dumyroke_operation *operations, size_t operation_room,
+                          dumyroke_measure_counts *counts);
 
 #ifdef __cplusplus
 }

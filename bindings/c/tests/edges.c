@@ -1,4 +1,5 @@
-/* Calls at the edges: no text, no room, too little room, texts that are not UTF-8, strings that are none, parts of documents, items, both limits.
+/* Calls at the edges: no text, no room, too little room, texts that are not UTF-8, strings that are none, parts of documents, items, both limits,
+ * violations of rules, figures of operations.
  * Ends with status 1 at the first check that fails, and says which. */
 #include <stdio.h>
 
@@ -351,9 +352,95 @@ static void formatted(void)
     CHECK(dumyroke_format(NULL, 0, dumyroke_default_limits(), NULL, 0, &bytes) == DUMYROKE_NOT_A_DOCUMENT && bytes == 0);
 }
 
+/* The messages of the last call. */
+static uint8_t said[80];
+
+static uint32_t validate(const char *text, size_t most, dumyroke_violation *violations, size_t room, dumyroke_violation_counts *counts)
+{
+    memset(counts, UNTOUCHED, sizeof *counts);
+    memset(said, UNTOUCHED, sizeof said);
+    return dumyroke_validate(bytes_of(text), strlen(text), dumyroke_default_limits(), most, violations, room, said, sizeof said, counts);
+}
+
+/* The standard forbids the spread of a fragment that is not defined (5.5.2.1) and a variable that is not used (5.8.4). */
+static void violations(void)
+{
+    const char *text = "query Q($a: Int) { a ...F }";
+    const char *messages = "Unknown fragment \"F\".Variable \"$a\" is never used in operation \"Q\".\xee";
+    dumyroke_violation found[2], untouched;
+    dumyroke_violation_counts counts;
+    dumyroke_limits shallow = {0, SIZE_MAX};
+    memset(&untouched, UNTOUCHED, sizeof untouched);
+    CHECK(validate(text, 9, NULL, 0, &counts) == DUMYROKE_OK && counts.violations == 2 && counts.status == DUMYROKE_OK);
+    memset(found, UNTOUCHED, sizeof found);
+    CHECK(validate(text, 9, found, 1, &counts) == DUMYROKE_OK && counts.violations == 2);
+    CHECK(found[0].rule == DUMYROKE_KNOWN_FRAGMENT_NAMES && !memcmp(&found[1], &untouched, sizeof untouched));
+    CHECK(validate(text, 9, found, 2, &counts) == DUMYROKE_OK && counts.violations == 2);
+    CHECK(found[0].start == 21 && found[0].end == 25 && !found[0].has_other && !found[0].other_start && !found[0].other_end);
+    CHECK(found[1].rule == DUMYROKE_NO_UNUSED_VARIABLES && found[1].start == 8 && found[1].end == 15);
+    CHECK(found[1].has_other && found[1].other_start == 0 && found[1].other_end == 27);
+    CHECK(counts.message_bytes == 66 && !memcmp(said, messages, 67));
+    CHECK(found[0].message == 0 && found[0].message_length == 21 && found[1].message == 21 && found[1].message_length == 45);
+    memset(said, UNTOUCHED, sizeof said);
+    CHECK(dumyroke_validate(bytes_of(text), 27, dumyroke_default_limits(), 9, NULL, 0, said, 7, &counts) == DUMYROKE_OK && counts.message_bytes == 66);
+    CHECK(!memcmp(said, "Unknown\xee", 8));
+    CHECK(validate("type T { a: B a: C }", 9, found, 2, &counts) == DUMYROKE_OK && counts.violations == 1);
+    CHECK(found[0].rule == DUMYROKE_UNIQUE_FIELD_DEFINITION_NAMES && found[0].start == 14 && found[0].other_start == 9);
+    CHECK(validate(text, 1, NULL, 0, &counts) == DUMYROKE_OK && counts.violations == 1);
+    CHECK(validate(text, 0, NULL, 0, &counts) == DUMYROKE_OK && counts.violations == 0);
+    CHECK(validate("{a}", 9, NULL, 0, &counts) == DUMYROKE_OK && counts.violations == 0 && counts.message_bytes == 0);
+    CHECK(validate("{a", 9, found, 2, &counts) == DUMYROKE_NOT_A_DOCUMENT && counts.violations == 0 && found[0].start == 14 && said[0] == UNTOUCHED);
+    CHECK(validate("", 9, NULL, 0, &counts) == DUMYROKE_NOT_A_DOCUMENT && counts.status == DUMYROKE_NOT_A_DOCUMENT);
+    CHECK(validate("{\xff}", 9, NULL, 0, &counts) == DUMYROKE_NOT_UTF8 && counts.violations == 0);
+    CHECK(dumyroke_validate(NULL, 0, shallow, 9, NULL, 0, NULL, 0, &counts) == DUMYROKE_NOT_A_DOCUMENT);
+    CHECK(dumyroke_validate(bytes_of("{a}"), 3, shallow, 9, NULL, 0, NULL, 0, &counts) == DUMYROKE_NOT_A_DOCUMENT);
+}
+
+static uint32_t measure(const char *text, dumyroke_operation *operations, size_t room, dumyroke_measure_counts *counts)
+{
+    memset(counts, UNTOUCHED, sizeof *counts);
+    return dumyroke_measure(bytes_of(text), strlen(text), dumyroke_default_limits(), operations, room, counts);
+}
+
+/* The second operation is `query Q { b: a @d { b c d } }` when its fragment is expanded. */
+static void figures(void)
+{
+    const char *text = "{ a a } query Q { b: a @d { b ...F } } fragment F on T { c d }";
+    dumyroke_operation found[2], untouched;
+    dumyroke_measure_counts counts;
+    memset(&untouched, UNTOUCHED, sizeof untouched);
+    memset(found, UNTOUCHED, sizeof found);
+    CHECK(measure(text, NULL, 0, &counts) == DUMYROKE_OK && counts.operations == 2 && counts.start == 0 && counts.other_end == 0);
+    CHECK(measure(text, found, 1, &counts) == DUMYROKE_OK && counts.operations == 2 && !memcmp(&found[1], &untouched, sizeof untouched));
+    CHECK(measure(text, found, 2, &counts) == DUMYROKE_OK && counts.operations == 2);
+    CHECK(found[0].start == 0 && found[0].end == 7 && found[0].name_start == 0 && found[0].name_end == 0 && found[0].depth == 1);
+    CHECK(found[0].fields == 2 && found[0].root_fields == 2 && found[0].height == 1 && found[0].distinct_root_fields == 1);
+    CHECK(found[1].start == 8 && found[1].end == 38 && found[1].name_start == 14 && found[1].name_end == 15 && found[1].depth == 2);
+    CHECK(found[1].fields == 4 && found[1].root_fields == 1 && found[1].aliases == 1 && found[1].directives == 1);
+    CHECK(found[1].height == 4 && found[1].distinct_root_fields == 1);
+}
+
+static void no_figures(void)
+{
+    dumyroke_operation untouched, found;
+    dumyroke_measure_counts counts;
+    memset(&untouched, UNTOUCHED, sizeof untouched);
+    memset(&found, UNTOUCHED, sizeof found);
+    CHECK(measure("{a} fragment F on T {a} fragment F on T {b}", &found, 1, &counts) == DUMYROKE_SAME_NAME && counts.operations == 0);
+    CHECK(counts.start == 24 && counts.end == 43 && counts.other_start == 4 && counts.other_end == 23);
+    CHECK(measure("{...F} fragment F on T {...F}", &found, 1, &counts) == DUMYROKE_CYCLE && counts.start == 24 && counts.end == 28);
+    CHECK(measure("{ a ...F }", &found, 1, &counts) == DUMYROKE_UNDEFINED && counts.start == 4 && counts.end == 8 && counts.other_end == 0);
+    CHECK(measure("{a", &found, 1, &counts) == DUMYROKE_NOT_A_DOCUMENT && counts.status == DUMYROKE_NOT_A_DOCUMENT && counts.end == 0);
+    CHECK(measure("\xff", &found, 1, &counts) == DUMYROKE_NOT_UTF8 && !memcmp(&found, &untouched, sizeof untouched));
+    CHECK(dumyroke_measure(NULL, 0, dumyroke_default_limits(), NULL, 0, &counts) == DUMYROKE_NOT_A_DOCUMENT);
+    CHECK(measure("{a} fragment F on T {...F ...G}", NULL, 0, &counts) == DUMYROKE_OK && counts.operations == 1);
+    CHECK(measure("type T { a: B }", NULL, 0, &counts) == DUMYROKE_OK && counts.operations == 0);
+}
+
 int main(void)
 {
     CHECK(sizeof(dumyroke_element) == 12 && sizeof(dumyroke_item) == 12 && sizeof(dumyroke_error) == 40 && sizeof(dumyroke_counts) == 56);
+    CHECK(sizeof(dumyroke_violation) == 56 && sizeof(dumyroke_operation) == 88);
     counts_of_texts();
     counts_at_limits();
     deeper_than_the_limit();
@@ -371,5 +458,8 @@ int main(void)
     items();
     strings();
     formatted();
+    violations();
+    figures();
+    no_figures();
     return 0;
 }

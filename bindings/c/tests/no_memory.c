@@ -29,6 +29,8 @@ static int all_give(uint32_t status)
 {
     const uint8_t *source = (const uint8_t *)text;
     dumyroke_counts counts = {1, 1, 1, 1, 1, 1, 1};
+    dumyroke_violation_counts violations = {1, 1, 1};
+    dumyroke_measure_counts measured = {1, 1, 1, 1, 1, 1};
     dumyroke_tree tree;
     size_t bytes = 1;
     int is_right = dumyroke_parse(source, LENGTH, dumyroke_default_limits(), NULL, 0, NULL, 0, NULL, 0, &counts) == status
@@ -38,6 +40,10 @@ static int all_give(uint32_t status)
         && dumyroke_lex((const uint8_t *)bad, BAD, SIZE_MAX, NULL, 0, NULL, 0, NULL, 0, &counts) == status
         && (counts.elements == 0) == (status != DUMYROKE_OK)
         && dumyroke_format(source, LENGTH, dumyroke_default_limits(), NULL, 0, &bytes) == status && (bytes == 0) == (status != DUMYROKE_OK)
+        && dumyroke_validate(source, LENGTH, dumyroke_default_limits(), SIZE_MAX, NULL, 0, NULL, 0, &violations) == status
+        && violations.violations == 0 && violations.message_bytes == 0 && violations.status == status
+        && dumyroke_measure(source, LENGTH, dumyroke_default_limits(), NULL, 0, &measured) == status
+        && measured.operations == (status == DUMYROKE_OK) && measured.end == 0
         && dumyroke_tree_parse(&tree, text, LENGTH, dumyroke_default_limits()) == status;
     dumyroke_tree_free(&tree);
     return is_right;

@@ -1,4 +1,4 @@
-//! The calls of `dumyroke_flat` for C, each with its contract: a static library, which Python loads too.
+//! The calls of `dumyroke_flat` and `dumyroke_validation` for C, each with its contract: a static library, which Python loads too.
 //!
 //! `bindings/c/include/dumyroke.h` declares them and says what each number is, and `bindings/c/tests/edges.c` calls each of them.
 #![tactic(auto)]
@@ -6,10 +6,14 @@
 ghost use Rattle.std.specs.Prelude.{◌≡◌};
 ghost use Rattle.dumyroke_flat.specs.Items.{ItemsOutcome};
 ghost use Rattle.dumyroke_flat.specs.Outcomes.{FormatOutcome, Outcome, SelectionSetOutcome, StringOutcome, TypeOutcome};
+ghost use Rattle.dumyroke_validation.specs.Outcomes.{MeasureOutcome, ValidationOutcome};
 
 use dumyroke_flat::{
     CompactElement, Counts, ErrorRow, ItemRow, Limits, format_into, lex_into, parse_into,
     parse_selection_set_into, parse_type_into, string_value_into,
+};
+use dumyroke_validation::{
+    MeasureCounts, OperationRow, ViolationCounts, ViolationRow, measure_into, validate_into,
 };
 use std::alloc::Global;
 
@@ -118,4 +122,39 @@ pub extern "C" fn dumyroke_format(
     let count = format_into(alloc, source, limits, formatted);
     *bytes = count.bytes;
     count.status
+}
+
+/// `validate_into`. It answers the status of the counts.
+#[unsafe(no_mangle)]
+pub extern "C" fn dumyroke_validate(
+    alloc: Global,
+    source: &[u8],
+    limits: Limits,
+    most: usize,
+    violations: &mut [ViolationRow],
+    messages: &mut [u8],
+    counts: &mut ViolationCounts,
+) -> u32
+    ensures status { result ≡ counts.new.status }
+    ensures outcome { ValidationOutcome source.now limits.recursion limits.tokens most (record { violations = violations.old; messages = messages.old })
+        (record { violations = violations.new; messages = messages.new }) counts.new }
+{
+    *counts = validate_into(alloc, source, limits, most, violations, messages);
+    counts.status
+}
+
+/// `measure_into`. It answers the status of the counts.
+#[unsafe(no_mangle)]
+pub extern "C" fn dumyroke_measure(
+    alloc: Global,
+    source: &[u8],
+    limits: Limits,
+    operations: &mut [OperationRow],
+    counts: &mut MeasureCounts,
+) -> u32
+    ensures status { result ≡ counts.new.status }
+    ensures outcome { MeasureOutcome source.now limits.recursion limits.tokens operations.old operations.new counts.new }
+{
+    *counts = measure_into(alloc, source, limits, operations);
+    counts.status
 }

@@ -1,0 +1,3 @@
+-- What the calls of this crate give.
+pub mod Rows
+pub mod Outcomes
