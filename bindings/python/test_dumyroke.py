@@ -239,6 +239,86 @@ class Errors(unittest.TestCase):
         self.assertEqual([dumyroke.parse(Longer(b"{a}")).text, dumyroke.parse(Other("{a}")).text], ["{a}", "{a}"])
 
 
+class Validation(unittest.TestCase):
+    # A document for each rule, with the message of graphql-core 3.2.8, which has single quotes, as graphql-js once had.
+    BROKEN = {
+        "ExecutableDefinitions": ("{a} type T {a: B}", "The 'T' definition is not executable."),
+        "UniqueOperationNames": ("query Q {a} query Q {b}", "There can be only one operation named 'Q'."),
+        "LoneAnonymousOperation": ("{a} query Q {b}", "This anonymous operation must be the only defined operation."),
+        "UniqueArgumentNames": ("{a(b: 1, b: 2)}", "There can be only one argument named 'b'."),
+        "UniqueFragmentNames": ("{...F} fragment F on T {a} fragment F on T {b}", "There can be only one fragment named 'F'."),
+        "NoUnusedFragments": ("{a} fragment F on T {a}", "Fragment 'F' is never used."),
+        "KnownFragmentNames": ("{...F}", "Unknown fragment 'F'."),
+        "NoFragmentCycles": ("{...F} fragment F on T {a ...F}", "Cannot spread fragment 'F' within itself."),
+        "UniqueInputFieldNames": ("{a(b: {c: 1, c: 2})}", "There can be only one input field named 'c'."),
+        "UniqueVariableNames": ("query Q($a: B, $a: B) {c(d: $a)}", "There can be only one variable named '$a'."),
+        "NoUndefinedVariables": ("query Q {a(b: $c)}", "Variable '$c' is not defined by operation 'Q'."),
+        "NoUnusedVariables": ("query Q($a: B) {c}", "Variable '$a' is never used in operation 'Q'."),
+    }
+
+    def test_rules(self):
+        for rule, (text, message) in self.BROKEN.items():
+            (found,) = (violation for violation in dumyroke.validate(text) if violation.rule == rule)
+            self.assertEqual(found.message, message.replace("'", '"'))
+        self.assertEqual(dumyroke.validate("query Q($a: B) {c(d: $a) ...F} fragment F on T {e}"), [])
+        (repeated,) = dumyroke.validate("type T { a: B a: C }")
+        self.assertEqual(str(repeated), '1:15: Field "T.a" can only be defined once.')
+
+    def test_places(self):
+        text = "query E {a}\nquery Q($b: B) { c }"
+        (unused,) = dumyroke.validate(text)
+        self.assertEqual((unused.rule, text[slice(*unused.span)], text[slice(*unused.other.span)]), ("NoUnusedVariables", "$b: B", "query Q($b: B) { c }"))
+        self.assertEqual((unused.position, repr(unused)), (dumyroke.Position(2, 9, 9), "<NoUnusedVariables 20..25>"))
+        (unknown,) = dumyroke.validate("{...F}")
+        self.assertIsNone(unknown.other)
+
+    def test_many(self):
+        text = "{%s}" % " ".join(f"...F{number}" for number in range(2000))
+        self.assertEqual([len(dumyroke.validate(text, most)) for most in (0, 1, 17, 5000)], [0, 1, 17, 2000])
+        self.assertEqual(len(dumyroke.validate(text)), 1000)
+
+    def test_figures(self):
+        text = "{ a a } query Q { b: a @d { b ...F } } fragment F on T { c d }"
+        first, second = dumyroke.measure(text)
+        self.assertEqual((first.name, second.name, text[slice(*second.span)]), (None, "Q", "query Q { b: a @d { b ...F } }"))
+        self.assertEqual(first.figures, (1, 2, 2, 0, 0, 1, 1))
+        self.assertEqual(second.figures, (2, 4, 1, 1, 1, 4, 1))
+        self.assertEqual(len(dumyroke.measure(" ".join(f"query Q{number} {{a}}" for number in range(100)))), 100)
+
+    def test_bomb(self):
+        """Each of 1,000 fragments spreads the one after it twice: 2**1000 fields."""
+        text = "{...F0}" + " ".join(f"fragment F{n} on T {{a ...F{n + 1} ...F{n + 1}}}" for n in range(1000)) + "fragment F1000 on T {a}"
+        self.assertEqual(dumyroke.measure(text)[0].figures.fields, 2**64 - 1)
+
+    def test_no_figures(self):
+        cases = [
+            ("{a} fragment F on T {a} fragment F on T {b}", "1:25: two fragments have one name"),
+            ("{...F} fragment F on T {...F}", "1:25: a cycle of fragments"),
+            ("{\n ...F}", "2:2: a spread of no fragment"),
+        ]
+        for text, words in cases:
+            with self.assertRaises(dumyroke.NoFigures) as caught:
+                dumyroke.measure(text)
+            self.assertEqual((str(caught.exception), bool(caught.exception.other)), (words, "one name" in words))
+
+    def test_limits(self):
+        text = "query A {a} query B {a{b{c}}}"
+        self.assertIsNone(dumyroke.check_limits(text, max_depth=3, max_fields=3))
+        self.assertIsNone(dumyroke.check_limits(text, operation="A", max_depth=2))
+        exceeded = dumyroke.check_limits(text, max_fields=2, max_depth=2)
+        self.assertEqual((exceeded.operation.name, exceeded.limit, exceeded.most, exceeded.found), ("B", "depth", 2, 3))
+        self.assertEqual(str(exceeded), "1:13: depth is 3, and at most 2 is allowed")
+        self.assertEqual(dumyroke.check_limits("{a a}", max_root_fields=1, max_distinct_root_fields=1).limit, "root_fields")
+
+    def test_refused(self):
+        for call in (dumyroke.validate, dumyroke.measure, dumyroke.check_limits):
+            with self.assertRaises(dumyroke.NotADocument) as caught:
+                call("{a(b)}")
+            self.assertEqual(caught.exception.errors[0].line, 1)
+            self.assertRaises(dumyroke.NotADocument, call, "{a{b}}", recursion_limit=1)
+            self.assertRaises(UnicodeDecodeError, call, b"\xff")
+
+
 class Calls(unittest.TestCase):
     def test_format(self):
         self.assertEqual(dumyroke.format("{a,c:b}"), "{\n  a\n  c: b\n}\n")
@@ -296,7 +376,7 @@ class Calls(unittest.TestCase):
 
     def test_documentation(self):
         found = doctest.testmod(dumyroke)
-        self.assertEqual((found.failed, found.attempted), (0, 4))
+        self.assertEqual((found.failed, found.attempted), (0, 6))
 
     def test_typed(self):
         folder = Path(dumyroke.__file__).parent

@@ -135,7 +135,8 @@ def _limits(recursion_limit: int, token_limit: int | None) -> Limits:
     return Limits(min(recursion_limit, NO_LIMIT), NO_LIMIT if token_limit is None else min(token_limit, NO_LIMIT))
 
 
-def _given(text: str | bytes, recursion_limit: int, token_limit: int | None) -> tuple[bytes, Limits]:
+def given(text: str | bytes, recursion_limit: int, token_limit: int | None) -> tuple[bytes, Limits]:
+    """A text and limits as the library takes them."""
     if not isinstance(text, (str, bytes)):
         raise TypeError(f"a text is a str or bytes, and not {type(text).__name__}")
     # of a subclass, which may say another length, the text itself
@@ -145,7 +146,7 @@ def _given(text: str | bytes, recursion_limit: int, token_limit: int | None) -> 
 
 def _parsed(call: Any, text: str | bytes, recursion_limit: int, token_limit: int | None) -> Tree[Any]:
     """The tree that one of the library's calls gives for a text."""
-    source, limits = _given(text, recursion_limit, token_limit)
+    source, limits = given(text, recursion_limit, token_limit)
     buffers, positions = _filled(call, source, limits, ELEMENT_SIZE), Positions(source)
     errors, counts = buffers.errors_of(source, positions), buffers.counts
     tree: Tree[Any] = Tree(source, buffers.elements_of(), errors, counts.recursion_high, counts.token_high, positions)
@@ -178,7 +179,7 @@ def parse_type(text: str | bytes, recursion_limit: int = 500, token_limit: int |
 def lex(text: str | bytes, token_limit: int | None = None) -> list[Item]:
     """The items of a text in order, tokens and bad text, which join to it. If there are more than the limit allows, the end of the text counted,
     the limit is the last item. Exceptions are those of `parse`."""
-    source, limits = _given(text, 0, token_limit)
+    source, limits = given(text, 0, token_limit)
     buffers, positions = _filled(library.lex, source, limits.tokens, ITEM_SIZE), Positions(source)
     errors, rows = iter(buffers.errors_of(source, positions)), buffers.rows_of(ITEM_SIZE)
     _give_back(buffers)
@@ -193,7 +194,7 @@ def lex(text: str | bytes, token_limit: int | None = None) -> list[Item]:
 
 def check(text: str | bytes, recursion_limit: int = 500, token_limit: int | None = None) -> Errors:
     """The errors of a text. There are none exactly if it is a document within both limits. Limits and exceptions are those of `parse`."""
-    source, limits = _given(text, recursion_limit, token_limit)
+    source, limits = given(text, recursion_limit, token_limit)
     buffers = _filled(library.parse, source, limits, 0)
     errors = buffers.errors_of(source, Positions(source))
     _give_back(buffers)
@@ -202,7 +203,7 @@ def check(text: str | bytes, recursion_limit: int = 500, token_limit: int | None
 
 def format(text: str | bytes, recursion_limit: int = 500, token_limit: int | None = None) -> str:
     """A document in the layout of the program gqlfmt. Raises `NotADocument` with the errors if it is none, and else as `parse` does."""
-    source, limits = _given(text, recursion_limit, token_limit)
+    source, limits = given(text, recursion_limit, token_limit)
     room = 2 * len(source) + 64
     while True:
         formatted, size = bytearray(room), ctypes.c_size_t()

@@ -8,7 +8,7 @@ from ctypes import POINTER, c_char, c_char_p, c_size_t, c_uint32, c_void_p
 from mmap import mmap
 from typing import Any
 
-from .rows import NO_MEMORY, NOT_A_STRING, NOT_UTF8, TOO_LONG, Counts, Limits
+from .rows import NO_MEMORY, NOT_A_STRING, NOT_UTF8, TOO_LONG, Counts, Limits, MeasureCounts, ViolationCounts
 
 NO_LIMIT = c_size_t(-1).value
 
@@ -32,6 +32,14 @@ string_value.argtypes = [c_char_p, c_size_t, c_void_p, c_size_t, POINTER(c_size_
 format_document = _library.dumyroke_format
 format_document.restype = c_uint32
 format_document.argtypes = [c_char_p, c_size_t, Limits, c_void_p, c_size_t, POINTER(c_size_t)]
+
+validate = _library.dumyroke_validate
+validate.restype = c_uint32
+validate.argtypes = [c_char_p, c_size_t, Limits, c_size_t, c_void_p, c_size_t, c_void_p, c_size_t, POINTER(ViolationCounts)]
+
+measure = _library.dumyroke_measure
+measure.restype = c_uint32
+measure.argtypes = [c_char_p, c_size_t, Limits, c_void_p, c_size_t, POINTER(MeasureCounts)]
 
 
 def place(buffer: bytearray | mmap) -> Any:

@@ -6,7 +6,7 @@
 //!   else reaches, with its own length. So the rules of docs/BINDINGS.md ("What a caller has to keep") hold. A pointer with the length 0 may dangle: the
 //!   library neither reads nor writes there.
 //! - **What the library writes.** It fills the first `min(count, room)` items of a buffer and nothing else: this is proved of it (`ok` of the outcomes in
-//!   crates/dumyroke_flat/specs), and `filled` takes it from there. Any bits are a value of these items, which are plain numbers.
+//!   crates/dumyroke_flat/specs and crates/dumyroke_validation/specs), and `filled` takes it from there. Any bits are a value of these items, which are plain numbers.
 //! - **What the numbers say** is never trusted for memory safety. The rest of the crate uses indices, ranges and kinds with checks, and messages are
 //!   checked to be UTF-8. A wrong number would be a panic, and a wrong kind `ERROR`.
 //! - The library keeps no pointer after a call, has no state, takes its memory from `malloc`, and does not unwind. Any number of threads may call at
@@ -15,7 +15,8 @@
 #![allow(unsafe_code)]
 #![deny(unsafe_op_in_unsafe_fn)]
 
-use crate::rows::{CompactElement, Counts, ErrorRow, ItemRow, Limits, NO_MEMORY, OK, TOO_LONG};
+use crate::rows::{CompactElement, Counts, ErrorRow, ItemRow, Limits, MeasureCounts, OperationRow, ViolationCounts, ViolationRow};
+use crate::rows::{CYCLE, NOT_A_DOCUMENT, NO_MEMORY, OK, SAME_NAME, TOO_LONG, UNDEFINED};
 use crate::{Error, SyntaxKind};
 use std::alloc::{handle_alloc_error, Layout};
 use std::mem::{size_of_val, MaybeUninit};
@@ -55,6 +56,27 @@ extern "C" {
     ) -> u32;
 
     fn dumyroke_string_value(literal: *const u8, literal_length: usize, value: *mut MaybeUninit<u8>, room: usize, bytes: *mut usize) -> u32;
+
+    fn dumyroke_validate(
+        text: *const u8,
+        text_length: usize,
+        limits: Limits,
+        most: usize,
+        violations: *mut MaybeUninit<ViolationRow>,
+        violation_room: usize,
+        messages: *mut MaybeUninit<u8>,
+        message_room: usize,
+        counts: *mut ViolationCounts,
+    ) -> u32;
+
+    fn dumyroke_measure(
+        text: *const u8,
+        text_length: usize,
+        limits: Limits,
+        operations: *mut MaybeUninit<OperationRow>,
+        operation_room: usize,
+        counts: *mut MeasureCounts,
+    ) -> u32;
 }
 
 /// What a text is parsed as.
@@ -258,5 +280,52 @@ pub(crate) fn string_value(literal: &str) -> Option<String> {
         }
         NO_MEMORY => handle_alloc_error(Layout::for_value(literal)),
         _ => None,
+    }
+}
+
+/// The violations of a document with the bytes of their messages, at most so many; `None` if the text is no document within both limits.
+pub(crate) fn validate(text: &str, limits: Limits, most: usize) -> Option<(Vec<ViolationRow>, Vec<u8>)> {
+    let mut counts = ViolationCounts::default();
+    let (mut rows, mut messages) = (Vec::with_capacity(most.min(FEW_ERRORS)), Vec::with_capacity(FEW_BYTES));
+    loop {
+        let row_room: &mut [MaybeUninit<ViolationRow>] = rows.spare_capacity_mut();
+        let room: &mut [MaybeUninit<u8>] = messages.spare_capacity_mut();
+        // SAFETY: as in `parse`
+        let status = unsafe {
+            let (violations, bytes) = (row_room.as_mut_ptr(), room.as_mut_ptr());
+            dumyroke_validate(text.as_ptr(), text.len(), limits, most, violations, row_room.len(), bytes, room.len(), &mut counts)
+        };
+        match status {
+            OK if counts.violations <= rows.capacity() && counts.message_bytes <= messages.capacity() => {
+                // SAFETY: the call had the status OK and this room, which is enough for what it counts, so it wrote all of it
+                return Some(unsafe { (filled(rows, counts.violations), filled(messages, counts.message_bytes)) });
+            }
+            OK => {
+                rows.reserve_exact(counts.violations);
+                messages.reserve_exact(counts.message_bytes);
+            }
+            NOT_A_DOCUMENT => return None,
+            NO_MEMORY => handle_alloc_error(Layout::for_value(text)),
+            _ => unreachable!("dumyroke_validate has no status {status}"),
+        }
+    }
+}
+
+/// The operations of a document with their figures, or the counts of a call that gives none.
+pub(crate) fn measure(text: &str, limits: Limits) -> Result<Vec<OperationRow>, MeasureCounts> {
+    let mut counts = MeasureCounts::default();
+    let mut rows = Vec::with_capacity(FEW_ERRORS);
+    loop {
+        let room: &mut [MaybeUninit<OperationRow>] = rows.spare_capacity_mut();
+        // SAFETY: as in `parse`
+        let status = unsafe { dumyroke_measure(text.as_ptr(), text.len(), limits, room.as_mut_ptr(), room.len(), &mut counts) };
+        match status {
+            // SAFETY: the call had the status OK and this room, which is enough for what it counts, so it wrote all of it
+            OK if counts.operations <= rows.capacity() => return Ok(unsafe { filled(rows, counts.operations) }),
+            OK => rows.reserve_exact(counts.operations),
+            NOT_A_DOCUMENT | SAME_NAME | CYCLE | UNDEFINED => return Err(counts),
+            NO_MEMORY => handle_alloc_error(Layout::for_value(text)),
+            _ => unreachable!("dumyroke_measure has no status {status}"),
+        }
     }
 }

@@ -15,6 +15,7 @@ mod rows;
 mod token;
 mod token_text;
 mod tree;
+pub mod validation;
 
 pub use crate::error::Error;
 pub use crate::kind::SyntaxKind;

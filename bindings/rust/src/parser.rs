@@ -21,8 +21,8 @@ use std::sync::Arc;
 /// ```
 #[derive(Debug)]
 pub struct Parser<'input> {
-    text: &'input str,
-    limits: Limits,
+    pub(crate) text: &'input str,
+    pub(crate) limits: Limits,
 }
 
 impl<'input> Parser<'input> {

@@ -1,0 +1,187 @@
+"""Rules of validation that need no schema, and how large operations are."""
+
+from __future__ import annotations
+
+import ctypes
+from typing import NamedTuple, Sequence
+
+from . import library
+from .calls import NotADocument, check, given
+from .positions import Placed, Positions
+from .rows import NOT_A_DOCUMENT, OK, RULES, MeasureCounts, OperationRow, ViolationCounts, ViolationRow
+
+# Room for a first call, which is enough for most texts.
+_FEW_ROWS = 16
+_FEW_MESSAGE_BYTES = 1024
+
+
+class Violation(Placed):
+    """A place at which a document breaks a rule. `range` is the node that breaks it. `str(violation)` is `LINE:COLUMN: message`."""
+
+    __slots__ = ("rule", "message", "other")
+
+    rule: str
+    """The name that graphql-js gives the rule, as "NoUnusedVariables"."""
+    message: str
+    """What is wrong."""
+    other: Placed | None
+    """The other party: the first of the name, the operation whose variables are meant, or another operation or fragment."""
+
+    def __init__(self, row: ViolationRow, message: str, positions: Positions):
+        super().__init__((row.start, row.end), positions)
+        self.rule, self.message = RULES[row.rule], message
+        self.other = Placed((row.other_start, row.other_end), positions) if row.has_other else None
+
+    def __str__(self) -> str:
+        return f"{self.position.line}:{self.position.column}: {self.message}"
+
+    def __repr__(self) -> str:
+        return f"<{self.rule} {self.range[0]}..{self.range[1]}>"
+
+
+def validate(text: str | bytes, most: int = 1000, recursion_limit: int = 500, token_limit: int | None = None) -> list[Violation]:
+    """The places at which a document breaks a rule of the standard's section 5 that needs no schema, at most so many. If there are fewer, they are all,
+    and there are none exactly if it keeps all these rules.
+
+    Raises `NotADocument` with the errors if the text is none within both limits, and else as `parse` does."""
+    source, limits = given(text, recursion_limit, token_limit)
+    rows, room = _FEW_ROWS, _FEW_MESSAGE_BYTES
+    while True:
+        found, messages, counts = (ViolationRow * rows)(), bytearray(room), ViolationCounts()
+        words = library.place(messages), room, ctypes.byref(counts)
+        status = library.validate(source, len(source), limits, max(most, 0), ctypes.byref(found), rows, *words)
+        _raise_for(status, source, recursion_limit, token_limit)
+        if counts.violations <= rows and counts.message_bytes <= room:
+            break
+        rows, room = counts.violations, max(counts.message_bytes, 1)
+    positions = Positions(source)
+    return [Violation(row, messages[row.message : row.message + row.message_length].decode(), positions) for row in found[: counts.violations]]
+
+
+class Figures(NamedTuple):
+    """How large an operation is with the selections of its fragment in place of each fragment spread. A figure stops at 2**64 - 1."""
+
+    depth: int
+    """The greatest number of fields in one another: 2 for `{a{b}}`."""
+    fields: int
+    """The number of fields, `__typename` among them."""
+    root_fields: int
+    """The number of fields that no field encloses."""
+    aliases: int
+    """The number of aliases."""
+    directives: int
+    """The number of directives: of the operation, its variables, its selections, and its fragments at each of their spreads."""
+    height: int
+    """The number of fields, where each selection set counts a response name once. Apollo Router limits it as `max_height`."""
+    distinct_root_fields: int
+    """The number of root fields, counted like `height`."""
+
+
+class Operation(Placed):
+    """An operation of a document, with its figures."""
+
+    __slots__ = ("name", "figures")
+
+    name: str | None
+    """Its name, if it has one."""
+    figures: Figures
+    """How large it is."""
+
+    def __init__(self, row: OperationRow, source: bytes, positions: Positions):
+        super().__init__((row.start, row.end), positions)
+        self.name = source[row.name_start : row.name_end].decode() or None
+        self.figures = Figures(*(getattr(row, name) for name in Figures._fields))
+
+    def __repr__(self) -> str:
+        return f"<Operation {self.range[0]}..{self.range[1]}>"
+
+
+class NoFigures(ValueError):
+    """The operations of a document have no figures. Its words are `LINE:COLUMN: REASON`."""
+
+    reason: str
+    """Why: "two fragments have one name"; or an operation leads to "a cycle of fragments" or to "a spread of no fragment"."""
+    place: Placed
+    """The second fragment of the name, or the spread."""
+    other: Placed | None
+    """The first fragment of the name."""
+
+    def __init__(self, counts: MeasureCounts, positions: Positions):
+        self.reason = _REASONS[counts.status]
+        self.place = Placed((counts.start, counts.end), positions)
+        self.other = Placed((counts.other_start, counts.other_end), positions) if counts.other_end else None
+        super().__init__(f"{self.place.position.line}:{self.place.position.column}: {self.reason}")
+
+
+_REASONS = {6: "two fragments have one name", 7: "a cycle of fragments", 8: "a spread of no fragment"}
+
+
+def measure(text: str | bytes, recursion_limit: int = 500, token_limit: int | None = None) -> list[Operation]:
+    """The operations of a document, in order, with their figures. It takes no longer for a document that expands to very many fields.
+
+    Raises `NotADocument` with the errors if the text is none within both limits; `NoFigures` if two fragments have one name, or if an operation leads to
+    a cycle of fragments or to a spread of no fragment; and else as `parse` does."""
+    source, limits = given(text, recursion_limit, token_limit)
+    rows, positions = _FEW_ROWS, Positions(source)
+    while True:
+        found, counts = (OperationRow * rows)(), MeasureCounts()
+        status = library.measure(source, len(source), limits, ctypes.byref(found), rows, ctypes.byref(counts))
+        _raise_for(status, source, recursion_limit, token_limit)
+        if status != OK:
+            raise NoFigures(counts, positions)
+        if counts.operations <= rows:
+            return [Operation(row, source, positions) for row in found[: counts.operations]]
+        rows = counts.operations
+
+
+class Exceeded(NamedTuple):
+    """A limit that an operation exceeds. `str(exceeded)` is `LINE:COLUMN: LIMIT is FOUND, and at most MOST is allowed`."""
+
+    operation: Operation
+    limit: str
+    """The figure that is limited, as "depth"."""
+    most: int
+    """The greatest number that is allowed."""
+    found: int
+    """The operation's number, which is greater."""
+
+    def __str__(self) -> str:
+        position = self.operation.position
+        return f"{position.line}:{position.column}: {self.limit} is {self.found}, and at most {self.most} is allowed"
+
+
+def check_limits(
+    text: str | bytes,
+    *,
+    operation: str | None = None,
+    max_depth: int | None = None,
+    max_fields: int | None = None,
+    max_root_fields: int | None = None,
+    max_aliases: int | None = None,
+    max_directives: int | None = None,
+    max_height: int | None = None,
+    max_distinct_root_fields: int | None = None,
+    recursion_limit: int = 500,
+    token_limit: int | None = None,
+) -> Exceeded | None:
+    """The first operation that exceeds a limit, and the first limit that it exceeds, in the order of `Figures`; None if all are within the limits.
+
+    With `operation` only the operations of that name count, since a gateway executes one of several. Exceptions are those of `measure`."""
+    most = (max_depth, max_fields, max_root_fields, max_aliases, max_directives, max_height, max_distinct_root_fields)
+    measured = measure(text, recursion_limit, token_limit)
+    return first_exceeded([found for found in measured if operation in (None, found.name)], most)
+
+
+def first_exceeded(operations: Sequence[Operation], most: Sequence[int | None]) -> Exceeded | None:
+    """The first of the operations that exceeds a limit, and the first limit that it exceeds. The limits are in the order of `Figures`."""
+    for operation in operations:
+        for limit, allowed, found in zip(Figures._fields, most, operation.figures):
+            if allowed is not None and found > allowed:
+                return Exceeded(operation, limit, allowed, found)
+    return None
+
+
+def _raise_for(status: int, source: bytes, recursion_limit: int, token_limit: int | None) -> None:
+    library.raise_for(status, source)
+    if status == NOT_A_DOCUMENT:
+        raise NotADocument(check(source, recursion_limit, token_limit))

@@ -1,0 +1,70 @@
+//! Violations of rules, and figures of operations.
+use dumyroke::validation::{measure, validate, MeasureError, Rule};
+use dumyroke::Parser;
+
+fn rules(text: &str) -> Vec<Rule> {
+    validate(Parser::new(text), 100).unwrap().iter().map(|violation| violation.rule).collect()
+}
+
+#[test]
+fn a_document_for_each_rule() {
+    assert_eq!(rules("query Q($a: B) {c(d: $a) ...F} fragment F on T {e}"), []);
+    let broken = [
+        (Rule::ExecutableDefinitions, "{a} type T {a: B}"),
+        (Rule::UniqueOperationNames, "query Q {a} query Q {b}"),
+        (Rule::LoneAnonymousOperation, "{a} query Q {b}"),
+        (Rule::UniqueArgumentNames, "{a(b: 1, b: 2)}"),
+        (Rule::UniqueFragmentNames, "{...F} fragment F on T {a} fragment F on T {b}"),
+        (Rule::NoUnusedFragments, "{a} fragment F on T {a}"),
+        (Rule::KnownFragmentNames, "{...F}"),
+        (Rule::NoFragmentCycles, "{...F} fragment F on T {a ...F}"),
+        (Rule::UniqueInputFieldNames, "{a(b: {c: 1, c: 2})}"),
+        (Rule::UniqueVariableNames, "query Q($a: B, $a: B) {c(d: $a)}"),
+        (Rule::NoUndefinedVariables, "query Q {a(b: $c)}"),
+        (Rule::NoUnusedVariables, "query Q($a: B) {c}"),
+    ];
+    for (rule, text) in broken {
+        assert!(rules(text).contains(&rule), "{rule:?}");
+    }
+}
+
+#[test]
+fn places() {
+    let text = "query Q($a: Int) { a }";
+    let found = validate(Parser::new(text), 100).unwrap();
+    assert_eq!((found.len(), &text[found[0].range.clone()], found[0].other.clone()), (1, "$a: Int", Some(0..22)));
+    assert_eq!(validate(Parser::new("{...F}"), 100).unwrap()[0].other, None);
+}
+
+#[test]
+fn more_than_the_first_room() {
+    let spreads: String = (0..3000).map(|number| format!("...F{number} ")).collect();
+    let text = format!("{{{spreads}}}");
+    for most in [0, 1, 17, 3000] {
+        assert_eq!(validate(Parser::new(&text), most).unwrap().len(), most);
+    }
+    let operations: String = (0..100).map(|number| format!("query Q{number} {{a}} ")).collect();
+    assert_eq!(measure(Parser::new(&operations)).unwrap()[99].name.as_deref(), Some("Q99"));
+}
+
+#[test]
+fn figures() {
+    let found = measure(Parser::new("{ a a } query Q { b: a @d { b ...F } } fragment F on T { c d }")).unwrap();
+    let (first, second) = (&found[0], &found[1]);
+    assert_eq!((first.name.as_deref(), first.range.clone(), first.figures.fields, first.figures.height), (None, 0..7, 2, 1));
+    let figures = second.figures;
+    assert_eq!((figures.depth, figures.fields, figures.root_fields, figures.aliases, figures.directives), (2, 4, 1, 1, 1));
+    assert_eq!((figures.height, figures.distinct_root_fields), (4, 1));
+}
+
+#[test]
+fn no_figures() {
+    let error = |text| measure(Parser::new(text)).unwrap_err();
+    assert_eq!(error("{a} fragment F on T {a} fragment F on T {b}"), MeasureError::SameName(4..23, 24..43));
+    assert_eq!(error("{...F} fragment F on T {...F}"), MeasureError::Cycle(24..28));
+    assert_eq!(error("{ a ...F }"), MeasureError::Undefined(4..8));
+    assert!(matches!(error("{a"), MeasureError::NotADocument(errors) if errors.len() == 1));
+    let deep = || Parser::new("{a{b}}").recursion_limit(1);
+    assert!(matches!(measure(deep()), Err(MeasureError::NotADocument(errors)) if errors[0].is_limit()));
+    assert!(validate(deep(), 1).unwrap_err()[0].is_limit());
+}
