@@ -11,7 +11,7 @@ use Rattle.gqlfmt_files.specs.declared.settling.Settled.{Settled}
 use Rattle.program_words.specs.declared.information.Information.{Information}
 use Rattle.program_words.specs.declared.information.Information.TheVariants.{Help, Version}
 use Rattle.program_words.specs.declared.gqlfmt.Request.{Request}
-use Rattle.program_words.specs.declared.gqlfmt.Request.TheVariants.{Print, Format}
+use Rattle.program_words.specs.declared.gqlfmt.Request.TheVariants.{Print, Process}
 use Rattle.gqlfmt_run.specs.declared.command.TheConstants.{USAGE, HELP, VERSION, NO_MEMORY}
 use Rattle.gqlfmt_run.specs.Status.{status_of}
 use Rattle.gqlfmt_run.specs.Complaints.{IsWritten, Says}
@@ -71,7 +71,7 @@ module _ {S : Type 0} (reads : S → List ℕ → Option (List ℕ) → S → Ty
   abbrev pub Does : Option (Request Run) → ℕ → State S → State S → Type 0
   Does (Some (Print page)) status old new =
       IsPrinted (information_text page) status old.output new.output × (new.complaints ≡ old.complaints) × (new.input ≡ old.input) × (new.files ≡ old.files)
-  Does (Some (Format run)) status old new = Formats run.mode run.limits run.files status old new
+  Does (Some (Process run)) status old new = Formats run.mode run.limits run.files status old new
   Does None status old new = OnlySays USAGE.now status old new
 
   -- What a run does: that, or it says that memory was refused before the last of its words was read, and nothing else.

@@ -8,7 +8,6 @@
 mod command;
 mod diff;
 mod edits;
-mod excerpt;
 mod fault;
 mod formatting;
 mod input;

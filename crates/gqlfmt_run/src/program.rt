@@ -96,7 +96,7 @@ pub fn run<A: Allocator + Copy, L: DocumentFormatter, R: Source, W: Sink, E: Sin
 {
     match options(alloc, words) {
         Ok(Request::Print(page)) => print(writer, page),
-        Ok(Request::Format(plan)) => {
+        Ok(Request::Process(plan)) => {
             let job = Job {
                 alloc,
                 formatter,

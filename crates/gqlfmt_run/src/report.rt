@@ -4,13 +4,13 @@ ghost use Rattle.byte_devices.specs.Devices.{Account};
 ghost use Rattle.gqlfmt_run.specs.Complaints.{IsSilent, IsWritten, Tells, SaysOfFile};
 
 use crate::command::NO_MEMORY;
-use crate::excerpt::push_excerpt;
 use crate::fault::{FileFault, reason_of};
 use crate::formatting::Refusal;
 use apollo_parser::Error;
 use byte_devices::{Fault, Sink, write_all};
 use gqlfmt_files::{Files, Settled};
 use line_index::LineIndex;
+use marked_lines::push_message;
 use std::alloc::{AllocError, Allocator};
 use std::io::{self, ErrorKind};
 
@@ -26,29 +26,6 @@ fn offset_of<A: Allocator>(source: &str, error: &Error<A>) -> usize
     offset.min(source.len())
 }
 
-// The line of one error, which is shown at an offset, and the line of the text with the position marked.
-fn push_error<A: Allocator>(
-    report: &mut String<A>,
-    name: &str,
-    index: &LineIndex<'_, A>,
-    offset: usize,
-    error: &Error<A>,
-) -> Result<(), AllocError>
-    requires { offset ≤ length index.now }
-{
-    let position = index.line_column(offset);
-    let line = position.line.saturating_add(1);
-    let column = index.column_in_chars(offset).saturating_add(1);
-    let message = error.message();
-    writeln!(report, "{name}:{line}:{column}: {message}")?;
-    push_excerpt(
-        report,
-        index.line_text(offset),
-        position.column,
-        error.data(),
-    )
-}
-
 /// A line `NAME:LINE:COLUMN: MESSAGE` for each error, and below it the line of the text with the position marked. Lines and columns count from 1,
 /// columns in characters.
 pub fn render_report<A: Allocator + Copy>(
@@ -61,7 +38,14 @@ pub fn render_report<A: Allocator + Copy>(
     let mut report = String::new(alloc);
     for error in errors {
         let offset = offset_of(source, error);
-        push_error(&mut report, name, &index, offset, error)?;
+        push_message(
+            &mut report,
+            name,
+            &index,
+            offset,
+            error.message(),
+            error.data(),
+        )?;
     }
     Ok(report)
 }

@@ -9,7 +9,7 @@ use Rattle.program_words.specs.LimitOptions.{GivenLimits, no_limits, with_option
 use Rattle.program_words.specs.declared.information.Information.{Information}
 use Rattle.program_words.specs.Information.{information_of}
 use Rattle.program_words.specs.declared.gqlfmt.Request.{Request}
-use Rattle.program_words.specs.declared.gqlfmt.Request.TheVariants.{Print, Format}
+use Rattle.program_words.specs.declared.gqlfmt.Request.TheVariants.{Print, Process}
 use Rattle.program_words.specs.declared.gqlfmt.WordsError.{WordsError}
 use Rattle.program_words.specs.declared.gqlfmt.WordsError.TheVariants.{Usage, Memory}
 
@@ -89,18 +89,18 @@ run_given given =
 abbrev pub run_of : List (List ℕ) → Option Run
 run_of words = option_and_then run_given (given_by words)
 
-abbrev pub information_or_run : Option Information → Option Run → Option (Request Run)
+abbrev pub information_or_run : {R : Type 0} → Option Information → Option R → Option (Request R)
 information_or_run (Some page) run = Some (Print page)
-information_or_run None run = option_map Format run
+information_or_run None run = option_map Process run
 
 -- The request of the words: nothing where the program is not called so.
 abbrev pub request_of : List (List ℕ) → Option (Request Run)
 request_of words = information_or_run (information_of words) (run_of words)
 
 -- the same with runs for plans of another type
-abbrev pub request_map : {P : Type 0} → (P → Run) → Request P → Request Run
+abbrev pub request_map : {P R : Type 0} → (P → R) → Request P → Request R
 request_map run (Print page) = Print page
-request_map run (Format plan) = Format (run plan)
+request_map run (Process plan) = Process (run plan)
 
 -- What is read, seen as something else, is what was wanted; or there was nothing. Where memory was refused, this says nothing.
 module _ {T P : Type 0} (seen : P → T) where

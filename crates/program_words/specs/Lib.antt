@@ -5,3 +5,5 @@ pub mod Gqlcst
 pub mod Gqlfmt
 pub mod Gqlls
 pub mod Reading
+pub mod Gqlcheck
+pub mod CheckReading

@@ -1,10 +1,12 @@
 -- Reading the words, one after the other.
-use Rattle.std.specs.Prelude.{◌≡◌, ℕ, List, ◌∷◌, ◌++◌, drop, Option, Some, None, option_and_then, unwrap_or, Result, Ok, Err}
+use Rattle.std.specs.Prelude.{◌≡◌, ℕ, List, ◌∷◌, ◌++◌, codes, bytes_eq, if◌then◌else◌, drop}
+use Rattle.std.specs.Prelude.{Option, Some, None, option_and_then, unwrap_or, is_some, Result, Ok, Err}
 use denote.Ref.{Bor}
 use Rattle.std.specs.Option.{option_to_list}
 use Rattle.apollo_lexer.specs.Limits.{default_limits}
 use Rattle.apollo_lexer.specs.declared.limits.Limits.{Limits}
 use Rattle.program_words.specs.LimitOptions.{GivenLimits, limits_given}
+use Rattle.program_words.specs.Numbers.{number_of}
 use Rattle.program_words.specs.Gqlfmt.{texts, Given, Run, run_given, given_by}
 use Rattle.program_words.specs.Gqlls as gqlls
 use Rattle.program_words.specs.declared.limits.SetLimits.{SetLimits}
@@ -15,6 +17,16 @@ use Rattle.program_words.specs.declared.gqlfmt.WordsError.TheVariants.{Usage, Me
 -- the limits, with the default of one that is not set
 abbrev pub limits_set : SetLimits → Limits
 limits_set set = record { recursion = unwrap_or set.recursion default_limits.recursion; tokens = unwrap_or set.tokens default_limits.tokens }
+
+-- the limits with one more, which has no number yet
+abbrev pub set_limit : List ℕ → SetLimits → ℕ → Option SetLimits
+set_limit name set n =
+    if bytes_eq name (codes "--recursion") then (if is_some set.recursion then None else Some (record set { recursion = Some n }))
+    else (if bytes_eq name (codes "--tokens") then (if is_some set.tokens then None else Some (record set { tokens = Some n }))
+    else None)
+
+abbrev pub with_limit : List ℕ → List ℕ → SetLimits → Option SetLimits
+with_limit name value set = option_and_then (set_limit name set) (number_of value)
 
 -- what is given by options that set these limits, and then by others
 abbrev pub set_before : SetLimits → GivenLimits → GivenLimits

@@ -20,11 +20,11 @@ pub struct Plan<'a, A: Allocator> {
     pub files: Vec<&'a str, A>,
 }
 
-/// The request in the words: a page, or a run of this plan.
+/// The request in the words: a page, or the work of this plan.
 #[derive(Drop)]
 pub enum Request<P> {
     Print(Information),
-    Format(P),
+    Process(P),
 }
 
 /// Why words have no request.
@@ -87,7 +87,7 @@ struct Read<'a, A: Allocator> {
     files: Vec<&'a str, A>,
 }
 
-fn is_option(word: &str) -> bool
+pub(crate) fn is_option(word: &str) -> bool
     ensures { result ≡ is_option word.now }
 {
     matches!(word.as_bytes(), [b'-', ..])
@@ -182,5 +182,5 @@ pub fn options<'a, A: Allocator>(
         return Ok(Request::Print(page));
     }
     let plan = plan_of(alloc, words)?;
-    Ok(Request::Format(plan))
+    Ok(Request::Process(plan))
 }

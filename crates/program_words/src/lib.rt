@@ -1,10 +1,11 @@
 //! What the words of a command line have the programs do.
 //!
-//! `gqlcst_run` and `gqlfmt_run` call `options` of the module that has their program's name, on the words after it, and so does `gqlls`. The three take
-//! the options `--recursion N` and `--tokens N`, which are read by the same code and the same definition, and know `--help` and `--version`, by
-//! `information_of`. Nothing here knows the parser, so a check of the words takes seconds.
+//! `gqlcst_run`, `gqlfmt_run` and `gqlcheck_run` call `options` of the module that has their program's name, on the words after it, and so does `gqlls`.
+//! All take the options `--recursion N` and `--tokens N`, which are read by the same code, and know `--help` and `--version`, by `information_of`.
+//! Nothing here knows the parser, so a check of the words takes seconds.
 #![tactic(auto)]
 
+pub mod gqlcheck;
 pub mod gqlcst;
 pub mod gqlfmt;
 pub mod gqlls;

@@ -1,7 +1,7 @@
 // The two options that set limits.
 ghost use Rattle.std.specs.Prelude.{◌≡◌};
 ghost use Rattle.program_words.specs.LimitOptions.{with_option};
-ghost use Rattle.program_words.specs.Reading.{IsSetLimit, limits_set};
+ghost use Rattle.program_words.specs.Reading.{IsSetLimit, limits_set, with_limit};
 
 use crate::numbers::number_of;
 use apollo_lexer::Limits;
@@ -22,7 +22,8 @@ impl SetLimits {
 
     /// The limits with one more option, or nothing where no option has the name, the value is no number, or the option was given before.
     pub(crate) fn with(self, name: &str, value: &str) -> Option<SetLimits>
-        ensures { IsSetLimit self (with_option name.now value.now) result }
+        ensures given { IsSetLimit self (with_option name.now value.now) result }
+        ensures set { result ≡ with_limit name.now value.now self }
     {
         let number = number_of(value)?;
         match name {

@@ -7,4 +7,4 @@ returns-in-len1 t c = one-word c.args.set c.args.words.now c.in-len1.len_at_leas
 pub returns-in_ok-with-in-len2-up : goal.returns-in_ok-with-in-len2-up
 returns-in_ok-with-in-len2-up t c =
     two-words c.args.set c.in_ok-with-in-len2-up.field-0 c.args.words.now _ _ c.limits_after.result c.in-len2-up.len_at_least
-    c.in_ok-with-in-len2-up.ensures c.limits_after.ensures
+    c.in_ok-with-in-len2-up.ensures.given c.limits_after.ensures
