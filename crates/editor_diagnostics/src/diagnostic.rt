@@ -48,7 +48,7 @@ fn remark_words<'p>(remark: &'p Remark) -> [Piece<'p>; 9]
     ]
 }
 
-// Adds a diagnostic from one byte offset up to another, with what follows its range.
+// Adds a diagnostic from one byte offset up to another, and these words after its range.
 fn push_ranged<'p>(
     pieces: &mut Vec<Piece<'p>>,
     positions: &Positions<'_>,
