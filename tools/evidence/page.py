@@ -17,7 +17,7 @@ PARTS = {
     "`format`": "formatter/src/lib.rt",
     "`gqlfmt`": """gqlfmt_files/src/settling.rt program_words/src/gqlfmt.rt gqlfmt_run/src/input.rt gqlfmt_run/src/paths.rt gqlfmt_run/src/program.rt""",
     "C, Python and the page": """dumyroke_flat/src/parse.rt dumyroke_flat/src/items.rt dumyroke_flat/src/strings.rt dumyroke_flat/src/format.rt
-        dumyroke_flat/src/laws.rt dumyroke_c/src/lib.rt""",
+        dumyroke_flat/src/laws.rt dumyroke_validation/src/validating.rt dumyroke_validation/src/measuring.rt dumyroke_c/src/lib.rt""",
     "positions, and `gqlls`": """line_index/src/lib.rt editor_text/src/lib.rt rpc_frames/src/lib.rt rpc_messages/src rpc_serving/src editor_diagnostics/src
         editor_validation/src editor_answers/src program_words/src/gqlls.rt gqlls_run/src/server.rt gqlls_run/src/running.rt""",
     "validation": "apollo_validation/src/validation.rt",
