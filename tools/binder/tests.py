@@ -1,5 +1,6 @@
 """Tests the libraries for C, the headers, the Rust crate and the Python package, as they are and as they are installed."""
 
+import json
 import os
 import shutil
 import subprocess
@@ -135,6 +136,27 @@ def test_room(_folder):
         stop(f"of {count} texts, {twice} are parsed twice")
 
 
+def test_query_log(folder):
+    """The example prints the same with Dask, where a python3 has it, and without."""
+    log = folder / "log"
+    log.mkdir()
+    queries = ["{a b}", "{a", "query Q($a: B) {c}", "{...F ...F} fragment F on T {a {b}}"]
+    (log / "a.jsonl").write_text("".join(f"{json.dumps({'query': query})}\n" for query in queries))
+    there = {**os.environ, "PYTHONPATH": str(PYTHON)}
+    script = PYTHON / "examples/query_log.py"
+    printed = run(sys.executable, script, log, env=there, stdout=subprocess.PIPE).stdout.decode()
+    lines = [line.strip() for line in printed.splitlines()]
+    if lines[0] != "4 queries, 2 of them invalid" or lines[-2:] != ["4    2 a.jsonl:67", "2    1 a.jsonl:0"]:
+        stop(f"query_log.py prints\n{printed}")
+    for python in (sys.executable, "/usr/bin/python3"):
+        if not subprocess.run([python, "-c", "import distributed"], stderr=subprocess.DEVNULL).returncode:
+            again = run(python, script, log, "--workers", "2", env=there, stdout=subprocess.PIPE).stdout.decode()
+            if again != printed:
+                stop(f"query_log.py prints with Dask\n{again}")
+            return
+    print("there is no Dask: query_log.py was tried without it")
+
+
 def test_install(folder):
     """The C example compiles with the installed files and flags."""
     install([f"PREFIX={folder}/usr", "DESTDIR="])
@@ -153,7 +175,7 @@ def test_install(folder):
         stop(f"fields.c writes {ended.stdout.decode()}")
 
 
-PARTS = (test_c, test_trees, test_install, test_rust, test_rust_trees, test_python, test_room)
+PARTS = (test_c, test_trees, test_install, test_rust, test_rust_trees, test_python, test_query_log, test_room)
 # The parts that compare with the program gqlcst, which `rt ci` builds.
 COMPARING = (test_trees, test_rust_trees)
 
