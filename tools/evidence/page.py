@@ -22,6 +22,7 @@ PARTS = {
         editor_validation/src editor_answers/src program_words/src/gqlls.rt gqlls_run/src/server.rt gqlls_run/src/running.rt""",
     "validation": "apollo_validation/src/validation.rt",
     "the cost of operations": "operation_limits/src/measuring.rt operation_limits/src/limiting.rt expansion_figures/src/limits.rt",
+    "`gqlcheck`": "document_checks/src/checking.rt program_words/src/gqlcheck.rt gqlcheck_run/src/program.rt",
 }
 # Laws, and calls between crates: the page has their lemmas, and no definitions are listed for them.
 LAWS = """lexical_grammar/src/lib.rt lexical_grammar/src/escapes.rt document_grammar/src/kind.rt document_grammar/src/laws.rt grammar_machine/src/laws.rt

@@ -23,7 +23,7 @@ PLACES = "tools/generator/places.py"
 WORDS = "tools/generator/typed_docs.py"
 # The crates that have generated files.
 WRITTEN = (
-    *("document_grammar", "grammar_machine", "parser_rules", "apollo_grammar", "apollo_document", "apollo_parser", "gqlcst_run", "gqlfmt_run"),
+    *("document_grammar", "grammar_machine", "parser_rules", "apollo_grammar", "apollo_document", "apollo_parser", "gqlcst_run", "gqlfmt_run", "gqlcheck_run"),
     *("apollo_tree", "definition_rules", "dumyroke_flat", "dumyroke_validation", "gqlcst", "gqlls", *(path.name for path in CRATES.glob("apollo_cst_*"))),
 )
 

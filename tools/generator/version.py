@@ -7,6 +7,7 @@ from .layout import CRATES, TOP
 # Each file with the text before its version and the text after it.
 PLACES = {
     CRATES / "gqlcst/src/command.rt": ('pub const VERSION: &str = "gqlcst ', '\\n";'),
+    CRATES / "gqlcheck_run/src/command.rt": ('pub const VERSION: &str = "gqlcheck ', '\\n";'),
     CRATES / "gqlfmt_run/src/command.rt": ('pub const VERSION: &str = "gqlfmt ', '\\n";'),
     CRATES / "gqlls/src/command.rt": ('pub const VERSION: &str = "gqlls ', '\\n";'),
     TOP / "bindings/python/pyproject.toml": ('version = "', '"'),

@@ -1,0 +1,3 @@
+pub mod Measuring
+pub mod Verdicts
+pub mod Texts

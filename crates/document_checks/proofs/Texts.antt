@@ -1,0 +1,36 @@
+-- When a text passes.
+use Rattle.std.proofs.Common.{◌≡◌, ◌≢◌, ℕ, Bool, true, false, List, [], ◌∷◌, length, eqb, refl, ap, ◌∙◌, subst, arith}
+use Rattle.std.proofs.lemmas.Bool.Decides.{nat_tests}
+use Rattle.std.specs.Prelude.{◌↔◌}
+use Rattle.apollo_tree.specs.Order.{Place}
+use Rattle.apollo_parser.specs.Parsed.{Parsed}
+use Rattle.apollo_parser.specs.Promise.{Promise}
+use Rattle.apollo_parser.proofs.OneParse.{one-parse}
+use Rattle.apollo_validation.specs.Lists.{document_kind}
+use Rattle.apollo_validation.specs.Validity.{IsValidAs}
+use Rattle.document_checks.specs.Checking.{Asked, AreWithin, IsSound, Passes}
+use Rattle.document_checks.proofs.Verdicts.{fails}
+
+pub invalid : (asked : Asked) (document : Place) (passes : Bool) → passes ≡ false → (IsValidAs (document_kind document) document → ⊥)
+    → (passes ≡ true) ↔ IsSound asked document
+invalid asked document passes is not = fails passes is (λ s. not s.valid)
+
+pub valid : (asked : Asked) (document : Place) (passes : Bool) → IsValidAs (document_kind document) document → (passes ≡ true) ↔ AreWithin asked document
+    → (passes ≡ true) ↔ IsSound asked document
+valid asked document passes v iff = (λ e. record { valid = v; within = iff.0 e }, λ s. iff.1 s.within)
+
+pub empty_list : {X : Type 0} (xs : List X) → eqb (length xs) 0 ≡ true → xs ≡ []
+empty_list [] e = refl
+empty_list (x ∷ xs) e = absurd (grind (arith, nat_tests))
+
+pub refused : (asked : Asked) (source : List ℕ) (t : Parsed) (passes : Bool) → passes ≡ false → Promise source asked.limits.recursion asked.limits.tokens t
+    → t.errors ≢ [] → (passes ≡ true) ↔ Passes asked source
+refused asked source t passes is promise some =
+    fails passes is (λ p. some (ap (λ (u : Parsed). u.errors) (one-parse t p.parsed promise.by_rules p.promise.by_rules) ∙ p.no_errors))
+
+pub parsed : (asked : Asked) (source : List ℕ) (t : Parsed) (passes : Bool) → Promise source asked.limits.recursion asked.limits.tokens t
+    → t.errors ≡ [] → (passes ≡ true) ↔ IsSound asked (record { whole = t.tree; index = 0 }) → (passes ≡ true) ↔ Passes asked source
+parsed asked source t passes promise none iff = (
+  λ e. record { parsed = t; promise = promise; no_errors = none; sound = iff.0 e },
+  λ p. iff.1 (subst (λ (u : Parsed). IsSound asked (record { whole = u.tree; index = 0 })) (one-parse p.parsed t p.promise.by_rules promise.by_rules) p.sound),
+)

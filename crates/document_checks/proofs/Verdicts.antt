@@ -1,0 +1,121 @@
+-- When the operations of a document are within limits.
+use Rattle.std.proofs.Common.{◌≡◌, ◌≢◌, ℕ, ◌≤◌, Bool, true, false, List, [], ◌∷◌, map, refl, sym, ap, ap₂, ◌∙◌, subst, arith, get_or, cond}
+use Rattle.std.proofs.Common.{Option, Some, None, ltb}
+use Rattle.std.specs.Prelude.{◌↔◌, All, find}
+use Rattle.std.specs.List.{filter}
+use Rattle.std.proofs.lemmas.Bool.Decides.{nat_tests}
+use Rattle.std.proofs.lemmas.List.Elements.{All-get_or}
+use Rattle.apollo_tree.specs.Order.{Place}
+use Rattle.executable_document.specs.Definitions.{Defined, as_defined, defined}
+use Rattle.expansion_figures.specs.declared.figures.Figures.{Figures}
+use Rattle.expansion_figures.specs.declared.limits.Limit.{Limit}
+use Rattle.expansion_figures.specs.Limiting.{figure_of, limits_in_order}
+use Rattle.operation_limits.specs.Measures.{Measure, AreMeasures, AreTwins, IsMeasureError}
+use Rattle.operation_limits.specs.Limits.{IsWithin, IsExceeded}
+use Rattle.operation_limits.specs.declared.limiting.Exceeded.{Exceeded}
+use Rattle.operation_limits.specs.declared.measuring.MeasureError.{MeasureError}
+use Rattle.operation_limits.specs.declared.measuring.MeasureError.TheVariants.{SameName, Cycle, Undefined, Memory}
+use Rattle.document_checks.specs.Checking.{Asked, AreWithin, IsChosenWithin, is_chosen}
+use Rattle.document_checks.proofs.Measuring.{one_list, no_cycle, all_defined}
+
+-- ---- the figures are one list
+
+pairs : (ms ns : List Measure) → map (λ m. m.operation) ms ≡ map (λ m. m.operation) ns → map (λ m. m.figures) ms ≡ map (λ m. m.figures) ns → ms ≡ ns
+pairs [] [] o f = refl
+pairs [] (n ∷ ns) o f = absurd (let r : ⊥ = cc in r)
+pairs (m ∷ ms) [] o f = absurd (let r : ⊥ = cc in r)
+pairs (m ∷ ms) (n ∷ ns) o f =
+    let operation : m.operation ≡ n.operation = cc in
+    let figures : m.figures ≡ n.figures = cc in
+    let operations_after : map (λ m. m.operation) ms ≡ map (λ m. m.operation) ns = cc in
+    let figures_after : map (λ m. m.figures) ms ≡ map (λ m. m.figures) ns = cc in
+    ap₂ (λ (x : Measure) (xs : List Measure). x ∷ xs) (λ i. record { operation = operation i; figures = figures i })
+    (pairs ms ns operations_after figures_after)
+
+one_measures : (ds : List Defined) (ms ns : List Measure) → AreMeasures ds ms → AreMeasures ds ns → ms ≡ ns
+one_measures ds ms ns a b = pairs ms ns (a.operations_are ∙ sym b.operations_are) (one_list a.figures_are b.figures_are)
+
+-- ---- with an error there are none
+
+none_of_twins : (ds : List Defined) (a b : Defined) (ms : List Measure) → AreMeasures ds ms → AreTwins ds a b → ⊥
+none_of_twins ds a b ms m t =
+    let s = t.is_second in
+    omega (arith, ap number (sym s.first_is ∙ m.distinct t.second s.name s.second_is), s.apart)
+  where
+    number : Option ℕ → ℕ
+    number (Some n) = n
+    number None = 0
+
+-- a test of a condition
+pub fails : {P : Type 0} (passes : Bool) → passes ≡ false → (P → ⊥) → (passes ≡ true) ↔ P
+fails passes is not = (λ e. absurd (let r : ⊥ = cc in r), λ p. absurd (not p))
+
+pub holds : {P : Type 0} (passes : Bool) → passes ≡ true → P → (passes ≡ true) ↔ P
+holds passes is p = (λ e. p, λ q. is)
+
+no_figures : (asked : Asked) (document : Place) (e : MeasureError) → e ≢ Memory → IsMeasureError (defined document) e → AreWithin asked document → ⊥
+no_figures asked document (SameName a b) other error w = none_of_twins (defined document) (as_defined a) (as_defined b) w.measures w.figures error
+no_figures asked document (Cycle span) other error w = no_cycle error.0 span w.figures.figures_are error.1 error.2
+no_figures asked document (Undefined span) other error w = all_defined error.0 span w.figures.figures_are error.1 error.2
+no_figures asked document Memory other error w = other refl
+
+pub unmeasured : (asked : Asked) (document : Place) (e : MeasureError) (passes : Bool) → passes ≡ false → e ≢ Memory → IsMeasureError (defined document) e
+    → (passes ≡ true) ↔ AreWithin asked document
+unmeasured asked document e passes is other error = fails passes is (no_figures asked document e other error)
+
+-- with figures, it depends on them
+pub measured : (asked : Asked) (document : Place) (ms : List Measure) (passes : Bool) → AreMeasures (defined document) ms
+    → (passes ≡ true) ↔ IsChosenWithin asked ms → (passes ≡ true) ↔ AreWithin asked document
+measured asked document ms passes figures iff = (
+  λ e. record { measures = ms; figures = figures; chosen = iff.0 e },
+  λ w. iff.1 (subst (λ (ns : List Measure). IsChosenWithin asked ns) (one_measures (defined document) w.measures ms w.figures figures) w.chosen),
+)
+
+-- ---- limits
+
+first_of : (p : Limit → Bool) (b : Bool) (k l : Limit) (more : Option Limit) → p k ≡ b → cond b (Some k) more ≡ Some l → (more ≡ Some l → p l ≡ true)
+    → p l ≡ true
+first_of p true k l more h f later = let same : k ≡ l = cc in subst (λ (m : Limit). p m ≡ true) same h
+first_of p false k l more h f later = later f
+
+found : (p : Limit → Bool) (ls : List Limit) (l : Limit) → find p ls ≡ Some l → p l ≡ true
+found p [] l e = absurd (let r : ⊥ = cc in r)
+found p (k ∷ ls) l e = first_of p (p k) k l (find p ls) refl e (found p ls l)
+
+less : (m n : ℕ) → ltb m n ≡ true → n ≤ m → ⊥
+less m n e le = grind (arith, nat_tests)
+
+pub exceeds : (measures : List Measure) (limits : Figures) (e : Exceeded) → IsExceeded measures limits e → All (IsWithin limits) measures → ⊥
+exceeds measures limits e x all =
+    let one : IsWithin limits (get_or measures x.number x.measure) = All-get_or (IsWithin limits) measures x.number x.measure x.inside all in
+    let m : IsWithin limits x.measure = subst (IsWithin limits) x.measure_is one in
+    less (figure_of e.limit limits) (figure_of e.limit x.measure.figures)
+    (found (λ l. ltb (figure_of l limits) (figure_of l x.measure.figures)) limits_in_order e.limit x.limit_is)
+    (m e.limit)
+
+pub all_within : (measures : List Measure) (limits : Figures) (passes : Bool) → passes ≡ true → All (IsWithin limits) measures
+    → (passes ≡ true) ↔ All (IsWithin limits) measures
+all_within measures limits passes is all = holds passes is all
+
+pub one_exceeds : (measures : List Measure) (limits : Figures) (e : Exceeded) (passes : Bool) → passes ≡ false → IsExceeded measures limits e
+    → (passes ≡ true) ↔ All (IsWithin limits) measures
+one_exceeds measures limits e passes is x = fails passes is (exceeds measures limits e x)
+
+-- ---- the operations that are wanted
+
+-- the operation that is named is not there
+pub missing : (asked : Asked) (ms : List Measure) (passes : Bool) → filter (is_chosen asked.operation) ms ≡ [] → asked.operation ≢ None → passes ≡ false
+    → (passes ≡ true) ↔ IsChosenWithin asked ms
+missing asked ms passes none named is = fails passes is (λ w. w.there named none)
+
+-- it is there, or none is named
+pub judged : (asked : Asked) (ms chosen : List Measure) (passes : Bool) → chosen ≡ filter (is_chosen asked.operation) ms
+    → (asked.operation ≢ None → chosen ≢ []) → (passes ≡ true) ↔ All (IsWithin asked.most) chosen
+    → (passes ≡ true) ↔ IsChosenWithin asked ms
+judged asked ms chosen passes same there iff = (
+  λ e. record {
+    within = subst (λ (xs : List Measure). All (IsWithin asked.most) xs) same (iff.0 e);
+    there = λ named empty. there named (same ∙ empty);
+  },
+  λ w. iff.1 (subst (λ (xs : List Measure). All (IsWithin asked.most) xs) (sym same) w.within),
+)

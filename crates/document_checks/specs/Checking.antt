@@ -1,0 +1,68 @@
+-- Which texts pass.
+use Rattle.std.specs.Prelude.{◌≡◌, ◌≢◌, ℕ, Bool, true, false, List, [], All, bytes_eq, Option, Some, None, option_map}
+use Rattle.std.specs.List.{filter}
+use denote.Ref.{Bor}
+use Rattle.apollo_lexer.specs.declared.limits.Limits.{Limits}
+use Rattle.apollo_tree.specs.Order.{Place}
+use Rattle.apollo_parser.specs.Parsed.{Parsed}
+use Rattle.apollo_parser.specs.Promise.{Promise}
+use Rattle.name_lists.specs.Names.{Name}
+use Rattle.executable_document.specs.Definitions.{defined, operation_name}
+use Rattle.expansion_figures.specs.declared.figures.Figures.{Figures}
+use Rattle.operation_limits.specs.Measures.{Measure, AreMeasures}
+use Rattle.operation_limits.specs.Limits.{IsWithin}
+use Rattle.apollo_validation.specs.Lists.{document_kind}
+use Rattle.apollo_validation.specs.Validity.{IsValidAs}
+use Rattle.document_checks.specs.declared.report.Checks.{Checks}
+
+-- What a text is checked against: the parser's limits, the greatest figures that an operation may have, and the name of the operation that has to be
+-- within them, if it is not all of them.
+pub record Asked : Type 0 where
+  pub limits : Limits
+  pub most : Figures
+  pub operation : Option Name
+
+abbrev pub as_asked : Checks → Asked
+as_asked checks = record {
+  limits = checks.limits;
+  most = checks.most;
+  operation = option_map (λ (name : Bor (List ℕ)). name.now) checks.operation;
+}
+
+-- ---- limits
+
+abbrev pub has_name : Name → Option Name → Bool
+has_name wanted None = false
+has_name wanted (Some name) = bytes_eq name wanted
+
+-- the operation is wanted
+abbrev pub is_chosen : Option Name → Measure → Bool
+is_chosen None m = true
+is_chosen (Some wanted) m = has_name wanted (operation_name m.operation)
+
+-- The operations that are wanted are within the limits, and if one is named, it is there.
+pub record IsChosenWithin (asked : Asked) (measures : List Measure) : Type 0 where
+  pub within : All (IsWithin asked.most) (filter (is_chosen asked.operation) measures)
+  pub there : asked.operation ≢ None → filter (is_chosen asked.operation) measures ≢ []
+
+-- The operations of a document have figures, and are so.
+pub record AreWithin (asked : Asked) (document : Place) : Type 0 where
+  pub measures : List Measure
+  pub figures : AreMeasures (defined document) measures
+  pub chosen : IsChosenWithin asked measures
+
+-- ---- texts
+
+-- The document is valid by the rules for its kind that need no schema, and its operations are within the limits.
+pub record IsSound (asked : Asked) (document : Place) : Type 0 where
+  pub valid : IsValidAs (document_kind document) document
+  pub within : AreWithin asked document
+
+-- The text passes.
+pub record Passes (asked : Asked) (source : List ℕ) : Type 0 where
+  -- its parse: the law `one_parse` says that there is no other
+  pub parsed : Parsed
+  pub promise : Promise source asked.limits.recursion asked.limits.tokens parsed
+  -- it is a document within both limits, as `Promise` has it
+  pub no_errors : parsed.errors ≡ []
+  pub sound : IsSound asked (record { whole = parsed.tree; index = 0 })

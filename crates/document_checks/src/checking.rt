@@ -1,0 +1,141 @@
+// Checking a text: its errors, then the rules, then the limits of its operations.
+ghost use Rattle.std.specs.Prelude.{◌≡◌, ◌↔◌, IfOk, true, false};
+ghost use Rattle.apollo_tree.specs.References.{node_place};
+ghost use Rattle.document_checks.specs.Checking.{IsSound, Passes, as_asked};
+
+use crate::operations::check_operations;
+use crate::report::{Checks, Finding, Report};
+use apollo_parser::{Error, Parser};
+use apollo_tree::SyntaxNode;
+use apollo_validation::{Rule, Violation, message, validate};
+use std::alloc::{AllocError, Global};
+
+// How many violations are looked for.
+const MOST: usize = 1000;
+
+// An error of the parser. One at the end of the text is shown after its last character that is no white space.
+fn syntax_finding(
+    alloc: Global,
+    source: &str,
+    error: &Error<Global>,
+) -> Result<Finding, AllocError> {
+    let start = if error.is_eof() {
+        source.trim_end().len()
+    } else {
+        error.index()
+    };
+    Ok(Finding {
+        start,
+        end: start.saturating_add(error.data().len()),
+        rule: "Syntax",
+        message: String::from_str(alloc, error.message())?,
+    })
+}
+
+// The report of a text that has errors.
+fn refused(
+    alloc: Global,
+    source: &str,
+    errors: &[Error<Global>],
+    most: usize,
+) -> Result<Report, AllocError>
+    ensures { IfOk result (λ report. report.passes ≡ false) }
+{
+    let mut findings = Vec::new(alloc);
+    for error in errors.iter().take(most) {
+        findings.push(syntax_finding(alloc, source, error)?)?;
+    }
+    let more = errors.len().saturating_sub(most);
+    Ok(Report::failed(alloc, findings, more))
+}
+
+// The name of a rule.
+fn name_of(rule: Rule) -> &'static str {
+    match rule {
+        Rule::ExecutableDefinitions => "ExecutableDefinitions",
+        Rule::UniqueOperationNames => "UniqueOperationNames",
+        Rule::LoneAnonymousOperation => "LoneAnonymousOperation",
+        Rule::UniqueArgumentNames => "UniqueArgumentNames",
+        Rule::UniqueFragmentNames => "UniqueFragmentNames",
+        Rule::NoUnusedFragments => "NoUnusedFragments",
+        Rule::KnownFragmentNames => "KnownFragmentNames",
+        Rule::NoFragmentCycles => "NoFragmentCycles",
+        Rule::UniqueInputFieldNames => "UniqueInputFieldNames",
+        Rule::UniqueVariableNames => "UniqueVariableNames",
+        Rule::NoUndefinedVariables => "NoUndefinedVariables",
+        Rule::NoUnusedVariables => "NoUnusedVariables",
+        Rule::UniqueFieldDefinitionNames => "UniqueFieldDefinitionNames",
+        Rule::UniqueArgumentDefinitionNames => "UniqueArgumentDefinitionNames",
+        Rule::UniqueEnumValueNames => "UniqueEnumValueNames",
+    }
+}
+
+fn violation_finding(alloc: Global, violation: &Violation<'_>) -> Result<Finding, AllocError> {
+    let text = message(alloc, violation)?;
+    Ok(Finding::at(violation.node, name_of(violation.rule), text))
+}
+
+// The report of a document that breaks rules.
+fn violated(alloc: Global, violations: &[Violation<'_>], most: usize) -> Result<Report, AllocError>
+    ensures { IfOk result (λ report. report.passes ≡ false) }
+{
+    let mut findings = Vec::new(alloc);
+    for violation in violations.iter().take(most) {
+        findings.push(violation_finding(alloc, violation)?)?;
+    }
+    let more = violations.len().saturating_sub(most);
+    Ok(Report::failed(alloc, findings, more))
+}
+
+// The report on a document, by the root of its tree without errors.
+#[tactic(auto, using(crate::proofs::Texts::invalid, crate::proofs::Texts::valid))]
+fn check_document(
+    alloc: Global,
+    document: &SyntaxNode<'_>,
+    checks: &Checks<'_>,
+) -> Result<Report, AllocError>
+    ensures { IfOk result (λ report. (report.passes ≡ true) ↔ IsSound (as_asked checks.now) (node_place document.now)) }
+{
+    let violations = validate(alloc, document, MOST)?;
+    if !violations.is_empty() {
+        let report = violated(alloc, violations.as_slice(), checks.findings)?;
+        return Ok(report);
+    }
+    let report = check_operations(alloc, document, checks)?;
+    Ok(report)
+}
+
+/// Checks a text: it passes exactly if it is a document within the parser's limits, which keeps all rules that need no schema, and each operation is
+/// within the limits, or the one that is named, which has to be there. It fails only where memory is refused.
+#[tactic(auto, using(crate::proofs::Texts::refused))]
+pub fn check(alloc: Global, source: &str, checks: &Checks<'_>) -> Result<Report, AllocError>
+    ensures { IfOk result (λ report. (report.passes ≡ true) ↔ Passes (as_asked checks.now) source.now) }
+{
+    let tree = Parser::within(source, checks.limits).parse(alloc)?;
+    let errors = tree.errors().as_slice();
+    if !errors.is_empty() {
+        let report = refused(alloc, source, errors, checks.findings)?;
+        return Ok(report);
+    }
+    let report = check_document(alloc, &tree.root(), checks)?;
+    Ok(report)
+}
+
+/// What checks texts.
+pub trait DocumentChecker {
+    /// What is found of a text, as the function `check` has it.
+    fn check(&self, source: &str, checks: &Checks<'_>) -> Result<Report, AllocError>
+        ensures { IfOk result (λ report. (report.passes ≡ true) ↔ Passes (as_asked checks.now) source.now) };
+}
+
+/// The function `check`, with its memory.
+#[derive(Clone, Copy)]
+pub struct Checker {
+    pub alloc: Global,
+}
+
+impl DocumentChecker for Checker {
+    fn check(&self, source: &str, checks: &Checks<'_>) -> Result<Report, AllocError> {
+        check(self.alloc, source, checks)
+    }
+}

@@ -1,0 +1,200 @@
+// Checking the operations of a valid document: their figures, and which limits they exceed.
+ghost use Rattle.std.specs.Prelude.{◌≡◌, ◌≢◌, ◌↔◌, All, IfOk, OnOk, map, true, false, option_map};
+ghost use Rattle.std.specs.List.{filter};
+ghost use Rattle.apollo_tree.specs.References.{node_place};
+ghost use Rattle.operation_limits.specs.Limits.{IsWithin};
+ghost use Rattle.operation_limits.specs.Measures.{as_measure};
+ghost use Rattle.operation_limits.specs.declared.measuring.MeasureError.TheVariants.{Memory};
+ghost use Rattle.document_checks.specs.Checking.{AreWithin, IsChosenWithin, as_asked, is_chosen};
+
+use crate::report::{Checks, Finding, OperationReport, Report};
+use apollo_tree::SyntaxNode;
+use expansion_figures::{Figures, Limit, Span};
+use operation_limits::{Exceeded, MeasureError, OperationFigures, measure, within};
+use std::alloc::{AllocError, Global};
+
+// Whether an operation is the one that is named, or none is named.
+fn is_chosen(measured: &OperationFigures<'_>, operation: Option<&str>) -> bool
+    ensures { result ≡ is_chosen (option_map (λ n. n.now) operation.entry) (as_measure measured.now) }
+{
+    let Some(wanted) = operation else {
+        return true;
+    };
+    match measured.operation.operation_name() {
+        Some(name) => name == wanted,
+        None => false,
+    }
+}
+
+// The operations that are wanted.
+fn chosen<'t>(
+    alloc: Global,
+    operations: &[OperationFigures<'t>],
+    operation: Option<&str>,
+) -> Result<Vec<OperationFigures<'t>>, AllocError>
+    ensures { IfOk result (λ found. map as_measure found.items ≡ filter (is_chosen (option_map (λ n. n.now) operation.entry)) (map as_measure operations.now)) }
+{
+    let mut found = Vec::new(alloc);
+    for measured in operations {
+        if is_chosen(measured, operation) {
+            found.push(*measured)?;
+        }
+    }
+    Ok(found)
+}
+
+// The name of an operation, which is empty where it has none.
+fn name_of<'t>(measured: &OperationFigures<'t>) -> &'t str {
+    measured.operation.operation_name().unwrap_or("")
+}
+
+fn figures_of(
+    alloc: Global,
+    operations: &[OperationFigures<'_>],
+) -> Result<Vec<OperationReport>, AllocError> {
+    let mut reports = Vec::new(alloc);
+    for measured in operations {
+        reports.push(OperationReport {
+            start: measured.operation.node.text_range().start(),
+            name: String::from_str(alloc, name_of(measured))?,
+            figures: measured.figures,
+        })?;
+    }
+    Ok(reports)
+}
+
+// The words for a limit.
+fn words_of(limit: Limit) -> &'static str {
+    match limit {
+        Limit::Depth => "depth",
+        Limit::Fields => "number of fields",
+        Limit::RootFields => "number of root fields",
+        Limit::Aliases => "number of aliases",
+        Limit::Directives => "number of directives",
+        Limit::Height => "height",
+        Limit::DistinctRootFields => "number of distinct root fields",
+    }
+}
+
+fn limit_finding(alloc: Global, exceeded: &Exceeded<'_>) -> Result<Finding, AllocError> {
+    let words = words_of(exceeded.limit);
+    let (found, most) = (exceeded.found, exceeded.most);
+    let message = format!(in alloc; "The {words} is {found}, and the limit {most}.")?;
+    Ok(Finding::at(exceeded.operation.node, "Limits", message))
+}
+
+// A finding for each operation that exceeds a limit: the first that it exceeds.
+fn exceeded_limits(
+    alloc: Global,
+    operations: &[OperationFigures<'_>],
+    checks: &Checks<'_>,
+) -> Result<Vec<Finding>, AllocError> {
+    let mut findings = Vec::new(alloc);
+    for measured in operations {
+        if let Err(exceeded) = within(&[*measured], &checks.most) {
+            findings.push(limit_finding(alloc, &exceeded)?)?;
+        }
+    }
+    Ok(findings)
+}
+
+// The report of a document that has no operation of the name.
+fn unknown_operation(alloc: Global, name: &str) -> Result<Report, AllocError>
+    ensures { IfOk result (λ report. report.passes ≡ false) }
+{
+    let message = format!(in alloc; "Unknown operation named \"{name}\".")?;
+    let finding = Finding {
+        start: 0,
+        end: 0,
+        rule: "KnownOperation",
+        message,
+    };
+    Report::of(alloc, finding)
+}
+
+// Whether all of these operations are within the limits.
+#[tactic(auto, using(crate::proofs::Verdicts::all_within, crate::proofs::Verdicts::one_exceeds))]
+fn are_within(operations: &[OperationFigures<'_>], most: &Figures) -> bool
+    ensures { (result ≡ true) ↔ All (IsWithin most.now) (map as_measure operations.now) }
+{
+    match within(operations, most) {
+        Ok(()) => true,
+        Err(_) => false,
+    }
+}
+
+// The report on operations that have these figures.
+#[tactic(auto, using(crate::proofs::Verdicts::missing, crate::proofs::Verdicts::judged))]
+fn limited(
+    alloc: Global,
+    operations: &[OperationFigures<'_>],
+    checks: &Checks<'_>,
+) -> Result<Report, AllocError>
+    ensures { IfOk result (λ report. (report.passes ≡ true) ↔ IsChosenWithin (as_asked checks.now) (map as_measure operations.now)) }
+{
+    let chosen = chosen(alloc, operations, checks.operation)?;
+    if checks.operation.is_some() && chosen.is_empty() {
+        let report = unknown_operation(alloc, checks.operation.unwrap_or(""))?;
+        return Ok(report);
+    }
+    let passes = are_within(chosen.as_slice(), &checks.most);
+    let findings = exceeded_limits(alloc, chosen.as_slice(), checks)?;
+    let operations = figures_of(alloc, chosen.as_slice())?;
+    Ok(Report {
+        passes,
+        findings,
+        more: 0,
+        operations,
+    })
+}
+
+// The place of an error, and what is wrong there; or memory was refused.
+fn fault_of(error: MeasureError<'_>) -> Result<(Span, &'static str), AllocError>
+    ensures { OnOk result (error.entry ≢ Memory) }
+{
+    match error {
+        MeasureError::SameName(_, second) => {
+            let range = second.node.text_range();
+            let span = Span {
+                start: range.start(),
+                end: range.end(),
+            };
+            Ok((span, "An earlier fragment has this name."))
+        }
+        MeasureError::Cycle(span) => Ok((span, "This spread is part of a cycle.")),
+        MeasureError::Undefined(span) => Ok((span, "No fragment has this name.")),
+        MeasureError::Memory => Err(AllocError),
+    }
+}
+
+// The report of a document whose operations have no figures.
+fn unmeasured(alloc: Global, error: MeasureError<'_>) -> Result<Report, AllocError>
+    ensures { IfOk result (λ report. (report.passes ≡ false) × (error.entry ≢ Memory)) }
+{
+    let (span, words) = fault_of(error)?;
+    let finding = Finding {
+        start: span.start,
+        end: span.end,
+        rule: "Limits",
+        message: String::from_str(alloc, words)?,
+    };
+    let report = Report::of(alloc, finding)?;
+    Ok(report)
+}
+
+/// The report on the operations of a document without errors, by the root of its tree.
+pub(crate) fn check_operations(
+    alloc: Global,
+    document: &SyntaxNode<'_>,
+    checks: &Checks<'_>,
+) -> Result<Report, AllocError>
+    ensures { IfOk result (λ report. (report.passes ≡ true) ↔ AreWithin (as_asked checks.now) (node_place document.now)) }
+{
+    match measure(alloc, document) {
+        Ok(operations) => limited(alloc, operations.as_slice(), checks),
+        Err(error) => {
+            let report = unmeasured(alloc, error)?;
+            Ok(report)
+        }
+    }
+}

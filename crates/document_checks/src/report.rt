@@ -1,0 +1,91 @@
+// What a text is checked against, and what is found.
+ghost use Rattle.std.specs.Prelude.{◌≡◌, IfOk, true, false};
+
+use apollo_parser::Limits;
+use apollo_tree::SyntaxNode;
+use expansion_figures::Figures;
+use std::alloc::{AllocError, Global};
+
+/// What a text is checked against.
+#[derive(Clone, Copy)]
+pub struct Checks<'a> {
+    /// The limits of the parser.
+    pub limits: Limits,
+    /// The greatest figures that an operation may have.
+    pub most: Figures,
+    /// The name of the operation that has to be within them, or `None` for all operations.
+    pub operation: Option<&'a str>,
+    /// How many findings are reported at most.
+    pub findings: usize,
+}
+
+/// Something that keeps a text from passing, or the first of the places of one.
+#[derive(Drop)]
+pub struct Finding {
+    /// The byte offset of its place.
+    pub start: usize,
+    /// The byte offset behind it.
+    pub end: usize,
+    /// What it offends: `Syntax`, `Limits`, `KnownOperation`, or the rule of validation under its name in graphql-js.
+    pub rule: &'static str,
+    pub message: String,
+}
+
+/// The figures of an operation.
+#[derive(Drop)]
+pub struct OperationReport {
+    /// The byte offset at which it begins.
+    pub start: usize,
+    /// Its name, which is empty where it has none.
+    pub name: String,
+    pub figures: Figures,
+}
+
+/// What is found of a text.
+#[derive(Drop)]
+pub struct Report {
+    /// Whether the text passes.
+    pub passes: bool,
+    /// The first things that keep it from passing, in the order in which they are found.
+    pub findings: Vec<Finding>,
+    /// How many more there are. If rules are broken, this counts up to a thousand.
+    pub more: usize,
+    /// The figures of its operations, if they have any and no rule is broken.
+    pub operations: Vec<OperationReport>,
+}
+
+impl Report {
+    /// A report of these findings alone, for a text that does not pass.
+    pub(crate) fn failed(alloc: Global, findings: Vec<Finding>, more: usize) -> Report
+        ensures { result.passes ≡ false }
+    {
+        Report {
+            passes: false,
+            findings,
+            more,
+            operations: Vec::new(alloc),
+        }
+    }
+
+    /// A report of one finding alone, for a text that does not pass.
+    pub(crate) fn of(alloc: Global, finding: Finding) -> Result<Report, AllocError>
+        ensures { IfOk result (λ report. report.passes ≡ false) }
+    {
+        let mut findings = Vec::new(alloc);
+        findings.push(finding)?;
+        Ok(Report::failed(alloc, findings, 0))
+    }
+}
+
+impl Finding {
+    /// A finding at a node.
+    pub(crate) fn at(node: SyntaxNode<'_>, rule: &'static str, message: String) -> Finding {
+        let range = node.text_range();
+        Finding {
+            start: range.start(),
+            end: range.end(),
+            rule,
+            message,
+        }
+    }
+}

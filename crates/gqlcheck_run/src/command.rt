@@ -1,0 +1,41 @@
+// What the program prints of itself.
+
+/// The version of the program.
+pub const VERSION: &str = "gqlcheck 0.1.0\n";
+
+/// How the program is called.
+pub const USAGE: &str = "usage: gqlcheck [OPTION..] [FILE..]\n";
+
+/// What is said where there is no memory for more.
+pub const NO_MEMORY: &str = "gqlcheck: out of memory\n";
+
+/// What it does, and its options.
+pub const HELP: &str = "usage: gqlcheck [OPTION..] [FILE..]
+
+Checks GraphQL documents before they run: that each is a document, keeps the
+rules that need no schema, and has operations within limits. Without FILE it
+reads standard input. It prints what it finds and changes no file.
+
+  --max-depth N       fields in one another
+  --max-fields N      fields, with each fragment counted where it is spread
+  --max-root-fields N
+  --max-aliases N
+  --max-directives N
+  --max-height N      fields, each response name counted once in a selection set
+  --max-distinct-root-fields N
+                      root fields, counted like the height
+  --operation NAME    limits and figures of this operation alone
+  --figures           print the figures of each operation
+  --json              print JSON, an object a line
+  --recursion N       how deep a document may nest (500 if not given)
+  --tokens N          how many tokens it may have, with white space, commas and
+                      comments (no limit if not given)
+  --help              print this text
+  --version           print the version
+
+Each option may be given once, before FILE or after. After -- all words are
+files.
+
+The status is 0 when all documents pass, 1 when one does not, and 2 when
+something could not be read or written.
+";

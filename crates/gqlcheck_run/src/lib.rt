@@ -1,0 +1,19 @@
+//! What the program `gqlcheck` does between its words, its devices and the files that it checks.
+//!
+//! `gqlcheck` calls `run`, which checks standard input or files and writes what keeps each text from passing. Devices and files are type parameters, so
+//! that contracts can name what is read; and so is the checker, since a caller of the parser is proved over all of its code.
+#![tactic(auto)]
+
+mod command;
+mod ending;
+mod job;
+mod json_lines;
+mod program;
+mod rendering;
+mod telling;
+mod texts;
+
+pub use command::{HELP, USAGE, VERSION};
+pub use document_checks::{Checker, DocumentChecker};
+pub use ending::FileFault;
+pub use program::run;

@@ -1,0 +1,117 @@
+// A run of the program.
+ghost use Rattle.std.specs.Prelude.{◌≡◌};
+ghost use Rattle.document_checks.specs.Checking.{as_asked};
+ghost use Rattle.program_words.specs.Gqlcheck.{request_of};
+ghost use Rattle.program_words.specs.Gqlfmt.{texts};
+ghost use Rattle.gqlcheck_run.specs.Program.{ChecksTexts, IsPrinted, Runs, information_text};
+
+use crate::command::{HELP, NO_MEMORY, USAGE, VERSION};
+use crate::job::Job;
+use crate::telling::say;
+use byte_devices::{Sink, Source, write_all};
+use document_checks::{Checks, DocumentChecker};
+use gqlfmt_files::Files;
+use program_words::gqlcheck::{Plan, options};
+use program_words::gqlfmt::{Request, WordsError};
+use program_words::information::Information;
+use std::alloc::Allocator;
+
+// How many findings of a text are printed at most.
+const FINDINGS: usize = 20;
+
+// The same as JSON.
+const JSON_FINDINGS: usize = 1000;
+
+fn information_text(page: Information) -> &'static str
+    ensures { result.now ≡ information_text page }
+{
+    match page {
+        Information::Help => HELP,
+        Information::Version => VERSION,
+    }
+}
+
+// Prints a page, and gives the status.
+fn print<W: Sink>(writer: &mut W, page: Information) -> u8
+    ensures { IsPrinted (information_text page) result (W.account writer.old) (W.account writer.new) }
+{
+    match write_all(writer, information_text(page).as_bytes()) {
+        Ok(()) => 0,
+        Err(_) => 2,
+    }
+}
+
+impl<'c, 'w, A: Allocator + Copy, C: DocumentChecker> Job<'c, 'w, A, C> {
+    // What a run of this plan does with each text.
+    fn of(alloc: A, checker: &'c C, plan: &Plan<'w, A>) -> Job<'c, 'w, A, C>
+        ensures limits { result.checks.limits ≡ plan.now.limits }
+        ensures most { result.checks.most ≡ plan.now.most }
+        ensures operation { result.checks.operation ≡ plan.now.operation }
+        ensures figures { result.figures ≡ plan.now.figures }
+    {
+        Job {
+            alloc,
+            checker,
+            checks: Checks {
+                limits: plan.limits,
+                most: plan.most,
+                operation: plan.operation,
+                findings: if plan.json { JSON_FINDINGS } else { FINDINGS },
+            },
+            figures: plan.figures,
+            json: plan.json,
+        }
+    }
+
+    // Checks the files at these paths, or standard input where there are none, and gives the status.
+    fn check<R: Source, W: Sink, E: Sink, F: Files>(
+        &self,
+        reader: &mut R,
+        writer: &mut W,
+        complaints: &mut E,
+        files: &mut F,
+        paths: &[&str],
+    ) -> u8
+        ensures { ChecksTexts F.reads (as_asked self.now.checks) self.now.figures (texts paths.now) result
+            (record { input = R.account reader.old; output = W.account writer.old; complaints = E.account complaints.old; files = files.old })
+            (record { input = R.account reader.new; output = W.account writer.new; complaints = E.account complaints.new; files = files.new }) }
+    {
+        match paths {
+            [] => self.check_input(reader, writer, complaints),
+            _ => self.check_files(files, writer, complaints, paths),
+        }
+    }
+}
+
+/// Carries out the request in the words after the program's name, and gives the status: 0 when all texts pass, 1 when one does not, 2 when something
+/// could not be read or written, memory was refused, or the program is not called so. Nothing is said on standard error but with status 2, and a text
+/// that passes prints nothing but its figures, if they are wanted. No file is changed.
+pub fn run<A: Allocator + Copy, C: DocumentChecker, R: Source, W: Sink, E: Sink, F: Files>(
+    alloc: A,
+    checker: &C,
+    reader: &mut R,
+    writer: &mut W,
+    complaints: &mut E,
+    files: &mut F,
+    words: &[&str],
+) -> u8
+    ensures { Runs F.reads (request_of (texts words.now)) result
+        (record { input = R.account reader.old; output = W.account writer.old; complaints = E.account complaints.old; files = files.old })
+        (record { input = R.account reader.new; output = W.account writer.new; complaints = E.account complaints.new; files = files.new }) }
+{
+    match options(alloc, words) {
+        Ok(Request::Print(page)) => print(writer, page),
+        Ok(Request::Process(plan)) => {
+            let job = Job::of(alloc, checker, &plan);
+            job.check(reader, writer, complaints, files, plan.files.as_slice())
+        }
+        Err(WordsError::Usage) => {
+            say(complaints, USAGE);
+            2
+        }
+        Err(WordsError::Memory) => {
+            say(complaints, NO_MEMORY);
+            2
+        }
+    }
+}

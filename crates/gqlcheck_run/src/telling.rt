@@ -1,0 +1,60 @@
+// What is said on standard error.
+ghost use Rattle.std.specs.Prelude.{◌≡◌};
+ghost use Rattle.byte_devices.specs.Devices.{Account};
+ghost use Rattle.gqlcheck_run.specs.Program.{Says, SaysOnlyFaults};
+
+use crate::command::NO_MEMORY;
+use crate::ending::{FileFault, reason_of};
+use byte_devices::{Fault, Sink, write_all};
+use std::alloc::Allocator;
+
+/// Writes a text. What the sink does not take is lost.
+pub fn say<E: Sink>(complaints: &mut E, text: &str)
+    ensures { Says text.now (E.account complaints.old) (E.account complaints.new) }
+{
+    let _ = write_all(complaints, text.as_bytes());
+}
+
+// Tells why a text was not checked.
+fn tell_fault<A: Allocator, E: Sink>(alloc: A, complaints: &mut E, name: &str, fault: Fault) {
+    let reason = reason_of(fault);
+    match format!(in alloc; "gqlcheck: {name}: {reason}\n") {
+        Ok(line) => say(complaints, line.as_str()),
+        Err(_) => say(complaints, NO_MEMORY),
+    }
+}
+
+/// Tells why standard input was not checked, if it was not.
+pub fn tell<A: Allocator, E: Sink>(
+    alloc: A,
+    complaints: &mut E,
+    name: &str,
+    ended: &Result<bool, Fault>,
+)
+    ensures { SaysOnlyFaults ended.now (E.account complaints.old) (E.account complaints.new) }
+{
+    if let Err(fault) = ended {
+        tell_fault(alloc, complaints, name, *fault);
+    }
+}
+
+/// Tells why the file at a path was not checked, if it was not.
+pub fn tell_of_file<A: Allocator, E: Sink>(
+    alloc: A,
+    complaints: &mut E,
+    path: &str,
+    ended: &Result<bool, FileFault>,
+)
+    ensures { SaysOnlyFaults ended.now (E.account complaints.old) (E.account complaints.new) }
+{
+    match ended {
+        Ok(_) => {}
+        Err(FileFault::Device(fault)) => tell_fault(alloc, complaints, path, *fault),
+        Err(FileFault::NotRead(error)) => {
+            match format!(in alloc; "gqlcheck: {path}: cannot read: {error}\n") {
+                Ok(line) => say(complaints, line.as_str()),
+                Err(_) => say(complaints, NO_MEMORY),
+            }
+        }
+    }
+}

@@ -1,0 +1,85 @@
+// Checking standard input, or files.
+ghost use Rattle.std.specs.Prelude.{◌≡◌, ℕ, List, IfOk, true, false};
+ghost use Rattle.byte_devices.specs.Runs.{Reads};
+ghost use Rattle.document_checks.specs.Checking.{as_asked};
+ghost use Rattle.program_words.specs.Gqlfmt.{texts};
+ghost use Rattle.gqlcheck_run.specs.Ending.{Ends};
+ghost use Rattle.gqlcheck_run.specs.Program.{ChecksFiles, ChecksInput, IsQuiet, Handles};
+
+use crate::ending::{FileFault, status_of};
+use crate::job::Job;
+use crate::telling::{tell, tell_of_file};
+use byte_devices::{Fault, Sink, Source, read_to_end};
+use document_checks::DocumentChecker;
+use gqlfmt_files::Files;
+use std::alloc::Allocator;
+
+/// The name of standard input in messages.
+pub const INPUT: &str = "<stdin>";
+
+impl<A: Allocator + Copy, C: DocumentChecker> Job<'_, '_, A, C> {
+    // Reads to the end, and checks the whole text.
+    fn read_input<R: Source, W: Sink>(&self, reader: &mut R, writer: &mut W) -> Result<bool, Fault>
+        ensures ends { (input : List ℕ) × Reads result input (R.account reader.old) (R.account reader.new) × Ends (as_asked self.now.checks) input result }
+        ensures quiet { IsQuiet self.now.figures result (W.account writer.old) (W.account writer.new) }
+    {
+        let bytes = read_to_end(self.alloc, reader)?;
+        self.check_bytes(writer, INPUT, bytes.as_slice())
+    }
+
+    /// Checks standard input, and gives the status.
+    pub fn check_input<R: Source, W: Sink, E: Sink>(
+        &self,
+        reader: &mut R,
+        writer: &mut W,
+        complaints: &mut E,
+    ) -> u8
+        ensures { ChecksInput (as_asked self.now.checks) self.now.figures result
+            (record { input = R.account reader.old; output = W.account writer.old; complaints = E.account complaints.old })
+            (record { input = R.account reader.new; output = W.account writer.new; complaints = E.account complaints.new }) }
+    {
+        let ended = self.read_input(reader, writer);
+        tell(self.alloc, complaints, INPUT, &ended);
+        status_of(&ended)
+    }
+
+    // Checks the file at a path.
+    fn check_file<F: Files, W: Sink>(
+        &self,
+        files: &mut F,
+        writer: &mut W,
+        path: &str,
+    ) -> Result<bool, FileFault>
+        ensures handles { Handles F.reads (as_asked self.now.checks) path.now result files.old files.new }
+        ensures quiet { IsQuiet self.now.figures result (W.account writer.old) (W.account writer.new) }
+    {
+        match files.read(self.alloc, path) {
+            Ok(bytes) => {
+                let passes = self.check_bytes(writer, path, bytes.as_slice())?;
+                Ok(passes)
+            }
+            Err(error) => Err(FileFault::NotRead(error)),
+        }
+    }
+
+    /// Checks the files at these paths in order, also after one that is not read, and gives the greatest of their statuses.
+    pub fn check_files<F: Files, W: Sink, E: Sink>(
+        &self,
+        files: &mut F,
+        writer: &mut W,
+        complaints: &mut E,
+        paths: &[&str],
+    ) -> u8
+        ensures { ChecksFiles F.reads (as_asked self.now.checks) self.now.figures (texts paths.now) result
+            (record { files = files.old; output = W.account writer.old; complaints = E.account complaints.old })
+            (record { files = files.new; output = W.account writer.new; complaints = E.account complaints.new }) }
+    {
+        let mut status = 0;
+        for path in paths {
+            let ended = self.check_file(files, writer, path);
+            tell_of_file(self.alloc, complaints, path, &ended);
+            status = status.max(status_of(&ended));
+        }
+        status
+    }
+}
