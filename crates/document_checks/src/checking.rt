@@ -7,7 +7,7 @@ use crate::operations::check_operations;
 use crate::report::{Checks, Finding, Report};
 use apollo_parser::{Error, Parser};
 use apollo_tree::SyntaxNode;
-use apollo_validation::{Rule, Violation, message, validate};
+use apollo_validation::{Violation, message, validate};
 use std::alloc::{AllocError, Global};
 
 // How many violations are looked for.
@@ -49,30 +49,9 @@ fn refused(
     Ok(Report::failed(alloc, findings, more))
 }
 
-// The name of a rule.
-fn name_of(rule: Rule) -> &'static str {
-    match rule {
-        Rule::ExecutableDefinitions => "ExecutableDefinitions",
-        Rule::UniqueOperationNames => "UniqueOperationNames",
-        Rule::LoneAnonymousOperation => "LoneAnonymousOperation",
-        Rule::UniqueArgumentNames => "UniqueArgumentNames",
-        Rule::UniqueFragmentNames => "UniqueFragmentNames",
-        Rule::NoUnusedFragments => "NoUnusedFragments",
-        Rule::KnownFragmentNames => "KnownFragmentNames",
-        Rule::NoFragmentCycles => "NoFragmentCycles",
-        Rule::UniqueInputFieldNames => "UniqueInputFieldNames",
-        Rule::UniqueVariableNames => "UniqueVariableNames",
-        Rule::NoUndefinedVariables => "NoUndefinedVariables",
-        Rule::NoUnusedVariables => "NoUnusedVariables",
-        Rule::UniqueFieldDefinitionNames => "UniqueFieldDefinitionNames",
-        Rule::UniqueArgumentDefinitionNames => "UniqueArgumentDefinitionNames",
-        Rule::UniqueEnumValueNames => "UniqueEnumValueNames",
-    }
-}
-
 fn violation_finding(alloc: Global, violation: &Violation<'_>) -> Result<Finding, AllocError> {
     let text = message(alloc, violation)?;
-    Ok(Finding::at(violation.node, name_of(violation.rule), text))
+    Ok(Finding::at(violation.node, violation.rule.name(), text))
 }
 
 // The report of a document that breaks rules.
