@@ -16,7 +16,7 @@ from .manuals import manuals
 from .npm import npm
 from .vsix import vsix
 
-PROGRAMS = ["gqlcst", "gqlfmt", "gqlls"]
+PROGRAMS = ["gqlcheck", "gqlcst", "gqlfmt", "gqlls"]
 DOCUMENTS = ["README.md", "LICENSE", "CHANGELOG.md", "docs/BINDINGS.md", "docs/DIFFERENCES.md", "docs/EDITORS.md", "docs/FORMAT.md", "docs/GRAMMAR.md", "docs/PROMISES.md"]
 
 
@@ -63,8 +63,8 @@ Installed-Size: {size}
 Depends: libc6 (>= {depends[0]}.{depends[1]})
 Section: devel
 Priority: optional
-Description: GraphQL parser with a proof, formatter and language server
- The programs gqlcst, gqlfmt and gqlls, and the library libdumyroke for C.
+Description: GraphQL parser with a proof, formatter, checker and language server
+ The programs gqlcheck, gqlcst, gqlfmt and gqlls, and the library libdumyroke for C.
 """
 
 
@@ -124,7 +124,7 @@ def proved():
     unproved = "NOT PROVED: the library was made without a proof, to try the packages.\n\n" if UNPROVED.exists() else ""
     return f"""{unproved}Dumyroke {version()}, from commit {commit}{" with changes" if changed else ""}, proved by {kit}.
 
-Programs: `run` of gqlcst_run, gqlfmt_run and gqlls_run is proved, with the devices of byte_devices; the system below them is trusted.
+Programs: `run` of gqlcheck_run, gqlcst_run, gqlfmt_run and gqlls_run is proved, with the devices of byte_devices; the system below them is trusted.
 libdumyroke, and so the Rust crate and the Python package; the page's module, which is the npm package's: each exported call is proved. Headers, Rust,
 Python, JavaScript, the module's memory, and the extension for VS Code are tested only.
 docs/PROMISES.md says what is proved. The provers and compilers of the kit, LLVM and the C library are trusted.
