@@ -1,6 +1,6 @@
 -- What is published of the documents that a client has open.
 use Rattle.std.specs.Prelude.{◌≡◌, ℕ, ℤ, List, [], ◌∷◌, Option}
-use Rattle.document_grammar.specs.Forests.{Forest}
+use Rattle.apollo_parser.specs.Forests.{Forest}
 use Rattle.apollo_parser.specs.Diagnostics.{Diagnostic}
 use Rattle.apollo_parser.specs.Parsed.{Parsed}
 use Rattle.apollo_parser.specs.Promise.{Promise}

@@ -1,4 +1,7 @@
-use Rattle.std.proofs.Common.{◌≡◌}
+use Rattle.std.proofs.Common.{◌≡◌, List, map, subst, sym}
+use Rattle.editor_diagnostics.specs.Remarks.{as_remarked}
+use Rattle.editor_diagnostics.specs.declared.remark.Remark.{Remark}
+use Rattle.gqlls_run.specs.Told.{AreRemarksOf}
 use Rattle.gqlls_run.proofs.Texts.{same_publication}
 use Rattle.gqlls_run.proofs.documents.Document.told.Goals as goal
 
@@ -8,5 +11,7 @@ returns-clause-told c = λ limits promise.
     record {
       parsed = c.args.self.now.tree;
       promise = promise;
-      published = same_publication _ _ _ _ _ _ _ _ _ c.in_ok-positions.ensures.encoding c.in_ok-positions.ensures.text errors c.in_ok-body.ensures.published;
+      remarks = map as_remarked c.as_slice.result.now;
+      said = subst (λ (found : List Remark). AreRemarksOf c.args.self.now.tree (map as_remarked found)) (sym c.as_slice.ensures.value) c.in_ok-remarks.ensures;
+      published = same_publication _ _ _ _ _ _ _ _ _ _ c.in_ok-positions.ensures.encoding c.in_ok-positions.ensures.text errors c.in_ok-body.ensures.published;
     }
