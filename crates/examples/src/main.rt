@@ -1,11 +1,12 @@
-//! Four small programs over the trees of `apollo_parser`, run one after the other on the document that standard input holds: its syntax
-//! errors, the variables that its operations never use, the fields of its types, and the fields of their keys.
+//! Five small programs over the trees of `apollo_parser`, run one after the other on the document that standard input holds: its syntax
+//! errors, the rules that it breaks, a limit on the cost of its operations, the fields of its types, and the fields of their keys.
 #![tactic(auto)]
 
 mod fields;
 mod key_fields;
+mod limiter;
+mod linter;
 mod syntax_errors;
-mod unused_variables;
 
 use apollo_parser::Parser;
 use std::io;
@@ -15,8 +16,10 @@ fn main(rt: HostRuntime) -> io::Result<()> {
     let tree = Parser::new(source.as_str()).parse(rt.alloc())?;
     let report = syntax_errors::report(rt.alloc(), source.as_str(), &tree)?;
     print!(rt; "{report}")?;
-    for name in unused_variables::unused_variables(rt.alloc(), tree.document())? {
-        println!(rt; "unused: ${name}")?;
+    let broken = linter::lint(rt.alloc(), source.as_str(), &tree.root())?;
+    print!(rt; "{broken}")?;
+    if let Some(reason) = limiter::refusal(rt.alloc(), &tree.root())? {
+        println!(rt; "refused: {reason}")?;
     }
     let list = fields::list(rt.alloc(), tree.root())?;
     print!(rt; "{list}")?;
