@@ -41,6 +41,7 @@ quick() {
 
 tests() {
     tools/format_texts --trial
+    tools/gqlcheck_tests
     tools/figures
     tools/validation
     tools/bindings
