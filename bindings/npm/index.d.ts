@@ -19,6 +19,9 @@ export const STATUS: {
   readonly NO_MEMORY: number;
   readonly NOT_A_STRING: number;
   readonly NOT_A_DOCUMENT: number;
+  readonly SAME_NAME: number;
+  readonly CYCLE: number;
+  readonly UNDEFINED: number;
 };
 
 export interface Limits {
