@@ -49,7 +49,7 @@ def test_manuals(_folder):
     """Each manual page names the options that the program names when it gets `--help`, whether it takes that or says how it is called."""
     for program in PROGRAMS:
         said = subprocess.run([TOP / f"crates/{program}/out/{program}", "--help"], stdin=subprocess.DEVNULL, capture_output=True, text=True)
-        named = set(re.findall(r"--[a-z]+", said.stdout + said.stderr))
+        named = set(re.findall(r"--[a-z]+(?:-[a-z]+)*", said.stdout + said.stderr))
         listed = {word.name for word in words(program) if word.is_option}
         if named != listed:
             stop(f"the manual page of {program} and what it says of itself differ in {' '.join(sorted(named ^ listed))}")
