@@ -19,8 +19,11 @@ export const STATUS: {
   readonly NO_MEMORY: number;
   readonly NOT_A_STRING: number;
   readonly NOT_A_DOCUMENT: number;
+  /** Two fragments have one name. */
   readonly SAME_NAME: number;
+  /** An operation leads to a cycle of fragments. */
   readonly CYCLE: number;
+  /** An operation leads to a spread of no fragment. */
   readonly UNDEFINED: number;
 };
 
@@ -65,12 +68,53 @@ export interface Written {
   text: string;
 }
 
+export interface Place {
+  start: number;
+  end: number;
+}
+
+/** How large an operation is with the selections of its fragment in place of each fragment spread. A figure stops at 2n ** 64n - 1n. */
+export interface Operation extends Place {
+  /** Its name, or null where it has none. */
+  name: string | null;
+  /** The greatest number of fields in one another: 2n for `{a{b}}`. */
+  depth: bigint;
+  /** The number of fields, `__typename` among them. */
+  fields: bigint;
+  /** The number of fields that no field encloses. */
+  rootFields: bigint;
+  /** The number of aliases. */
+  aliases: bigint;
+  /** The number of directives: of the operation, its variables, its selections, and its fragments at each of their spreads. */
+  directives: bigint;
+  /** The number of fields, where each selection set counts a response name once. Apollo Router limits it as `max_height`. */
+  height: bigint;
+  /** The number of root fields, counted like `height`. */
+  distinctRootFields: bigint;
+}
+
+export interface Measured {
+  /** One of STATUS. With SAME_NAME, CYCLE or UNDEFINED the operations have no figures. */
+  status: number;
+  /** The first operations, where the status is OK. */
+  operations: Operation[];
+  /** How many operations there are. */
+  operationCount: number;
+  /** The second fragment of the name, or the spread, where there are no figures. */
+  place: Place | null;
+  /** The first fragment of the name. */
+  other: Place | null;
+}
+
 export class Parser {
   constructor(module: WebAssembly.Module);
   /** Parses any text. RangeError or WebAssembly.RuntimeError is thrown where the engine's stack or memory is too small. */
   parse(text: string, limits?: Limits, mostErrors?: number): Parsed;
   /** Formats a document. One with errors has the status NOT_A_DOCUMENT. */
   format(text: string, limits?: Limits): Written;
+  /** Measures the operations of a document, all of them or the first `mostOperations`. One with errors has the status NOT_A_DOCUMENT. It takes no longer for a
+   * document that expands to very many fields. */
+  measure(text: string, limits?: Limits, mostOperations?: number): Measured;
   /** The value of a string literal with its quotes. */
   stringValue(literal: string): Written;
 }

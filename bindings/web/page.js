@@ -1,13 +1,17 @@
 // The page: the text, the tree, the errors and the fields together. The parser is in a worker.
 import { Editor, piece } from "./editor.js";
 import { isSupported } from "./parser.js";
-import { STATUS, WORDS } from "./rows.js";
+import { FIGURES, STATUS, WORDS } from "./rows.js";
 import { movedTo, Tree } from "./tree.js";
 import { TreeView } from "./tree_view.js";
 
 const MOST_LISTED = 200;
 // Longer texts have no link, and no undo once they are formatted: Chromium takes minutes to type a long text.
 const [LONGEST_LINK, LONGEST_UNDONE] = [20000, 100000];
+const NO_FIGURES = { [STATUS.SAME_NAME]: "two fragments have one name", [STATUS.CYCLE]: "a cycle of fragments", [STATUS.UNDEFINED]: "a spread of no fragment" };
+// Figures that count a response name once in its selection set, and the figures that count each. They are left out where they are the same.
+const COUNTED_ONCE = { height: "fields", distinctRootFields: "rootFields" };
+const REFUSED = "The parser was refused memory, or the text is too long for it.";
 const NO_MEMORY64 = "This browser has no 64-bit memory for WebAssembly, which the parser needs: Chrome and Edge have it from version 133 on, Firefox from 134 on.";
 
 const at = (id) => document.getElementById(id);
@@ -18,12 +22,12 @@ const waiting = new Map();
 // The last parse, the element that is chosen, and where places of the parse are in the text of now.
 let [tree, errors, chosen] = [new Tree("", { rows: new Uint32Array(WORDS), textEnd: 0 }), [], null];
 let moved = (place) => place;
-// The timer of the address, which browsers refuse to set too often.
-let linking;
+// The timers of the figures, which take as long as a parse, and so wait for a pause, and of the address, which browsers refuse to set too often.
+let [measuring, linking] = [];
 
-// Gives the worker a task, after the running one. Of each sort the last one that waits is kept.
-function ask(task) {
-  waiting.set(task, { task, text: editor.text, limits: { recursion: limit("recursion", 500), tokens: limit("tokens", null) } });
+// Gives the worker a task, after the running one. Of each sort the last one that waits is kept. `most` is how many operations are wanted.
+function ask(task, most) {
+  waiting.set(task, { task, text: editor.text, limits: { recursion: limit("recursion", 500), tokens: limit("tokens", null) }, most });
   if (running === null) next();
 }
 
@@ -37,10 +41,11 @@ function next() {
 function answered({ data }) {
   const { task, text } = running;
   next();
-  if (data.failed !== undefined) say(data.failed, "failed");
+  if (task === "measure") showMeasured(text, data);
+  else if (data.failed !== undefined) say(data.failed, "failed");
   else if (task === "format") showFormatted(text, data);
   else if (data.status === STATUS.OK) showParsed(text, data);
-  else say("The parser was refused memory, or the text is too long for it.", "failed");
+  else say(REFUSED, "failed");
 }
 
 const limit = (id, otherwise) => (at(id).value === "" ? otherwise : Math.max(0, Math.trunc(at(id).valueAsNumber)));
@@ -55,6 +60,7 @@ function say(summary, state, details = "") {
 // Until a text that changed is parsed, it keeps the colours of the text before, where they are now.
 function changed() {
   moved = movedTo(tree.text, editor.text);
+  clearTimeout(measuring);
   if (worker !== null) ask("parse");
 }
 
@@ -66,21 +72,44 @@ function showParsed(text, found) {
   chosen = null;
   const verdict = found.errorCount === 0 ? ["A GraphQL document", "document"] : [count(found.errorCount, "error"), "errors"];
   say(...verdict, `${count(tree.length, "element")} · nesting ${found.depth} · ${found.took.toFixed(1)} ms`);
-  at("errors").replaceChildren(...errors.slice(0, MOST_LISTED).map(listed));
-  if (found.errorCount > MOST_LISTED) at("errors").append(piece("more", `and ${count(found.errorCount - MOST_LISTED, "more error")}`, "li"));
+  list("errors", errors, found.errorCount, "error");
+  // the figures of the text before stay until those of this one are there
+  if (found.errorCount > 0) list("figures", []);
+  else if (text === editor.text) measuring = setTimeout(() => ask("measure", MOST_LISTED), 150);
   if (document.activeElement === editor.area && text === editor.text) follow(editor.area.selectionStart, editor.area.selectionEnd);
   else editor.render();
   clearTimeout(linking);
   linking = setTimeout(() => history.replaceState(null, "", text.length <= LONGEST_LINK ? `#${encodeURIComponent(text)}` : location.pathname), 300);
 }
 
-function listed(error) {
-  const { line, column } = editor.position(error.start);
+// Lists the first places, with their messages, and how many more there are.
+function list(id, places, placeCount, noun) {
+  at(id).replaceChildren(...places.slice(0, MOST_LISTED).map(listed));
+  if (placeCount > MOST_LISTED) at(id).append(piece("more", `and ${count(placeCount - MOST_LISTED, `more ${noun}`)}`, "li"));
+}
+
+function listed({ start, end, message }) {
+  const { line, column } = editor.position(start);
   const [item, button] = [piece("", "", "li"), piece("", "", "button")];
-  button.append(piece("place", `${line}:${column}`), " ", piece("message", error.message));
-  button.onclick = () => editor.select(moved(error.start), moved(error.end), true);
+  button.append(piece("place", `${line}:${column}`), " ", piece("message", message));
+  button.onclick = () => editor.select(moved(start), moved(end), true);
   item.append(button);
   return item;
+}
+
+// Lists the operations with their figures, or says why they have none.
+function showMeasured(text, { failed, status, operations, operationCount, place }) {
+  if (text !== tree.text || errors.length > 0) return;
+  if (status === STATUS.OK) list("figures", operations.map(figured), operationCount, "operation");
+  else if (status in NO_FIGURES) list("figures", [{ ...place, message: `No figures: ${NO_FIGURES[status]}` }]);
+  else at("figures").replaceChildren(piece("more", `No figures: ${failed ?? REFUSED}`, "li"));
+}
+
+// An operation in the words of gqlcheck.
+function figured({ start, end, name, ...operation }) {
+  const shown = Object.keys(FIGURES).filter((figure) => operation[figure] !== operation[COUNTED_ONCE[figure]]);
+  const words = shown.map((figure) => `${figure.replace(/[A-Z]/g, (letter) => ` ${letter.toLowerCase()}`)} ${operation[figure]}`);
+  return { start, end, message: `${name ?? "anonymous operation"}: ${words.join(", ")}` };
 }
 
 function showFormatted(text, { status, text: formatted }) {

@@ -1,6 +1,6 @@
 // The calls of the parser, a WebAssembly module with 64-bit memory: its addresses and lengths are BigInts. This runs in workers and in node.
 
-import { COUNTS, COUNTS_BYTES, ERROR, ERROR_BYTES, WORD, WORDS } from "./rows.js";
+import { COUNTS, COUNTS_BYTES, ERROR, ERROR_BYTES, FIGURES, MEASURE_COUNTS, MEASURE_COUNTS_BYTES, OPERATION, OPERATION_BYTES, WORD, WORDS } from "./rows.js";
 import { NODE } from "./tree.js";
 
 const PAGE_BYTES = 65536;
@@ -24,6 +24,12 @@ function unitsBefore(bytes) {
   units[bytes.length] = unit;
   return units;
 }
+
+// Fields of a row, by the byte of each field.
+const numbers = (row, at, fields) => fields.map((field) => Number(row.getBigUint64(at[field], true)));
+
+// The same of fields that are places of a text, with what `unitsBefore` gives for it, or null where each character is one byte.
+const places = (row, at, fields, units) => numbers(row, at, fields).map((byte) => units?.[byte] ?? byte);
 
 export class Parser {
   // A parser with a module that was compiled.
@@ -78,6 +84,8 @@ export class Parser {
 
   #bytes = (start, length) => new Uint8Array(this.memory.buffer, start, length);
 
+  #row = (start, bytes) => new DataView(this.memory.buffer, start, bytes);
+
   // Writes a text to memory of which all was taken back: its address and its length in bytes.
   #write(text) {
     this.#clear();
@@ -112,9 +120,8 @@ export class Parser {
       const [given, counts] = [this.#writeLimits(limits), this.#place(COUNTS_BYTES)];
       const [elements, errors, messages] = [room.elements * WORDS * 4, mostErrors * ERROR_BYTES, room.messages].map((bytes) => this.#place(bytes));
       const status = this.#call("dumyroke_parse", source, length, given, elements, room.elements, errors, mostErrors, messages, room.messages, counts);
-      const there = new DataView(this.memory.buffer, counts, COUNTS_BYTES);
       const fields = ["elements", "text_bytes", "errors", "message_bytes", "recursion_high", "token_high"];
-      const [elementCount, textBytes, errorCount, messageBytes, depth, items] = fields.map((field) => Number(there.getBigUint64(COUNTS[field], true)));
+      const [elementCount, textBytes, errorCount, messageBytes, depth, items] = numbers(this.#row(counts, COUNTS_BYTES), COUNTS, fields);
       if (elementCount <= room.elements && messageBytes <= room.messages) {
         const units = length === text.length ? null : unitsBefore(this.#bytes(source, length));
         const rows = new Uint32Array(this.memory.buffer, elements, elementCount * WORDS).slice();
@@ -128,11 +135,41 @@ export class Parser {
 
   #errors(start, count, messages, units) {
     return Array.from({ length: count }, (_, i) => {
-      const row = new DataView(this.memory.buffer, start + i * ERROR_BYTES, ERROR_BYTES);
-      const [from, to, message, bytes] = ["start", "end", "message", "message_length"].map((field) => Number(row.getBigUint64(ERROR[field], true)));
+      const row = this.#row(start + i * ERROR_BYTES, ERROR_BYTES);
+      const [from, to] = places(row, ERROR, ["start", "end"], units);
+      const [message, bytes] = numbers(row, ERROR, ["message", "message_length"]);
       const [isLimit, isEnd] = ["is_limit", "is_eof"].map((field) => row.getUint32(ERROR[field], true) === 1);
       const said = new TextDecoder().decode(messages.subarray(message, message + bytes));
-      return { start: units?.[from] ?? from, end: units?.[to] ?? to, message: said, isLimit, isEnd };
+      return { start: from, end: to, message: said, isLimit, isEnd };
+    });
+  }
+
+  // Measures the operations of a document: the first ones with their figures, which are BigInts, and how many there are. Where they have no figures, the status
+  // says why, `place` where, and `other` where the first fragment of the name is.
+  measure(text, limits = {}, mostOperations = Infinity) {
+    for (let room = Math.min(mostOperations, 1000); ; ) {
+      const [source, length] = this.#write(text);
+      const [given, counts, rows] = [this.#writeLimits(limits), this.#place(MEASURE_COUNTS_BYTES), this.#place(room * OPERATION_BYTES)];
+      const status = this.#call("dumyroke_measure", source, length, given, rows, room, counts);
+      const there = this.#row(counts, MEASURE_COUNTS_BYTES);
+      const [operationCount] = numbers(there, MEASURE_COUNTS, ["operations"]);
+      const count = Math.min(operationCount, mostOperations);
+      if (count <= room) {
+        const units = length === text.length ? null : unitsBefore(this.#bytes(source, length));
+        const [start, end, otherStart, otherEnd] = places(there, MEASURE_COUNTS, ["start", "end", "other_start", "other_end"], units);
+        const [place, other] = [end === 0 ? null : { start, end }, otherEnd === 0 ? null : { start: otherStart, end: otherEnd }];
+        return { status, operations: this.#operations(rows, count, text, units), operationCount, place, other };
+      }
+      room = count;
+    }
+  }
+
+  #operations(start, count, text, units) {
+    return Array.from({ length: count }, (_, i) => {
+      const row = this.#row(start + i * OPERATION_BYTES, OPERATION_BYTES);
+      const [from, to, nameStart, nameEnd] = places(row, OPERATION, ["start", "end", "name_start", "name_end"], units);
+      const figures = Object.entries(FIGURES).map(([name, at]) => [name, row.getBigUint64(at, true)]);
+      return { name: text.slice(nameStart, nameEnd) || null, start: from, end: to, ...Object.fromEntries(figures) };
     });
   }
 

@@ -7,8 +7,13 @@ export const STATUS = { OK: 0, NOT_UTF8: 1, TOO_LONG: 2, NO_MEMORY: 3, NOT_A_STR
 export const WORDS = 3;
 export const WORD = { start_and_node: 0, size_and_parent: 1, parent_low: 2 };
 
-// An error's row and the counts: their bytes, and the byte of each field.
+// The rows of errors and of operations, and the counts: their bytes, and the byte of each field. The figures of an operation have the names of JavaScript.
 export const ERROR_BYTES = 40;
 export const ERROR = { start: 0, end: 8, message: 16, message_length: 24, is_limit: 32, is_eof: 36 };
 export const COUNTS_BYTES = 56;
 export const COUNTS = { elements: 0, text_bytes: 8, errors: 16, message_bytes: 24, recursion_high: 32, token_high: 40, status: 48 };
+export const OPERATION_BYTES = 88;
+export const OPERATION = { start: 0, end: 8, name_start: 16, name_end: 24 };
+export const FIGURES = { depth: 32, fields: 40, rootFields: 48, aliases: 56, directives: 64, height: 72, distinctRootFields: 80 };
+export const MEASURE_COUNTS_BYTES = 48;
+export const MEASURE_COUNTS = { operations: 0, start: 8, end: 16, other_start: 24, other_end: 32, status: 40 };

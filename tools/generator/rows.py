@@ -148,15 +148,28 @@ pub(crate) const RULES: [Rule; {len(rules())}] = [{named}];
 """
 
 
+def camel(name):
+    """The name that JavaScript gives a field: `root_fields` is `rootFields`."""
+    return re.sub(r"_(\w)", lambda at: at[1].upper(), name)
+
+
+def byte_rows(made):
+    """What the page knows of the rows that it reads by the byte."""
+    for name in ("ErrorRow", "Counts", "OperationRow", "MeasureCounts"):
+        found, size = offsets(made[name])
+        figures = [field for field, kind in made[name] if kind == "u64"]
+        listed = ", ".join(f"{field}: {at}" for field, at in found.items() if field not in figures)
+        yield f"export const {READ[name].upper()}_BYTES = {size};\nexport const {READ[name].upper()} = {{ {listed} }};\n"
+        if figures:
+            yield f"export const FIGURES = {{ {', '.join(f'{camel(field)}: {found[field]}' for field in figures)} }};\n"
+
+
 def for_page(text):
     """The module of the page."""
     made = structs(text)
     named = ", ".join(f"{name}: {number}" for name, number in statuses(text).items())
     element, size = offsets(made["CompactElement"])
     words = ", ".join(f"{field}: {at // 4}" for field, at in element.items() if at % 4 == 0)
-    errors, error_size = offsets(made["ErrorRow"])
-    counts, counts_size = offsets(made["Counts"])
-    listed = lambda found: ", ".join(f"{field}: {at}" for field, at in found.items())
     return f"""{mark("//", SOURCE)}// The statuses and the rows of the calls.
 export const STATUS = {{ {named} }};
 
@@ -165,12 +178,8 @@ export const STATUS = {{ {named} }};
 export const WORDS = {size // 4};
 export const WORD = {{ {words} }};
 
-// An error's row and the counts: their bytes, and the byte of each field.
-export const ERROR_BYTES = {error_size};
-export const ERROR = {{ {listed(errors)} }};
-export const COUNTS_BYTES = {counts_size};
-export const COUNTS = {{ {listed(counts)} }};
-"""
+// The rows of errors and of operations, and the counts: their bytes, and the byte of each field. The figures of an operation have the names of JavaScript.
+{"".join(byte_rows(made))}"""
 
 
 def outputs(_grammar):

@@ -9,6 +9,7 @@ const parser = await load();
 const text = 'query Q($id:ID!){hero(id:$id,of:"é"){name}}"';
 const parsed = parser.parse(text);
 const tree = new Tree(text, parsed);
+const measured = parser.measure("query Q { a { b b ...F } } fragment F on T { c }");
 const elements = Array.from({ length: tree.length }, (_, element) => element);
 
 // What the types name is there.
@@ -16,7 +17,9 @@ const names = (pattern, within) => [...within.matchAll(pattern)].map((at) => at[
 const body = (head) => types.slice(types.indexOf(head)).split("\n}")[0];
 for (const name of names(/^export (?:function|const|class) (\w+)/gm, types)) assert.ok(name in dumyroke, name);
 assert.deepEqual(names(/^  readonly (\w+)/gm, body("export const STATUS")), Object.keys(STATUS));
-for (const [head, value] of [["class Parser", parser], ["class Tree", tree], ["interface Parsed", parsed], ["interface ParseError", parsed.errors[0]]]) {
+const values = [["class Parser", parser], ["class Tree", tree], ["interface Parsed", parsed], ["interface ParseError", parsed.errors[0]]];
+values.push(["interface Measured", measured], ["interface Operation", measured.operations[0]]);
+for (const [head, value] of values) {
   const members = names(/^  (?:readonly )?(\w+)[(:?]/gm, body(`export ${head}`)).filter((name) => name !== "constructor");
   assert.ok(members.length >= 3);
   for (const name of members) assert.ok(name in value, `${head}: ${name}`);
@@ -35,3 +38,7 @@ assert.equal(tree.kind(tree.parent(tree.parent(name))), "FIELD");
 assert.deepEqual(parser.format("query Q($id:ID!){hero(id:$id){name}}"), { status: STATUS.OK, text: "query Q($id: ID!) {\n  hero(id: $id) {\n    name\n  }\n}\n" });
 assert.deepEqual(parser.stringValue('"a\\u00e9\\n"'), { status: STATUS.OK, text: "aé\n" });
 assert.equal(parser.parse("{ a { b } }", { recursion: 1 }).errors[0].isLimit, true);
+// counted by hand: the operation is `{ a { b b c } }` with its fragment expanded
+const figures = { depth: 2n, fields: 4n, rootFields: 1n, aliases: 0n, directives: 0n, height: 3n, distinctRootFields: 1n };
+assert.deepEqual(measured, { status: STATUS.OK, operations: [{ name: "Q", start: 0, end: 26, ...figures }], operationCount: 1, place: null, other: null });
+assert.deepEqual(parser.measure("{ ...F }").place, { start: 2, end: 6 });

@@ -22,6 +22,7 @@ const says = (part) => page.until(`document.getElementById('summary').textConten
 const text = () => page.evaluate("document.getElementById('text').value");
 const selection = () => page.evaluate("[document.getElementById('text').selectionStart, document.getElementById('text').selectionEnd]");
 const errors = () => page.evaluate("[...document.querySelectorAll('#errors button')].map((it) => it.textContent)");
+const figures = () => page.evaluate("[...document.querySelectorAll('#figures li')].map((it) => it.textContent)");
 const underlined = () => page.evaluate("[...document.querySelectorAll('.underlines span')].map((it) => it.textContent)");
 const rows = () => page.evaluate("[...document.querySelectorAll('.row')].map((it) => [+it.ariaLevel, ...[...it.children].map((part) => part.textContent)])");
 const chosen = () => page.evaluate("document.querySelector('.row[aria-selected=true] .kind')?.textContent ?? null");
@@ -63,6 +64,29 @@ const tests = {
     await page.click(x, y);
     assert.deepEqual(await selection(), [9, 10]);
     assert.equal(await page.evaluate("document.activeElement.id"), "text");
+  },
+
+  // Counted by hand. The words are those of gqlcheck.
+  async "each operation has its figures"() {
+    await show("{ a a }\nquery Q { b: a @d { b ...F } } fragment F on T { c d }");
+    await page.until("document.querySelectorAll('#figures button').length === 2");
+    assert.deepEqual(await figures(), [
+      "1:1 anonymous operation: depth 1, fields 2, root fields 2, aliases 0, directives 0, height 1, distinct root fields 1",
+      "2:1 Q: depth 2, fields 4, root fields 1, aliases 1, directives 1",
+    ]);
+    const { x, y } = await place("#figures li:nth-child(2) button");
+    await page.click(x, y);
+    assert.deepEqual(await selection(), [8, 38]);
+    await put(0);
+    await page.type("}");
+    await says("1 error");
+    assert.deepEqual(await figures(), []);
+  },
+
+  async "operations without figures say why"() {
+    await show("{ ...F } fragment F on T { ...F }");
+    await page.until("document.querySelector('#figures button') !== null");
+    assert.deepEqual([await summary(), await figures()], ["A GraphQL document", ["1:28 No figures: a cycle of fragments"]]);
   },
 
   // what README shows of this text

@@ -46,6 +46,47 @@ const tests = {
     assert.equal(parser.format("{").status, STATUS.NOT_A_DOCUMENT);
   },
 
+  // Counted by hand: the second operation is `query Q { b: a @d { b c d } }` with its fragment expanded. A selection set counts the name `a` twice once.
+  "figures of operations"() {
+    const text = '{ a(b: "é𝄞") a } query Q { b: a @d { b ...F } } fragment F on T { c d }';
+    const first = { name: null, start: 0, end: 17, depth: 1n, fields: 2n, rootFields: 2n, aliases: 0n, directives: 0n, height: 1n, distinctRootFields: 1n };
+    const second = { name: "Q", start: 18, end: 48, depth: 2n, fields: 4n, rootFields: 1n, aliases: 1n, directives: 1n, height: 4n, distinctRootFields: 1n };
+    assert.deepEqual(parser.measure(text), { status: STATUS.OK, operations: [first, second], operationCount: 2, place: null, other: null });
+    assert.deepEqual(parser.measure("type T { a: B }"), { status: STATUS.OK, operations: [], operationCount: 0, place: null, other: null });
+  },
+
+  "operations without figures"() {
+    const none = (text, limits) => {
+      const { status, operations, operationCount, place, other } = parser.measure(text, limits);
+      assert.deepEqual([operations, operationCount], [[], 0]);
+      return [status, place, other];
+    };
+    const [first, second] = [{ start: 4, end: 23 }, { start: 24, end: 43 }];
+    assert.deepEqual(none("{a} fragment F on T {a} fragment F on T {b}"), [STATUS.SAME_NAME, second, first]);
+    assert.deepEqual(none("{...F} fragment F on T {...F}"), [STATUS.CYCLE, { start: 24, end: 28 }, null]);
+    assert.deepEqual(none('{ a(b: "é𝄞") ...F }'), [STATUS.UNDEFINED, { start: 14, end: 18 }, null]);
+    for (const [text, limits] of [["{a"], [""], ["{a{b}}", { recursion: 1 }], ["{a}", { tokens: 2 }]]) assert.deepEqual(none(text, limits), [STATUS.NOT_A_DOCUMENT, null, null]);
+  },
+
+  "more operations than there is room for at first"() {
+    const names = Array.from({ length: 3000 }, (_, i) => `Q${i}`);
+    const text = names.map((name) => `query ${name} {a}`).join(" ");
+    assert.deepEqual(parser.measure(text).operations.map(({ name }) => name), names);
+    for (const most of [0, 3, 2000]) {
+      const { operations, operationCount } = parser.measure(text, {}, most);
+      assert.deepEqual([operations.map(({ name }) => name), operationCount], [names.slice(0, most), 3000]);
+    }
+  },
+
+  // each of 2,000 fragments spreads the next one twice: 2 ** 2001 - 1 fields, none in another
+  "a fragment bomb has its figures at once"() {
+    const bomb = Array.from({ length: 2000 }, (_, i) => `fragment F${i} on T {a ...F${i + 1} ...F${i + 1}}`).join(" ");
+    const begun = performance.now();
+    const [{ depth, fields, aliases }] = parser.measure(`{...F0} ${bomb} fragment F2000 on T {a}`).operations;
+    assert.ok(performance.now() - begun < 1000);
+    assert.deepEqual([depth, fields, aliases], [1n, 2n ** 64n - 1n, 0n]);
+  },
+
   "memory is taken back before the next call"() {
     const text = "{ a(b: [1, 2, 3]) }\n".repeat(20000);
     parser.parse(text);

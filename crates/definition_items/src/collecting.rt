@@ -10,7 +10,7 @@ use crate::naming::{is_new, number_of, response_name};
 use apollo_tree::{SyntaxKind, SyntaxNode};
 use executable_document::name_of_fragment;
 use expansion_figures::{Item, Span};
-use std::alloc::{AllocError, Global};
+use std::alloc::{AllocError, Allocator};
 use std::collections::BTreeMap;
 
 // How many fields of a definition enclose the nodes below one of its nodes.
@@ -26,7 +26,11 @@ fn inside(enclosing: usize, node: SyntaxNode<'_>) -> usize
 }
 
 // Adds the items of a field.
-fn add_field(enclosing: usize, is_new: bool, found: &mut Vec<Item>) -> Result<(), AllocError>
+fn add_field<A: Allocator + Copy>(
+    enclosing: usize,
+    is_new: bool,
+    found: &mut Vec<Item, A>,
+) -> Result<(), AllocError>
     ensures { OnOk result (found.new.items ≡ found.old.items ++ field_items enclosing is_new) }
 {
     found.push(Item::Field(enclosing))?;
@@ -37,11 +41,11 @@ fn add_field(enclosing: usize, is_new: bool, found: &mut Vec<Item>) -> Result<()
 }
 
 // Adds the item of another node. Most have none.
-fn add_other(
+fn add_other<A: Allocator + Copy>(
     node: &SyntaxNode<'_>,
-    fragments: &BTreeMap<&str, usize>,
+    fragments: &BTreeMap<&str, usize, A>,
     enclosing: usize,
-    found: &mut Vec<Item>,
+    found: &mut Vec<Item, A>,
 ) -> Result<(), AllocError>
     ensures { OnOk result (found.new.items ≡ found.old.items ++ other_items (number_of fragments.now) enclosing (node_place node.now)) }
 {
@@ -68,12 +72,12 @@ fn add_other(
 }
 
 // Adds the items of a node itself.
-fn add<'t>(
+fn add<'t, A: Allocator + Copy>(
     node: &SyntaxNode<'t>,
-    fragments: &BTreeMap<&str, usize>,
+    fragments: &BTreeMap<&str, usize, A>,
     enclosing: usize,
-    names: &mut BTreeMap<&'t str, ()>,
-    found: &mut Vec<Item>,
+    names: &mut BTreeMap<&'t str, (), A>,
+    found: &mut Vec<Item, A>,
 ) -> Result<(), AllocError>
     ensures { OnOk result ((seen : List Name) → AreNames names.old seen
         → Adds (number_of fragments.now) enclosing (node_place node.now) seen found.old.items found.new.items names.new) }
@@ -88,18 +92,18 @@ fn add<'t>(
 }
 
 // Adds the items of all nodes below a node.
-fn collect<'t>(
-    alloc: Global,
+fn collect<'t, A: Allocator + Copy>(
+    alloc: A,
     node: &SyntaxNode<'t>,
-    fragments: &BTreeMap<&str, usize>,
+    fragments: &BTreeMap<&str, usize, A>,
     enclosing: usize,
-    found: &mut Vec<Item>,
+    found: &mut Vec<Item, A>,
 ) -> Result<(), AllocError>
     requires { enclosing ≤ (node_place node.now).index }
     ensures { OnOk result (found.new.items ≡ found.old.items ++ items_below (node_place node.now).whole (number_of fragments.now) enclosing
         (suc (node_place node.now).index) [] (tree_kids (tree_at (node_place node.now)))) }
 {
-    let mut names: BTreeMap<&'t str, ()> = BTreeMap::new(alloc);
+    let mut names: BTreeMap<&'t str, (), A> = BTreeMap::new(alloc);
     for child in node.children() {
         add(&child, fragments, enclosing, &mut names, found)?;
         collect(alloc, &child, fragments, inside(enclosing, child), found)?;
@@ -109,11 +113,11 @@ fn collect<'t>(
 
 /// The items of an operation or a fragment, where `fragments` has the number of the first definition of each fragment. A spread of no fragment
 /// names the definition with the number `usize::MAX`.
-pub fn items(
-    alloc: Global,
+pub fn items<A: Allocator + Copy>(
+    alloc: A,
     definition: &SyntaxNode<'_>,
-    fragments: &BTreeMap<&str, usize>,
-) -> Result<Vec<Item>, AllocError>
+    fragments: &BTreeMap<&str, usize, A>,
+) -> Result<Vec<Item, A>, AllocError>
     ensures { IfOk result (λ items. items.items ≡ definition_items (number_of fragments.now) (node_place definition.now)) }
 {
     let mut found = Vec::new(alloc);

@@ -10,7 +10,7 @@ use apollo_cst_executable::Alias;
 use apollo_tree::SyntaxNode;
 use executable_document::name;
 use name_lists::enter;
-use std::alloc::AllocError;
+use std::alloc::{AllocError, Allocator};
 use std::collections::BTreeMap;
 
 /// The response name of a field.
@@ -25,9 +25,9 @@ pub(crate) fn response_name<'t>(field: &SyntaxNode<'t>) -> Option<&'t str>
 }
 
 /// Whether a response name is new in its selection set, which then has it. A field without a name, after a syntax error, counts as new.
-pub(crate) fn is_new<'t>(
+pub(crate) fn is_new<'t, A: Allocator + Copy>(
     name: Option<&'t str>,
-    names: &mut BTreeMap<&'t str, ()>,
+    names: &mut BTreeMap<&'t str, (), A>,
 ) -> Result<bool, AllocError>
     ensures { IfOk result (λ new. (seen : List Name) → AreNames names.old seen → IsNoted (option_map (λ n. n.now) name.entry) seen names.new new) }
 {
@@ -38,7 +38,10 @@ pub(crate) fn is_new<'t>(
 }
 
 /// The number of the definition of the fragment with a name; where there is none, a number that no definition has.
-pub(crate) fn number_of(fragments: &BTreeMap<&str, usize>, name: Option<&str>) -> usize
+pub(crate) fn number_of<A: Allocator + Copy>(
+    fragments: &BTreeMap<&str, usize, A>,
+    name: Option<&str>,
+) -> usize
     ensures { result ≡ number_of fragments.now (option_map (λ n. n.now) name.entry) }
 {
     match name {

@@ -14,7 +14,7 @@ use apollo_cst_core::{CstNode, child};
 use apollo_cst_executable::Name;
 use apollo_parser::{Limits, SyntaxNode};
 use operation_limits::{MeasureError, OperationFigures, measure};
-use std::alloc::{AllocError, Global};
+use std::alloc::{AllocError, Allocator};
 
 // Where the name of an operation begins and has ended; two zeros where it has none.
 fn name_range<'t>(operation: &SyntaxNode<'t>) -> (usize, usize)
@@ -48,10 +48,10 @@ fn row_of(measured: &OperationFigures<'_>) -> OperationRow
     }
 }
 
-fn rows_of(
-    alloc: Global,
+fn rows_of<A: Allocator + Copy>(
+    alloc: A,
     operations: &[OperationFigures<'_>],
-) -> Result<Vec<OperationRow>, AllocError>
+) -> Result<Vec<OperationRow, A>, AllocError>
     ensures { IfOk result (λ rows. rows.items ≡ map operation_row (map as_measure operations.now)) }
 {
     let mut rows = Vec::new(alloc);
@@ -108,8 +108,8 @@ fn fault(error: MeasureError<'_>) -> MeasureCounts
 /// a row for each operation, as far as there is room, and answers how many there are, or why they have no figures.
 ///
 /// What it promises is `MeasureOutcome` in `specs/Outcomes.antt`.
-pub fn measure_into(
-    alloc: Global,
+pub fn measure_into<A: Allocator + Copy>(
+    alloc: A,
     source: &[u8],
     limits: Limits,
     operations: &mut [OperationRow],

@@ -4,14 +4,14 @@ ghost use Rattle.dumyroke_validation.specs.Outcomes.{IsDocumentParse, IsRefusal}
 
 use crate::rows::status;
 use apollo_parser::{DocumentRoot, Limits, Parser, SyntaxTree};
-use std::alloc::Global;
+use std::alloc::Allocator;
 
 /// The tree of a document within both limits, or the status of the call that refuses the bytes.
-pub(crate) fn read_document(
-    alloc: Global,
+pub(crate) fn read_document<A: Allocator + Copy>(
+    alloc: A,
     source: &[u8],
     limits: Limits,
-) -> Result<SyntaxTree<DocumentRoot>, u32>
+) -> Result<SyntaxTree<DocumentRoot, A>, u32>
     ensures document { IfOk result (IsDocumentParse source.now limits.recursion limits.tokens) }
     ensures refusal { IfErr result (IsRefusal source.now limits.recursion limits.tokens) }
 {

@@ -8,7 +8,7 @@ ghost use Rattle.executable_document.specs.Mentions.{as_named};
 use crate::mentioning::{Mention, name, name_of_fragment};
 use apollo_tree::{SyntaxKind, SyntaxNode};
 use name_lists::enter;
-use std::alloc::{AllocError, Global};
+use std::alloc::{AllocError, Allocator};
 use std::collections::BTreeMap;
 
 /// What an executable definition defines (GraphQL October 2021, section 2.2, "Document").
@@ -80,10 +80,10 @@ fn definition<'t>(node: &SyntaxNode<'t>) -> Option<ExecutableDefinition<'t>>
 }
 
 /// The operations and fragments of a document, in order.
-pub fn definitions<'t>(
-    alloc: Global,
+pub fn definitions<'t, A: Allocator + Copy>(
+    alloc: A,
     document: &SyntaxNode<'t>,
-) -> Result<Vec<ExecutableDefinition<'t>>, AllocError>
+) -> Result<Vec<ExecutableDefinition<'t>, A>, AllocError>
     ensures { IfOk result (λ definitions. map as_defined definitions.items ≡ defined (node_place document.now)) }
 {
     let mut definitions = Vec::new(alloc);
@@ -110,11 +110,11 @@ fn named<'t>(definition: &ExecutableDefinition<'t>, kind: DefinitionKind) -> Opt
 }
 
 /// The definitions of a kind that have a name, with their names.
-pub fn named_definitions<'t>(
-    alloc: Global,
+pub fn named_definitions<'t, A: Allocator + Copy>(
+    alloc: A,
     definitions: &[ExecutableDefinition<'t>],
     kind: DefinitionKind,
-) -> Result<Vec<Mention<'t>>, AllocError>
+) -> Result<Vec<Mention<'t>, A>, AllocError>
     ensures { IfOk result (λ found. map as_named found.items ≡ named_definitions kind (map as_defined definitions.now)) }
 {
     let mut found = Vec::new(alloc);
@@ -127,13 +127,13 @@ pub fn named_definitions<'t>(
 }
 
 /// The first fragment of each name, as its number among the definitions.
-pub fn fragments<'t>(
-    alloc: Global,
+pub fn fragments<'t, A: Allocator + Copy>(
+    alloc: A,
     definitions: &[ExecutableDefinition<'t>],
-) -> Result<BTreeMap<&'t str, usize>, AllocError>
+) -> Result<BTreeMap<&'t str, usize, A>, AllocError>
     ensures { IfOk result (λ fragments. AreFirstNumbers fragments (fragment_names (map as_defined definitions.now))) }
 {
-    let mut fragments: BTreeMap<&'t str, usize> = BTreeMap::new(alloc);
+    let mut fragments: BTreeMap<&'t str, usize, A> = BTreeMap::new(alloc);
     for (number, definition) in definitions.iter().enumerate() {
         if let Some(name) = definition.fragment_name() {
             enter(&mut fragments, name, number)?;

@@ -8,7 +8,7 @@ ghost use Rattle.executable_document.specs.Mentions.{as_named, is_declared, ment
 use apollo_cst_core::{CstNode, child};
 use apollo_cst_executable::{FragmentName, Name, Variable};
 use apollo_tree::{SyntaxKind, SyntaxNode};
-use std::alloc::{AllocError, Global};
+use std::alloc::{AllocError, Allocator};
 
 /// How a definition mentions a name.
 #[derive(Clone, Copy)]
@@ -97,11 +97,11 @@ fn mentioned<'t>(node: SyntaxNode<'t>, mention: MentionKind) -> Option<Mention<'
 }
 
 /// The names that a node and those below it mention, in the order of the text.
-pub fn mentions<'t>(
-    alloc: Global,
+pub fn mentions<'t, A: Allocator + Copy>(
+    alloc: A,
     root: &SyntaxNode<'t>,
     mention: MentionKind,
-) -> Result<Vec<Mention<'t>>, AllocError>
+) -> Result<Vec<Mention<'t>, A>, AllocError>
     ensures { IfOk result (λ found. map as_named found.items ≡ mentions mention (node_place root.now)) }
 {
     let mut found = Vec::new(alloc);

@@ -6,7 +6,7 @@ ghost use Rattle.expansion_figures.specs.Walks.{IsAt, IsPast, Measured, Sound, I
 
 use crate::figures::Figures;
 use crate::items::{Item, Span};
-use std::alloc::Global;
+use std::alloc::Allocator;
 
 /// Why there are no figures.
 #[derive(Clone, Copy, PartialEq, Eq, Debug)]
@@ -37,15 +37,15 @@ struct Frame {
 
 // The definitions that are open: the current one, and those of which each waits at a spread for the next.
 #[derive(Drop)]
-struct Walk {
-    marks: Vec<Mark>,
-    waiting: Vec<Frame>,
+struct Walk<A: Allocator> {
+    marks: Vec<Mark, A>,
+    waiting: Vec<Frame, A>,
     current: Frame,
 }
 
-impl Walk {
+impl<A: Allocator> Walk<A> {
     // Past one item, into a fragment or out of a definition. Whether there is more to do.
-    fn step(&mut self, definitions: &[Vec<Item>]) -> Result<bool, Fault>
+    fn step(&mut self, definitions: &[Vec<Item, A>]) -> Result<bool, Fault>
         requires { Sound (map (λ v. v.items) definitions.now) self.old }
         ensures goes { IfOk result (Goes (map (λ v. v.items) definitions.now) self.old self.new) }
         ensures fault { IfErr result (Explains (map (λ v. v.items) definitions.now) (root self.old)) }
@@ -65,7 +65,7 @@ impl Walk {
     }
 
     // The next item of the current definition; none at its end.
-    fn next_item(&self, definitions: &[Vec<Item>]) -> Option<Item>
+    fn next_item(&self, definitions: &[Vec<Item, A>]) -> Option<Item>
         requires { Sound (map (λ v. v.items) definitions.now) self.now }
         ensures item { MatchOption result
             (self.now.current.next ≡ length (definition (map (λ v. v.items) definitions.now) self.now.current.definition))
@@ -79,7 +79,7 @@ impl Walk {
     // Past a spread, or into its fragment.
     fn spread(
         &mut self,
-        definitions: &[Vec<Item>],
+        definitions: &[Vec<Item, A>],
         enclosing: usize,
         fragment: usize,
         span: Span,
@@ -171,7 +171,7 @@ impl Walk {
     }
 
     // The figures of one definition.
-    fn measure(&mut self, definitions: &[Vec<Item>], root: usize) -> Result<Figures, Fault>
+    fn measure(&mut self, definitions: &[Vec<Item, A>], root: usize) -> Result<Figures, Fault>
         requires idle { Idle (map (λ v. v.items) definitions.now) self.old }
         requires is_one { root < length definitions.now }
         ensures idle { OnOk result (Idle (map (λ v. v.items) definitions.now) self.new) }
@@ -190,11 +190,11 @@ impl Walk {
 }
 
 /// The figures of the definitions with these numbers, in their order, or why one of them has none.
-pub fn measure(
-    alloc: Global,
-    definitions: &[Vec<Item>],
+pub fn measure<A: Allocator + Copy>(
+    alloc: A,
+    definitions: &[Vec<Item, A>],
     roots: &[usize],
-) -> Result<Vec<Figures>, Fault>
+) -> Result<Vec<Figures, A>, Fault>
     requires { All (λ r. r < length definitions.now) roots.now }
     ensures figures { IfOk result (λ v. AreMeasured (map (λ d. d.items) definitions.now) roots.now v.items) }
     ensures fault { IfErr result (ExplainsAny (map (λ d. d.items) definitions.now) roots.now) }

@@ -4,12 +4,12 @@
 ghost use Rattle.std.specs.Prelude.{◌≡◌, IfOk, is_some};
 ghost use Rattle.name_lists.specs.Names.{Enters, entry_of};
 
-use std::alloc::AllocError;
+use std::alloc::{AllocError, Allocator};
 use std::collections::BTreeMap;
 
 /// The value that has been entered under a name before. If there is none, this one is entered.
-pub fn enter<'t, V: Copy>(
-    entries: &mut BTreeMap<&'t str, V>,
+pub fn enter<'t, V: Copy, A: Allocator + Copy>(
+    entries: &mut BTreeMap<&'t str, V, A>,
     name: &'t str,
     value: V,
 ) -> Result<Option<V>, AllocError>

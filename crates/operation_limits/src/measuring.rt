@@ -10,7 +10,7 @@ use apollo_tree::SyntaxNode;
 use definition_items::items;
 use executable_document::{DefinitionKind, ExecutableDefinition, definitions, fragments};
 use expansion_figures::{Fault, Figures, Item, Span};
-use std::alloc::{AllocError, Global};
+use std::alloc::{AllocError, Allocator};
 use std::collections::BTreeMap;
 
 /// An operation, and how large it is.
@@ -34,10 +34,10 @@ pub enum MeasureError<'t> {
 }
 
 // The number of an earlier fragment, the first of its name, that has the name of this one.
-fn earlier<'t>(
+fn earlier<'t, A: Allocator + Copy>(
     definitions: &[ExecutableDefinition<'t>],
     number: usize,
-    fragments: &BTreeMap<&'t str, usize>,
+    fragments: &BTreeMap<&'t str, usize, A>,
 ) -> Option<usize>
     requires inside { number < length definitions.now }
     requires numbers { AreFirstNumbers fragments.now (fragment_names (map as_defined definitions.now)) }
@@ -50,9 +50,9 @@ fn earlier<'t>(
 }
 
 // The first fragment that has the name of an earlier one, after that one.
-fn twins<'t>(
+fn twins<'t, A: Allocator + Copy>(
     definitions: &[ExecutableDefinition<'t>],
-    fragments: &BTreeMap<&'t str, usize>,
+    fragments: &BTreeMap<&'t str, usize, A>,
 ) -> Option<(ExecutableDefinition<'t>, ExecutableDefinition<'t>)>
     requires { AreFirstNumbers fragments.now (fragment_names (map as_defined definitions.now)) }
     ensures some { IfSome result (λ t. AreTwins (map as_defined definitions.now) (as_defined t.0) (as_defined t.1)) }
@@ -67,11 +67,11 @@ fn twins<'t>(
 }
 
 // The items of each definition.
-fn all_items<'t>(
-    alloc: Global,
+fn all_items<'t, A: Allocator + Copy>(
+    alloc: A,
     definitions: &[ExecutableDefinition<'t>],
-    fragments: &BTreeMap<&'t str, usize>,
-) -> Result<Vec<Vec<Item>>, AllocError>
+    fragments: &BTreeMap<&'t str, usize, A>,
+) -> Result<Vec<Vec<Item, A>, A>, AllocError>
     requires { AreFirstNumbers fragments.now (fragment_names (map as_defined definitions.now)) }
     ensures { IfOk result (λ found. map (λ items. items.items) found.items ≡ items_of (map as_defined definitions.now)) }
 {
@@ -84,15 +84,15 @@ fn all_items<'t>(
 
 // The operations, and their numbers among the definitions.
 #[derive(Drop)]
-struct OperationList<'t> {
-    operations: Vec<ExecutableDefinition<'t>>,
-    numbers: Vec<usize>,
+struct OperationList<'t, A: Allocator> {
+    operations: Vec<ExecutableDefinition<'t>, A>,
+    numbers: Vec<usize, A>,
 }
 
-fn operations<'t>(
-    alloc: Global,
+fn operations<'t, A: Allocator + Copy>(
+    alloc: A,
     definitions: &[ExecutableDefinition<'t>],
-) -> Result<OperationList<'t>, AllocError>
+) -> Result<OperationList<'t, A>, AllocError>
     ensures operations { IfOk result (λ found. map as_defined found.operations.items ≡ filter is_operation (map as_defined definitions.now)) }
     ensures numbers { IfOk result (λ found. found.numbers.items ≡ operations 0 (map as_defined definitions.now)) }
 {
@@ -111,11 +111,11 @@ fn operations<'t>(
 }
 
 // Each operation with its figures.
-fn paired<'t>(
-    alloc: Global,
+fn paired<'t, A: Allocator + Copy>(
+    alloc: A,
     operations: &[ExecutableDefinition<'t>],
     figures: &[Figures],
-) -> Result<Vec<OperationFigures<'t>>, AllocError>
+) -> Result<Vec<OperationFigures<'t>, A>, AllocError>
     requires { length operations.now ≡ length figures.now }
     ensures operations { IfOk result (λ v. map (λ m. m.operation) (map as_measure v.items) ≡ map as_defined operations.now) }
     ensures figures { IfOk result (λ v. map (λ m. m.figures) (map as_measure v.items) ≡ figures.now) }
@@ -131,11 +131,11 @@ fn paired<'t>(
 }
 
 // The figures of the operations, where no two fragments have one name.
-fn measure_distinct<'t>(
-    alloc: Global,
+fn measure_distinct<'t, A: Allocator + Copy>(
+    alloc: A,
     definitions: &[ExecutableDefinition<'t>],
-    fragments: &BTreeMap<&'t str, usize>,
-) -> Result<Vec<OperationFigures<'t>>, MeasureError<'t>>
+    fragments: &BTreeMap<&'t str, usize, A>,
+) -> Result<Vec<OperationFigures<'t>, A>, MeasureError<'t>>
     requires numbers { AreFirstNumbers fragments.now (fragment_names (map as_defined definitions.now)) }
     requires distinct { AreDistinct (fragment_names (map as_defined definitions.now)) }
     ensures figures { IfOk result (λ v. AreMeasures (map as_defined definitions.now) (map as_measure v.items)) }
@@ -165,10 +165,10 @@ fn measure_distinct<'t>(
 /// Unless memory is refused, there are figures exactly if no two fragments have one name, and no operation leads to a cycle of fragments or to a spread
 /// of no fragment. Fragments that no operation leads to may have both. If several errors apply, names come first, and then the first wrong spread,
 /// fragments expanded.
-pub fn measure<'t>(
-    alloc: Global,
+pub fn measure<'t, A: Allocator + Copy>(
+    alloc: A,
     document: &SyntaxNode<'t>,
-) -> Result<Vec<OperationFigures<'t>>, MeasureError<'t>>
+) -> Result<Vec<OperationFigures<'t>, A>, MeasureError<'t>>
     ensures figures { IfOk result (λ v. AreMeasures (defined (node_place document.now)) (map as_measure v.items)) }
     ensures error { IfErr result (IsMeasureError (defined (node_place document.now))) }
 {

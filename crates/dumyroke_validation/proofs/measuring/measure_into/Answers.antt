@@ -10,18 +10,18 @@ use Rattle.dumyroke_validation.proofs.Outcomes.{no-measure, of-fault, of-figures
 use Rattle.dumyroke_validation.proofs.measuring.measure_into.Goals as goal
 
 pub returns-in-Err : goal.returns-in-Err
-returns-in-Err c = no-measure _ _ _ c.in-Err.status _ c.refused.result c.refused.ensures c.in-Err.ensures.refusal
+returns-in-Err g c = no-measure _ _ _ c.in-Err.status _ c.refused.result c.refused.ensures c.in-Err.ensures.refusal
 
 pub returns-in-Err-measure : goal.returns-in-Err-measure
-returns-in-Err-measure c =
+returns-in-Err-measure g c =
     of-fault _ _ _ c.in-Ok.tree c.in-Err-measure.error _ c.fault.result c.in-Ok.ensures.document
     (subst (λ (p : Place). IsMeasureError (defined p) c.in-Err-measure.error) c.root.ensures.place c.in-Err-measure.ensures.error) c.fault.ensures
 
 pub returns-in_default : goal.returns-in_default
-returns-in_default c = no-measure _ _ _ _ _ c.refused-in_default.result c.refused-in_default.ensures no_memory
+returns-in_default g c = no-measure _ _ _ _ _ c.refused-in_default.result c.refused-in_default.ensures no_memory
 
 pub returns : goal.returns
-returns c =
+returns g c =
     let rows : c.as_slice-rows.result.now ≡ map operation_row (map as_measure c.in-Ok-measure.measured.items) =
     c.as_slice-rows.ensures.value ∙ c.in-Ok-rows_of.ensures ∙ ap (λ xs. map operation_row (map as_measure xs)) c.as_slice.ensures.value in
     let measures : List Measure = map as_measure c.in-Ok-measure.measured.items in

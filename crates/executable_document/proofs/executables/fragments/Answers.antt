@@ -23,7 +23,7 @@ names_more ds n d below is = rw (take_more ds n d below, map-append, map-append,
 
 pub loop-number-preserved : goal.loop-number-preserved
 unfolding names_of
-loop-number-preserved c =
+loop-number-preserved g c =
     let ds = c.args.definitions.now in
     let n = c.loop-number.number in
     let old = c.loop-number.fragments in

@@ -4,4 +4,4 @@ use Rattle.executable_document.specs.Definitions.{as_defined, fragment_names}
 use Rattle.executable_document.proofs.executables.fragments.Given as goal
 
 abbrev pub invariant-loop-number : goal.invariant-loop-number
-invariant-loop-number l = AreFirstNumbers l.fragments (fragment_names (map as_defined (take l.number l.definitions)))
+invariant-loop-number g l = AreFirstNumbers l.fragments (fragment_names (map as_defined (take l.number l.definitions)))

@@ -7,7 +7,7 @@ use Rattle.executable_document.proofs.executables.named_definitions.Goals as goa
 use Rattle.executable_document.proofs.executables.named_definitions.Goals.{in-Some+in_ok-push, in_default}
 
 pub loop-definition-preserved : goal.loop-definition-preserved
-loop-definition-preserved c =
+loop-definition-preserved g c =
     let more =
     filter_map_more (named c.args.kind) as_defined c.args.definitions.now c.loop-definition.definition-index c.definition-item.result
     c.loop-definition-test.true c.definition-item.is in

@@ -6,5 +6,5 @@ use Rattle.executable_document.specs.Mentions.{as_named, mentioned, mentions}
 use Rattle.executable_document.proofs.mentioning.mentions.Given as goal
 
 abbrev pub invariant-loop-node : goal.invariant-loop-node
-invariant-loop-node l =
+invariant-loop-node g l =
     map as_named l.found.items ++ filter_map (mentioned l.mention) (rest_descendant_nodes l.node-iterator) ≡ mentions l.mention (node_place l.root)

@@ -9,7 +9,7 @@ use Rattle.expansion_figures.specs.declared.walk.Mark.TheVariants.{Untouched}
 use Rattle.expansion_figures.proofs.walk.measure.Goals as goal
 
 pub loop-root-init : goal.loop-root-init
-loop-root-init c =
+loop-root-init g c =
     let d = map (λ v. v.items) c.args.definitions.now in
     let n = length-map c.args.definitions.now (λ v. v.items) in
     record {
@@ -19,11 +19,11 @@ loop-root-init c =
     }
 
 pub returns-in-Err-clause-fault : goal.returns-in-Err-clause-fault
-returns-in-Err-clause-fault c =
+returns-in-Err-clause-fault g c =
     one_of (map (λ v. v.items) c.args.definitions.now) c.args.roots.now c.loop-root.root-index c.in-Err.fault (omega arith) c.in-Err.ensures.fault
 
 pub loop-root-preserved : goal.loop-root-preserved
-loop-root-preserved c =
+loop-root-preserved g c =
     let d = map (λ v. v.items) c.args.definitions.now in
     let n = length-map c.args.definitions.now (λ v. v.items) in
     let rs = c.args.roots.now in

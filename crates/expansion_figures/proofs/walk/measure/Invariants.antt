@@ -4,7 +4,7 @@ use Rattle.expansion_figures.specs.Outcome.{AreMeasured}
 use Rattle.expansion_figures.proofs.walk.measure.Given as goal
 
 abbrev pub invariant-loop-root : goal.invariant-loop-root
-invariant-loop-root l = record {
+invariant-loop-root g l = record {
   idle : Idle (map (λ v. v.items) l.definitions) l.walk;
   measured : AreMeasured (map (λ v. v.items) l.definitions) (take l.root-index l.roots) l.figures.items;
 }

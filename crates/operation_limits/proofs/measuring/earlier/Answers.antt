@@ -4,7 +4,7 @@ use Rattle.operation_limits.proofs.Firsts.{name_at, count_names, no_name, not_en
 use Rattle.operation_limits.proofs.measuring.earlier.Goals as goal
 
 pub returns-in_err-name-clause-none : goal.returns-in_err-name-clause-none
-returns-in_err-name-clause-none c =
+returns-in_err-name-clause-none g c =
     let vs = c.args.definitions.now in
     let k = c.args.number in
     if_none c.from_residual.result _ (no_name c.args.fragments.now (fragment_names (map as_defined vs)) c.requires.numbers k
@@ -12,7 +12,7 @@ returns-in_err-name-clause-none c =
     (name_at vs k c.index-definitions-number.result c.requires.inside c.index-definitions-number.is ∙ sym c.in_err-name.ensures))
 
 pub returns-in_err-first-clause-none : goal.returns-in_err-first-clause-none
-returns-in_err-first-clause-none c =
+returns-in_err-first-clause-none g c =
     let vs = c.args.definitions.now in
     let k = c.args.number in
     if_none c.from_residual-in_err-first.result _ (not_entered c.args.fragments.now (fragment_names (map as_defined vs)) c.requires.numbers k
@@ -21,7 +21,7 @@ returns-in_err-first-clause-none c =
     (sym c.in_ok-name.ensures) (sym c.in_err-first.ensures.value))
 
 pub returns-then-first-number-clause-some : goal.returns-then-first-number-clause-some
-returns-then-first-number-clause-some c =
+returns-then-first-number-clause-some g c =
     let vs = c.args.definitions.now in
     let k = c.args.number in
     is_second c.args.fragments.now (fragment_names (map as_defined vs)) c.requires.numbers k
@@ -30,7 +30,7 @@ returns-then-first-number-clause-some c =
     (sym c.in_ok-name.ensures) (sym c.in_ok-first.ensures.value) c.if-first-number.true
 
 pub returns-else-first-number-clause-none : goal.returns-else-first-number-clause-none
-returns-else-first-number-clause-none c =
+returns-else-first-number-clause-none g c =
     let vs = c.args.definitions.now in
     let k = c.args.number in
     is_first c.args.fragments.now (fragment_names (map as_defined vs)) c.requires.numbers k

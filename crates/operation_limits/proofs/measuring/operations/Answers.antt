@@ -4,7 +4,7 @@ use Rattle.operation_limits.proofs.measuring.operations.Goals as goal
 use Rattle.operation_limits.proofs.measuring.operations.Goals.{in-Operation+in_ok-push+in_ok-push-2, in_default}
 
 pub loop-number-preserved : goal.loop-number-preserved
-loop-number-preserved c =
+loop-number-preserved g c =
     let vs = c.args.definitions.now in
     let n = c.loop-number.number in
     let v = c.index-definitions-number.result in

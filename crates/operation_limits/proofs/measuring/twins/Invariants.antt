@@ -4,4 +4,4 @@ use Rattle.operation_limits.specs.Measures.{IsFirst}
 use Rattle.operation_limits.proofs.measuring.twins.Given as goal
 
 abbrev pub invariant-loop-number : goal.invariant-loop-number
-invariant-loop-number l = (k : ℕ) → k < l.number → IsFirst (fragment_names (map as_defined l.definitions)) k
+invariant-loop-number g l = (k : ℕ) → k < l.number → IsFirst (fragment_names (map as_defined l.definitions)) k

@@ -4,7 +4,7 @@ use Rattle.expansion_figures.proofs.Steps.{at_start, measured_root, ended}
 use Rattle.expansion_figures.proofs.walk.Walk.measure.Goals as goal
 
 pub loop-init : goal.loop-init
-loop-init c =
+loop-init g c =
     let s = at_start (map (λ v. v.items) c.args.definitions.now) c.args.self.now c.begin.new.self c.args.root
     (omega (
       arith,
@@ -15,7 +15,7 @@ loop-init c =
     record { sound = s.0; begun = s.1 }
 
 pub returns : goal.returns
-returns c =
+returns g c =
     let d = map (λ v. v.items) c.args.definitions.now in
     let f = ended d c.loop.self c.step.new.self c.in_ok-step.field-0 c.if-branch.false c.in_ok-step.ensures.goes in
     record {

@@ -3,7 +3,7 @@ use Rattle.expansion_figures.specs.Walks.{Sound, root, steps_left}
 use Rattle.expansion_figures.proofs.walk.Walk.measure.Given as goal
 
 abbrev pub invariant-loop : goal.invariant-loop
-invariant-loop l = record { sound : Sound (map (λ v. v.items) l.definitions) l.self; begun : root l.self ≡ l.root }
+invariant-loop g l = record { sound : Sound (map (λ v. v.items) l.definitions) l.self; begun : root l.self ≡ l.root }
 
 abbrev pub decreases-loop : goal.decreases-loop
-decreases-loop l = steps_left (map (λ v. v.items) l.definitions) l.self
+decreases-loop g l = steps_left (map (λ v. v.items) l.definitions) l.self

@@ -4,12 +4,12 @@ use Rattle.expansion_figures.proofs.Expansions.{not_spread}
 use Rattle.expansion_figures.proofs.walk.Walk.step.Goals as goal
 
 pub returns-in_default-clause-goes : goal.returns-in_default-clause-goes
-returns-in_default-clause-goes c =
+returns-in_default-clause-goes g c =
     out (map (λ v. v.items) c.args.definitions.now) c.args.self.now c.leave.new.self c.requires c.in_default.ensures.item c.leave.ensures.marks
     c.leave.result c.leave.ensures.waiting
 
 pub returns-in_default-item : goal.returns-in_default-item
-returns-in_default-item c =
+returns-in_default-item g c =
     record {
       goes = past_other (map (λ v. v.items) c.args.definitions.now) c.args.self.now c.advance.new.self c.in-Some.item c.of.result c.requires
           c.in-Some.ensures.item (not_spread c.in-Some.item c.in_default-item.not-Spread) c.of.ensures
