@@ -42,9 +42,9 @@ quick() {
 tests() {
     tools/format_texts --trial
     tools/gqlcheck_tests
+    tools/bindings
     tools/figures
     tools/validation
-    tools/bindings
     tools/bindings pages
     tools/editor_tests
     tools/readme --check
