@@ -10,6 +10,7 @@ usage: ./do COMMAND
   quick              the checks that need no proof, in some eight seconds: generated files, names of rules, texts, promises
   check CRATE [..]   proves one crate over what earlier checks left (rt check); further words go to rt check
   try CRATE [..]     runs a program, or with --test a crate's tests, and proves nothing (rt try)
+  edits [CRATE..]    tries all edits that must fail, those that the gate leaves out as well (rt must-fail)
   quick-bindings     makes the library for C without a proof, in a minute, and runs its tests and those of Rust and Python
   gate               what a merge has to pass: quick, rt ci, and test
   test               the tests of the output of rt ci: formatted texts, figures, C and Python, the page, editors, README, the release
@@ -59,6 +60,20 @@ quick_bindings() {
     tools/bindings test-quick
 }
 
+# In a copy, where a crate's edits/ are in its must-fail/ with those of the gate.
+all_edits() {
+    copy=$(mktemp -d)
+    trap 'rm -rf "$copy"' EXIT
+    tar -c --exclude='crates/*/out' crates crates.txt HANDLES | tar -x -C "$copy"
+    for folder in "$copy"/crates/*/edits; do
+        mkdir -p "${folder%edits}must-fail"
+        mv "$folder"/*.edit "${folder%edits}must-fail"
+    done
+    cd "$copy"
+    git init --quiet
+    rt must-fail "$@"
+}
+
 # The folder of a crate, which is the first word.
 enter() {
     [ -d "crates/${1:-}/src" ] || { echo "./do: no such crate: ${1:-}" >&2; exit 2; }
@@ -69,6 +84,7 @@ command=${1:-}
 [ $# -eq 0 ] || shift
 case $command in
     quick) quick ;;
+    edits) all_edits "$@" ;;
     quick-bindings) quick_bindings ;;
     check) enter "$@"; shift; exec rt check "$@" ;;
     try) enter "$@"; shift; exec rt try "$@" ;;

@@ -52,7 +52,8 @@ CALLS = """\
 Below each public call are its clauses (`result` has no name), and below a clause that is a record its fields. After a clause come the lemmas that its
 proof names, each after its file, from the crate on and without `proofs`; after a field the lemmas of other crates on which the lemma of that name
 rests. Where no lemma follows, the proof needs none beside the contracts of the calls in the body and the invariants of its loops. `✗` precedes the
-edits that break a clause: `CRATE/NAME` is `crates/CRATE/must-fail/NAME.edit`, and `./do gate` checks that the prover refuses it.
+edits that break a clause and that `./do gate` checks the prover to refuse: `CRATE/NAME` is `crates/CRATE/must-fail/NAME.edit`. `(✗)` precedes those of
+`crates/CRATE/edits/`, which `./do edits` tries.
 """
 READING = """\
 ## What to read in order to believe it
@@ -75,7 +76,31 @@ clause of `parse` names a rule of the parser.
 """
 
 
+# The folders of a crate's edits: those that the gate tries, and the others.
+FOLDERS = ("must-fail", "edits")
+
+
 # ---- the calls
+
+
+def edit_files():
+    return {f"{path.parts[-3]}/{path.stem}": path for folder in FOLDERS for path in CRATES.glob(f"*/{folder}/*.edit")}
+
+
+def is_in_gate(edit):
+    crate, name = edit.split("/")
+    return (CRATES / crate / "must-fail" / f"{name}.edit").exists()
+
+
+def fits(path):
+    """Whether each text that an edit replaces is in its file once."""
+    file = None
+    for line in path.read_text().splitlines():
+        if line.startswith("file: "):
+            file = path.parents[1] / line.removeprefix("file: ").strip()
+        if line.startswith("old: ") and file.read_text().count(line.removeprefix("old: ")) != 1:
+            return False
+    return True
 
 
 def edits():
@@ -119,7 +144,8 @@ def by_file(found):
 def said(text, broken, clause=None):
     """What is said of a clause, or of a call: its lemmas, and the edits that break it."""
     edits = [edit for edit, clauses in broken if (clause in clauses if clause else not clauses)]
-    return (f": {text}" if text else "") + (f" ✗ {', '.join(f'`{edit}`' for edit in edits)}" if edits else "")
+    in_gate, others = (names(edit for edit in edits if (folder == "must-fail") == is_in_gate(edit)) for folder in FOLDERS)
+    return (f": {text}" if text else "") + (f" ✗ {in_gate}" if in_gate else "") + (f" (✗) {others}" if others else "")
 
 
 def names(found):
@@ -183,12 +209,13 @@ def proofs():
 
 
 def edits_wrong():
-    """Edits that are not in the list, and names in the list that are not edits."""
-    there = {f"{path.parts[-3]}/{path.stem}" for path in CRATES.glob("*/must-fail/*.edit")}
+    """Edits that are not in the list or fit no file, and names in the list that are not edits."""
+    there = edit_files()
     listed = {edit: (key, clauses) for key, found in edits().items() for edit, clauses in found}
     named = {(call.crate, call.title): call for call in all_calls()}
-    yield from (f"tools/evidence/edits: it lacks the edit {edit}" for edit in sorted(there - set(listed)))
-    yield from (f"tools/evidence/edits: there is no edit {edit}" for edit in sorted(set(listed) - there))
+    yield from (f"tools/evidence/edits: it lacks the edit {edit}" for edit in sorted(set(there) - set(listed)))
+    yield from (f"tools/evidence/edits: there is no edit {edit}" for edit in sorted(set(listed) - set(there)))
+    yield from (f"{path}: a text that it replaces is not once in its file" for path in there.values() if not fits(path))
     for edit, (key, clauses) in listed.items():
         if key not in named:
             yield f"tools/evidence/edits: {edit} breaks {' '.join(key)}, which is no public call"
