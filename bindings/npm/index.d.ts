@@ -87,7 +87,7 @@ export interface Operation extends Place {
   aliases: bigint;
   /** The number of directives: of the operation, its variables, its selections, and its fragments at each of their spreads. */
   directives: bigint;
-  /** The number of fields, where each selection set counts a response name once. Apollo Router limits it as `max_height`. */
+  /** The number of fields, where each selection set, also of a fragment, counts a response name once. Apollo Router limits it as `max_height`. */
   height: bigint;
   /** The number of root fields, counted like `height`. */
   distinctRootFields: bigint;

@@ -72,7 +72,7 @@ class Figures(NamedTuple):
     directives: int
     """The number of directives: of the operation, its variables, its selections, and its fragments at each of their spreads."""
     height: int
-    """The number of fields, where each selection set counts a response name once. Apollo Router limits it as `max_height`."""
+    """The number of fields, where each selection set, also of a fragment, counts a response name once. Apollo Router limits it as `max_height`."""
     distinct_root_fields: int
     """The number of root fields, counted like `height`."""
 

@@ -58,7 +58,7 @@ pub struct Figures {
     pub aliases: u64,
     /// The number of directives: of the operation, its variables, its selections, and its fragments at each of their spreads.
     pub directives: u64,
-    /// The number of fields, where each selection set counts a response name once. Apollo Router limits it as `max_height`.
+    /// The number of fields, where each selection set, also of a fragment, counts a response name once. Apollo Router limits it as `max_height`.
     pub height: u64,
     /// The number of root fields, counted like `height`.
     pub distinct_root_fields: u64,
