@@ -45,7 +45,7 @@ def query(dice, number):
 
 
 def made(folder, count):
-    """Writes a log of so many queries: each million is a file with the first million's text."""
+    """Writes a log of that number of queries: each million is a file with the text of the first."""
     dice, first = random.Random(1), folder / "0.jsonl"
     with first.open("w") as log:
         for number in range(min(count, IN_ONE_FILE)):
