@@ -219,7 +219,7 @@ local function layout(document)
     if vim.lsp.buf.format then vim.lsp.buf.format({ async = false }) else vim.lsp.buf.formatting_sync(nil, 10000) end
   end)
   expect("the layout", { lines()[1], vim.list_slice(lines(), #lines() - 4, #lines()) },
-    { "query Find($id: ID!) { # 😀", { "}", "", "fragment parts on Pet {", "  name", "}" } })
+    { "query Find($id: ID!) { # 😀", { "  }", "}", "fragment parts on Pet {", "  name", "}" } })
 end
 
 -- Closing a document takes its errors away, and so does the server.

@@ -294,12 +294,12 @@ def completion():
 
 
 def layout():
-    client = opened("{a b}\ntype T{a:B}\ntype U{a:B}")
+    client = opened("{a b}\n\ntype T{a:B}\n\ntype U{a:B}")
     wanted = "{\n  a\n  b\n}\n\ntype T {\n  a: B\n}\n\ntype U {\n  a: B\n}\n"
     found = client.ask_about(URI, "formatting", options=OPTIONS)
-    expect("layout", found, [{"range": {"start": {"line": 0, "character": 0}, "end": {"line": 2, "character": 11}}, "newText": wanted}])
-    part = [{"range": span(1, 0, 11), "newText": "type T {\n  a: B\n}"}]
-    for what, range in [("a part", span(1, 0, 4)), ("a line", lines(1, 2)), ("a cursor", span(1, 5, 5))]:
+    expect("layout", found, [{"range": {"start": {"line": 0, "character": 0}, "end": {"line": 4, "character": 11}}, "newText": wanted}])
+    part = [{"range": span(2, 0, 11), "newText": "type T {\n  a: B\n}"}]
+    for what, range in [("a part", span(2, 0, 4)), ("a line", lines(2, 3)), ("a cursor", span(2, 5, 5))]:
         expect(f"layout of {what}", client.ask_about(URI, "rangeFormatting", range=range, options=OPTIONS), part)
     client.change(URI, 1, [{"text": wanted}])
     expect("the same layout", client.ask_about(URI, "formatting", options=OPTIONS), [])

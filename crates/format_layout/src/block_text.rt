@@ -2,26 +2,9 @@
 use format_strings::BlockStyle;
 use std::alloc::{AllocError, Allocator};
 
-// How many bytes a value may have that is written in one line with its quotes.
-const MAX_INLINE: usize = 70;
-
 // Whether the text begins with a space or a tab.
 fn begins_white(text: &str) -> bool {
     text.starts_with(' ') || text.starts_with('\t')
-}
-
-// Whether there is a second line, and each line after the first is empty or indented: then the indent would be lost if the first line began
-// right after the quotes.
-fn others_are_indented(value: &str) -> bool {
-    let Some((_, others)) = value.split_once('\n') else {
-        return false;
-    };
-    for line in others.split('\n') {
-        if !line.is_empty() && !begins_white(line) {
-            return false;
-        }
-    }
-    true
 }
 
 // A new line with its indent.
@@ -64,26 +47,21 @@ fn push_lines<A: Allocator>(
     Ok(())
 }
 
-// A value and the quotes after it: in the line of the quotes before it if it is short and has one line, else with each line below the quotes.
+// A value and the quotes after it, with each line below the quotes before it. Only a line that begins with white space and is the only one stays in the
+// line of the quotes.
 fn push_value<A: Allocator>(
     text: &mut String<A>,
     value: &str,
     indent: usize,
 ) -> Result<(), AllocError> {
-    let has_one_line = !value.contains('\n');
-    let is_indented = others_are_indented(value);
-    let joins_quotes = value.ends_with('"') || value.ends_with('\\');
-    let ends_below = !has_one_line || value.len() > MAX_INLINE || joins_quotes || is_indented;
-    let begins_below = is_indented || (ends_below && !(has_one_line && begins_white(value)));
-    push_lines(text, value, begins_below, indent)?;
-    if ends_below {
-        begin_line(text, indent)?;
-    }
+    let is_beside = value.is_empty() || (!value.contains('\n') && begins_white(value));
+    push_lines(text, value, !is_beside, indent)?;
+    begin_line(text, indent)?;
     text.push_str("\"\"\"")
 }
 
-/// How block strings are spelled in a line that is indented by a number of spaces: in one line with the quotes if the value is short and has one line,
-/// else with each line below the quotes.
+/// How block strings are spelled in a line that is indented by a number of spaces: with a line for the quotes before them, one for each line of the
+/// value, and one for the quotes after them.
 #[derive(Clone, Copy)]
 pub struct Indented {
     pub spaces: usize,

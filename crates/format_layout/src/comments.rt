@@ -1,6 +1,6 @@
 // Comments, and the line ends before them and before tokens, on the walk over the tree of a document.
-use crate::rules::{Inside, is_in_braces};
-use crate::slot::{Bracket, Separator, Slot};
+use crate::rules::{Inside, closes, is_between_items, opens};
+use crate::slot::{BREAKS, Part, Separator, Slot};
 use crate::walk::Frame;
 use document_grammar::SyntaxKind;
 
@@ -14,6 +14,16 @@ pub struct CommentState {
     last_was_comment: bool,
     // whether the last child of the innermost open node was a comment in a line of its own
     last_child_was_comment: bool,
+    // whether such a comment says that the item that comes next stays as it is
+    ignores_next: bool,
+}
+
+// Whether a comment says that the item after it stays as it is.
+fn is_ignore_comment(text: &str) -> bool {
+    matches!(
+        text.trim_start_matches('#').trim(),
+        "gqlfmt-ignore" | "prettier-ignore"
+    )
 }
 
 // How many line ends a text has, LF, CR and CR LF, two at most.
@@ -37,6 +47,7 @@ impl CommentState {
         seen_line_ends: 0,
         last_was_comment: false,
         last_child_was_comment: false,
+        ignores_next: false,
     };
 
     /// How many line ends were met up to a place of the text since the last token or comment, two at most: the most that are not parted by commas.
@@ -71,12 +82,14 @@ impl CommentState {
         self.last_child_was_comment = false;
     }
 
-    /// A comment was met, which is in a line of its own or not.
-    pub fn meet_comment(&mut self, in_own_line: bool) {
+    /// A comment was met, which is in a line of its own or not, and between items or not.
+    pub fn meet_comment(&mut self, text: &str, in_own_line: bool, is_between_items: bool) {
         self.blank = None;
         self.seen_line_ends = 0;
         self.last_was_comment = true;
         self.last_child_was_comment = in_own_line;
+        let ignores_next = in_own_line && is_between_items && is_ignore_comment(text);
+        self.ignores_next = self.ignores_next || ignores_next;
     }
 
     /// Whether the last token or comment was a comment.
@@ -85,74 +98,90 @@ impl CommentState {
         self.last_was_comment
     }
 
-    /// The slot before a child of a node that is no comment, after a comment: a construct goes on in a new line after a comment inside it, and an
-    /// empty line after a comment stays, but none is added.
-    pub fn slot_after_comment(
+    /// Whether the item that comes next stays as it is.
+    #[inline(always)]
+    pub fn ignores_next(&self) -> bool {
+        self.ignores_next
+    }
+
+    // Whether empty lines before a child of a node become one: between items, and next to comments in lines of their own.
+    #[inline(always)]
+    fn may_keep_blank(&self, parent: &Frame) -> bool {
+        self.last_child_was_comment
+            || match parent.previous {
+                Some(left) => !opens(left) && is_between_items(parent.inside, left),
+                None => false,
+            }
+    }
+
+    /// The separator before a child that is no comment, with an empty line where the source has some and one of them stays.
+    #[inline(always)]
+    pub fn with_blank(
         &self,
         parent: &Frame,
         child: SyntaxKind,
+        separator: Separator,
         line_ends: u8,
-        slot: Slot,
-    ) -> Slot {
-        if !slot.separator.is_line() && !matches!(parent.inside, Inside::List) {
-            let goes_on = !matches!(Inside::of(child), Inside::Braces)
-                && child != SyntaxKind::L_CURLY;
-            return Slot {
-                separator: Separator::Line,
-                level: slot.level.saturating_add(u16::from(goes_on)),
-                ..slot
-            };
+    ) -> Separator {
+        let is_dropped = matches!(parent.inside, Inside::Values) && !self.last_child_was_comment;
+        if line_ends > 1 && !closes(child) && !is_dropped && self.may_keep_blank(parent) {
+            separator.with_blank()
+        } else {
+            separator
         }
-        if self.last_child_was_comment && slot.separator.is_line() {
-            let keeps_blank = line_ends > 1 && child != SyntaxKind::R_CURLY;
-            return Slot {
-                separator: if keeps_blank {
-                    Separator::BlankLine
-                } else {
-                    Separator::Line
-                },
-                ..slot
-            };
-        }
-        slot
     }
 
-    // What separates a comment in a line of its own from the text before it.
-    fn separator_of_line(&self, parent: &Frame, line_ends: u8) -> Separator {
-        let in_document = matches!(parent.inside, Inside::Document);
-        let keeps_blank = match parent.previous {
-            Some(left) => {
-                (in_document && !self.last_child_was_comment)
-                    || (line_ends > 1
-                        && left != SyntaxKind::L_CURLY
-                        && (in_document || is_in_braces(parent.inside, left)))
-            }
-            None => in_document && line_ends > 1,
-        };
-        if keeps_blank {
-            Separator::BlankLine
-        } else {
-            Separator::Line
+    /// The slot before a child of a node that is no comment, after a comment: a line ends there, and a construct goes on in a line of its own.
+    pub fn slot_after_comment(parent: &Frame, child: SyntaxKind, slot: Slot) -> Slot {
+        if slot.separator.is_line() || slot.separator.is_soft() {
+            return slot;
+        }
+        if parent.inside.has_brackets() {
+            // brackets with nothing but comments between them
+            return Slot {
+                separator: Separator::SoftNothing,
+                ..slot
+            };
+        }
+        let goes_on = !parent.inside.is_group()
+            && !matches!(Inside::of(child), Inside::Braces)
+            && child != SyntaxKind::L_CURLY;
+        Slot {
+            separator: Separator::Line,
+            level: slot.level.saturating_add(u16::from(goes_on)),
+            ..slot
+        }
+    }
+
+    // What separates a comment from the text before it: it stays in the line of the token before it, or has a line of its own.
+    fn separator_of_comment(&self, parent: &Frame, is_first: bool, line_ends: u8) -> Separator {
+        if is_first {
+            return Separator::Nothing;
+        }
+        match line_ends {
+            0 => Separator::Space,
+            1 => Separator::Line,
+            _ if parent.previous.is_none() || self.may_keep_blank(parent) => Separator::BlankLine,
+            _ => Separator::Line,
         }
     }
 
     /// The slot before a comment that is a child of a node: in the line of the token before it, or in a line of its own.
-    pub fn slot_of_comment(&self, parent: &Frame, is_first: bool, line_ends: u8) -> Slot {
-        let separator = if is_first {
-            Separator::Nothing
-        } else if line_ends > 0 {
-            self.separator_of_line(parent, line_ends)
-        } else {
-            Separator::Space
-        };
-        let in_list = matches!(parent.inside, Inside::List);
+    pub fn slot_of_comment(
+        &self,
+        parent: &Frame,
+        is_first: bool,
+        is_after_group: bool,
+        line_ends: u8,
+    ) -> Slot {
         let goes_on = !matches!(parent.inside, Inside::Document)
-            && !in_list
+            && !parent.inside.is_group()
             && parent.previous != Some(SyntaxKind::DESCRIPTION);
         Slot {
-            separator,
-            breaks_with_list: in_list && line_ends > 0,
-            bracket: Bracket::Neither,
+            separator: self.separator_of_comment(parent, is_first, line_ends),
+            part: Part::Neither,
+            is_after_group,
+            width: BREAKS,
             level: parent.level.saturating_add(u16::from(goes_on)),
         }
     }

@@ -1,6 +1,6 @@
 // The gaps before the tokens of a document, one after another.
 use crate::elements::Elements;
-use crate::slot::{Bracket, Separator, Slot};
+use crate::slot::{BREAKS, Part, Separator, Slot};
 use crate::walk::slots_of;
 use format_tokens::Gap;
 use std::alloc::{AllocError, Allocator};
@@ -8,15 +8,38 @@ use std::alloc::{AllocError, Allocator};
 // How many spaces a level of indent has.
 const INDENT: u16 = 2;
 
+// How many columns a line has at most, where it can be broken.
+const MAX_WIDTH: usize = 80;
+
+// How a group is written.
+#[derive(Clone, Copy)]
+enum Form {
+    // in one line
+    Flat,
+    // with a line for each of its parts, indented
+    Broken,
+    // with a line for each of its parts, not indented
+    Flush,
+}
+
 /// The gaps before the significant tokens and the comments of a document, in their order.
 #[derive(Drop)]
 pub struct Gaps<A: Allocator> {
     slots: Vec<Slot, A>,
     next: usize,
-    // of each list that is open, whether it breaks
-    open: Vec<bool, A>,
-    // how many of these break
+    // the groups that are open
+    open: Vec<Form, A>,
+    // how many of these indent their lines
     broken_count: u16,
+}
+
+/// The advice for a token: what is between it and the one before it.
+#[derive(Clone, Copy)]
+pub struct Advice {
+    /// What is there.
+    pub gap: Gap,
+    /// Whether the token stays letter by letter.
+    pub is_written: bool,
 }
 
 // The end of a number of lines, and the indent of a level.
@@ -27,6 +50,25 @@ fn line(lines: u8, level: u16) -> Gap {
         lines,
         spaces: level.saturating_mul(INDENT),
     }
+}
+
+/// The column after a gap that begins in a column.
+#[inline(always)]
+pub fn column_after(gap: Gap, column: usize) -> usize {
+    let spaces = usize::from(gap.spaces);
+    if gap.lines > 0 {
+        spaces
+    } else {
+        column
+            .saturating_add(spaces)
+            .saturating_add(usize::from(gap.comma))
+    }
+}
+
+// Whether a group that begins in a column fits into the line.
+#[inline(always)]
+fn fits(slot: Slot, column: usize) -> bool {
+    slot.width != BREAKS && column.saturating_add(usize::from(slot.width)) <= MAX_WIDTH
 }
 
 impl<A: Allocator + Copy> Gaps<A> {
@@ -40,13 +82,18 @@ impl<A: Allocator + Copy> Gaps<A> {
         })
     }
 
-    // What is in the slot while the list around it does not break.
+    /// Whether the document has no token and no comment.
+    pub fn is_empty(&self) -> bool {
+        self.slots.is_empty()
+    }
+
+    // What is in the slot while the group around it does not break.
     #[inline(always)]
     fn plain_gap(&self, slot: Slot) -> Gap {
         match slot.separator {
-            Separator::Nothing => Gap::NONE,
-            Separator::Space => Gap::SPACE,
-            Separator::Comma => Gap {
+            Separator::Nothing | Separator::SoftNothing | Separator::Written => Gap::NONE,
+            Separator::Space | Separator::SoftSpace => Gap::SPACE,
+            Separator::Comma | Separator::BlankComma => Gap {
                 comma: true,
                 ..Gap::SPACE
             },
@@ -55,42 +102,124 @@ impl<A: Allocator + Copy> Gaps<A> {
         }
     }
 
-    // What is in the slot of a bracket of a list, or of another token in one.
-    fn list_gap(&mut self, slot: Slot) -> Result<Gap, AllocError> {
-        let in_broken = self.open.last().copied().unwrap_or(false);
-        if matches!(slot.bracket, Bracket::Close) {
-            self.open.pop();
-            if in_broken {
-                self.broken_count = self.broken_count.saturating_sub(1);
-            }
+    // What is in the slot of a group that breaks.
+    #[inline(always)]
+    fn broken_gap(&self, slot: Slot) -> Gap {
+        if !slot.separator.is_soft() {
+            return self.plain_gap(slot);
         }
-        let gap = if slot.breaks_with_list && in_broken {
-            line(1, slot.level.saturating_add(self.broken_count))
+        let lines = if matches!(slot.separator, Separator::BlankComma) {
+            2
+        } else {
+            1
+        };
+        line(lines, slot.level.saturating_add(self.broken_count))
+    }
+
+    // Begins a group.
+    fn begin(&mut self, form: Form) -> Result<(), AllocError> {
+        if matches!(form, Form::Broken) {
+            self.broken_count = self.broken_count.saturating_add(1);
+        }
+        self.open.push(form)?;
+        Ok(())
+    }
+
+    // Ends the innermost open group.
+    fn end(&mut self) {
+        if let Some(Form::Broken) = self.open.pop() {
+            self.broken_count = self.broken_count.saturating_sub(1);
+        }
+    }
+
+    // Whether the innermost open group breaks.
+    fn is_broken(&self) -> bool {
+        matches!(
+            self.open.last().copied(),
+            Some(Form::Broken) | Some(Form::Flush)
+        )
+    }
+
+    // What is in the slot of the first token of a group without brackets, which has this form where it breaks.
+    fn first_gap(&mut self, slot: Slot, column: usize, broken: Form) -> Result<Gap, AllocError> {
+        let plain = self.plain_gap(slot);
+        if fits(slot, column_after(plain, column)) {
+            self.begin(Form::Flat)?;
+            return Ok(plain);
+        }
+        self.begin(broken)?;
+        if slot.separator.is_soft() {
+            Ok(self.broken_gap(slot))
+        } else {
+            Ok(plain)
+        }
+    }
+
+    // What is in the slot of a token in a group, or of its opening or closing bracket.
+    fn inner_gap(&mut self, slot: Slot, column: usize) -> Result<Gap, AllocError> {
+        let is_broken = self.is_broken();
+        if matches!(slot.part, Part::Close) {
+            self.end();
+        }
+        let gap = if is_broken {
+            self.broken_gap(slot)
         } else {
             self.plain_gap(slot)
         };
-        match slot.bracket {
-            Bracket::Open => self.open.push(false)?,
-            Bracket::OpenBroken => {
-                self.open.push(true)?;
-                self.broken_count = self.broken_count.saturating_add(1);
-            }
-            Bracket::Neither | Bracket::Close => {}
+        if matches!(slot.part, Part::Open) {
+            let form = if fits(slot, column_after(gap, column)) {
+                Form::Flat
+            } else {
+                Form::Broken
+            };
+            self.begin(form)?;
         }
         Ok(gap)
     }
 
-    /// The gap before the next token or comment; a space where there is none left. It fails only where memory is refused.
+    // What is in the slot of a token that is in a group, or begins or ends one.
+    fn group_gap(&mut self, slot: Slot, column: usize) -> Result<Gap, AllocError> {
+        if slot.is_after_group {
+            self.end();
+        }
+        match slot.part {
+            Part::First => self.first_gap(slot, column, Form::Broken),
+            Part::FirstFlush => self.first_gap(slot, column, Form::Flush),
+            _ => self.inner_gap(slot, column),
+        }
+    }
+
+    /// Whether the white space and the commas before the next token or comment stay as they are in the source.
     #[inline(always)]
-    pub fn next_gap(&mut self) -> Result<Gap, AllocError> {
+    pub fn keeps_blanks(&self) -> bool {
+        match self.slots.get(self.next) {
+            Some(slot) => matches!(slot.separator, Separator::Written),
+            None => false,
+        }
+    }
+
+    /// The advice for the next token or comment, where the last one ends in a column; a space where there is none left. It fails only where memory is
+    /// refused.
+    #[inline(always)]
+    pub fn next_advice(&mut self, column: usize) -> Result<Advice, AllocError> {
         let Some(slot) = self.slots.get(self.next).copied() else {
-            return Ok(Gap::SPACE);
+            return Ok(Advice {
+                gap: Gap::SPACE,
+                is_written: false,
+            });
         };
         self.next = self.next.saturating_add(1);
-        if slot.breaks_with_list || !matches!(slot.bracket, Bracket::Neither) {
-            self.list_gap(slot)
+        let is_plain = !slot.separator.is_soft()
+            && !slot.is_after_group
+            && matches!(slot.part, Part::Neither);
+        let gap = if is_plain {
+            self.plain_gap(slot)
         } else {
-            Ok(self.plain_gap(slot))
-        }
+            self.group_gap(slot, column)?
+        };
+        Ok(Advice {
+            gap,
+            is_written: matches!(slot.part, Part::Written),
+        })
     }
 }

@@ -7,8 +7,14 @@ use document_grammar::SyntaxKind;
 pub enum Inside {
     /// The definitions of a document.
     Document,
-    /// The items of a list that is in one line or has a line for each of them.
-    List,
+    /// Arguments, variable definitions or the fields of an object value, in one line or with a line each, and empty lines between them.
+    Entries,
+    /// The values of a list, in one line or with a line each.
+    Values,
+    /// Directives, in one line or with a line each.
+    Directives,
+    /// The members of a union or the locations of a directive, in one line or with a line each.
+    Members,
     /// Between braces, with a line for each of them.
     Braces,
     /// A schema, whose braces have no node of their own.
@@ -29,12 +35,32 @@ impl Inside {
             SyntaxKind::ARGUMENTS
             | SyntaxKind::ARGUMENTS_DEFINITION
             | SyntaxKind::VARIABLE_DEFINITIONS
-            | SyntaxKind::LIST_VALUE
-            | SyntaxKind::OBJECT_VALUE => Inside::List,
+            | SyntaxKind::OBJECT_VALUE => Inside::Entries,
+            SyntaxKind::LIST_VALUE => Inside::Values,
+            SyntaxKind::DIRECTIVES => Inside::Directives,
+            SyntaxKind::UNION_MEMBER_TYPES | SyntaxKind::DIRECTIVE_LOCATIONS => Inside::Members,
             SyntaxKind::SCHEMA_DEFINITION | SyntaxKind::SCHEMA_EXTENSION => Inside::Schema,
             SyntaxKind::DOCUMENT => Inside::Document,
             _ => Inside::Construct,
         }
+    }
+
+    /// Whether it is a group between brackets.
+    #[inline(always)]
+    pub fn has_brackets(self) -> bool {
+        matches!(self, Inside::Entries | Inside::Values)
+    }
+
+    /// Whether it is a group without brackets, which ends where the next token begins.
+    #[inline(always)]
+    pub fn is_open_ended(self) -> bool {
+        matches!(self, Inside::Directives | Inside::Members)
+    }
+
+    /// Whether it is a group: in one line if it fits, else with a line for each of its parts.
+    #[inline(always)]
+    pub fn is_group(self) -> bool {
+        self.has_brackets() || self.is_open_ended()
     }
 }
 
@@ -109,7 +135,24 @@ fn is_tight(parent: SyntaxKind, left: SyntaxKind, right: SyntaxKind) -> bool {
         }
 }
 
-/// What is between two neighbours below a node of this kind while no list breaks.
+/// Whether a comment after this child is one between items, and not inside a construct.
+#[inline(always)]
+pub fn is_between_items(inside: Inside, left: SyntaxKind) -> bool {
+    matches!(inside, Inside::Document) || inside.has_brackets() || is_in_braces(inside, left)
+}
+
+// What is between two items of a group between brackets, or between an item and a bracket.
+#[inline(always)]
+fn in_brackets(parent: SyntaxKind, left: SyntaxKind, right: SyntaxKind) -> Separator {
+    match (opens(left), closes(right)) {
+        (false, false) => Separator::Comma,
+        (true, true) => Separator::Nothing,
+        _ if parent == SyntaxKind::OBJECT_VALUE => Separator::SoftSpace,
+        _ => Separator::SoftNothing,
+    }
+}
+
+/// What is between two neighbours below a node of this kind.
 #[inline(always)]
 pub fn between(
     inside: Inside,
@@ -118,11 +161,14 @@ pub fn between(
     right: SyntaxKind,
 ) -> Separator {
     match inside {
-        Inside::Document => Separator::BlankLine,
-        Inside::List if opens(left) || closes(right) => Separator::Nothing,
-        Inside::List => Separator::Comma,
+        Inside::Document => Separator::Line,
+        Inside::Entries | Inside::Values => in_brackets(parent, left, right),
+        Inside::Directives => Separator::SoftSpace,
+        Inside::Members if right == SyntaxKind::PIPE => Separator::SoftSpace,
+        Inside::Members => Separator::Space,
         _ if left == SyntaxKind::DESCRIPTION || is_in_braces(inside, left) => Separator::Line,
         _ if is_tight(parent, left, right) => Separator::Nothing,
+        _ if right == SyntaxKind::DIRECTIVES => Separator::SoftSpace,
         _ => Separator::Space,
     }
 }

@@ -1,31 +1,31 @@
-// How long a string will be in the document that is written.
-use crate::block_text::Indented;
-use format_strings::{is_string, spelled};
-use std::alloc::{AllocError, Allocator};
+// How wide a token is.
+use unicode_width::UnicodeWidthStr;
 
-/// How many characters a token will have, and whether it will have more than one line.
-#[derive(Clone, Copy)]
-pub struct Size {
-    pub width: usize,
-    pub has_lines: bool,
+/// How many columns the quotes of a block string take.
+pub const QUOTES: usize = 3;
+
+// Whether the text of a block string has its quotes in one line, and text between them that begins with a space or a tab. Then it stays: its value
+// would change if the text had a line of its own.
+fn is_inline(text: &str) -> bool {
+    let Some(inner) = text.get(QUOTES..) else {
+        return false;
+    };
+    let begins_white = inner.starts_with(' ') || inner.starts_with('\t');
+    let is_blank = inner.trim_start_matches([' ', '\t']).starts_with("\"\"\"");
+    begins_white && !is_blank && !inner.contains(['\n', '\r'])
 }
 
-impl Size {
-    // The size of a text as it is.
-    fn of_text(text: &str) -> Size {
-        Size {
-            width: text.chars().count(),
-            has_lines: text.as_bytes().contains(&b'\n'),
-        }
-    }
+/// Whether a string is written with a line for its quotes: a block string, but for one that stays in its line.
+#[inline(always)]
+pub fn has_lines(text: &str) -> bool {
+    text.starts_with("\"\"\"") && !is_inline(text)
+}
 
-    /// The size of a string: a block string's as it will be spelled, without an indent.
-    pub fn of_string<A: Allocator + Copy>(alloc: A, text: &str) -> Result<Size, AllocError> {
-        if text.starts_with("\"\"\"") && is_string(text) {
-            if let Some(other) = spelled(alloc, text, &Indented { spaces: 0 })? {
-                return Ok(Size::of_text(other.as_str()));
-            }
-        }
-        Ok(Size::of_text(text))
+/// How many columns a text takes in a terminal.
+pub fn columns(text: &str) -> usize {
+    if text.is_ascii() {
+        text.len()
+    } else {
+        text.width()
     }
 }

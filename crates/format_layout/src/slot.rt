@@ -1,60 +1,107 @@
-// What is known of the place before a token when the walk meets it. Whether the list around it breaks is known only where that ends.
+// The place before a token, as the walk over the tree leaves it. Whether a group breaks that begins there is known only with its column.
 
-/// What separates a token from the one before it while no list breaks.
+/// What separates a token from the one before it.
 #[derive(Clone, Copy)]
 pub enum Separator {
     /// Nothing.
     Nothing,
     /// A space.
     Space,
-    /// A comma and a space.
+    /// Nothing, or the end of a line where the group breaks.
+    SoftNothing,
+    /// A space, or the end of a line where the group breaks.
+    SoftSpace,
+    /// A comma and a space, or the end of a line where the group breaks.
     Comma,
+    /// A comma and a space, or the end of a line and an empty line where the group breaks.
+    BlankComma,
     /// The end of a line.
     Line,
     /// The end of a line, and an empty line.
     BlankLine,
+    /// The white space and the commas of the source.
+    Written,
 }
 
 impl Separator {
-    /// Whether a line ends there.
+    /// Whether a line always ends there.
     #[inline(always)]
     pub fn is_line(self) -> bool {
         matches!(self, Separator::Line | Separator::BlankLine)
     }
 
-    /// How many characters it takes in a line.
+    /// Whether a line ends there where the group breaks.
+    #[inline(always)]
+    pub fn is_soft(self) -> bool {
+        matches!(
+            self,
+            Separator::SoftNothing | Separator::SoftSpace | Separator::Comma | Separator::BlankComma
+        )
+    }
+
+    /// How many columns it takes in a line.
     #[inline(always)]
     pub fn width(self) -> usize {
         match self {
-            Separator::Nothing => 0,
-            Separator::Comma => 2,
-            Separator::Space | Separator::Line | Separator::BlankLine => 1,
+            Separator::Comma | Separator::BlankComma => 2,
+            Separator::Space | Separator::SoftSpace => 1,
+            _ => 0,
+        }
+    }
+
+    /// The separator with an empty line where it ends a line.
+    #[inline(always)]
+    pub fn with_blank(self) -> Separator {
+        match self {
+            Separator::Line => Separator::BlankLine,
+            Separator::Comma => Separator::BlankComma,
+            other => other,
         }
     }
 }
 
-/// Which bracket of a list that may break a token is.
+/// Which part of a group a token is.
 #[derive(Clone, Copy)]
-pub enum Bracket {
-    /// None.
+pub enum Part {
+    /// None that begins or ends one.
     Neither,
-    /// The opening one of a list that stays in its line.
+    /// The opening bracket.
     Open,
-    /// The opening one of a list that breaks.
-    OpenBroken,
-    /// The closing one.
+    /// The closing bracket.
     Close,
+    /// The first token of a group without brackets.
+    First,
+    /// The same, of a group whose lines are not indented.
+    FirstFlush,
+    /// A token that stays letter by letter.
+    Written,
 }
+
+/// The width of a group that breaks at any column.
+pub const BREAKS: u8 = u8::MAX;
 
 /// The place before a token or a comment.
 #[derive(Clone, Copy)]
 pub struct Slot {
-    /// What is there while no list breaks.
+    /// What is there.
     pub separator: Separator,
-    /// Whether a line begins there when the list around it breaks.
-    pub breaks_with_list: bool,
-    /// Which bracket the token is.
-    pub bracket: Bracket,
-    /// How many levels deep a line that begins there is indented, without the broken lists around it.
+    /// Which part of a group the token is.
+    pub part: Part,
+    /// Whether a group without brackets ends before it.
+    pub is_after_group: bool,
+    /// How many columns the group that begins with the token takes in one line, with the tokens after it up to the next place where a line may end.
+    pub width: u8,
+    /// How many levels deep a line that begins there is indented, without the broken groups around it.
     pub level: u16,
+}
+
+impl Slot {
+    /// The place before a token or a comment that stays with all that is before it.
+    pub const WRITTEN: Slot = Slot {
+        separator: Separator::Written,
+        part: Part::Written,
+        is_after_group: false,
+        width: BREAKS,
+        level: 0,
+    };
 }

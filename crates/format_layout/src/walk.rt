@@ -2,15 +2,21 @@
 // some 6 % less time. The walk itself is not, since its loop and the writer's would have to share the processor's registers.
 use crate::comments::CommentState;
 use crate::elements::Elements;
-use crate::rules::{Inside, between, closes, is_in_braces, is_word, opens};
-use crate::size::Size;
-use crate::slot::{Bracket, Separator, Slot};
+use crate::rules::{Inside, between, closes, is_between_items, is_in_braces, is_word, opens};
+use crate::size::{QUOTES, columns, has_lines};
+use crate::slot::{BREAKS, Part, Separator, Slot};
 use apollo_tree::IndexedElement;
 use document_grammar::SyntaxKind;
 use std::alloc::{AllocError, Allocator};
 
-// How many characters a field has at most up to the end of its arguments, while these are in its line.
-const MAX_FIELD_WIDTH: usize = 80;
+// A group that has ended, while it is not known where the next line may end.
+#[derive(Clone, Copy)]
+struct Ended {
+    // the number of its first slot
+    first: usize,
+    // the place of its first token
+    start: usize,
+}
 
 /// A node on the way down.
 #[derive(Clone, Copy)]
@@ -19,7 +25,7 @@ pub struct Frame {
     after: usize,
     // the number of its first slot
     first: usize,
-    // the width of all that is before its first token
+    // the place of its first token
     start: usize,
     /// How many levels deep a line is indented that begins with the node.
     pub level: u16,
@@ -28,8 +34,6 @@ pub struct Frame {
     pub inside: Inside,
     /// The last child that is no comment.
     pub previous: Option<SyntaxKind>,
-    // whether it is a field, or in one and not among its selections
-    in_field: bool,
 }
 
 impl Frame {
@@ -43,7 +47,6 @@ impl Frame {
             kind: root.kind,
             inside: Inside::of(root.kind),
             previous: None,
-            in_field: false,
         }
     }
 }
@@ -51,7 +54,6 @@ impl Frame {
 // What was met so far.
 #[derive(Drop)]
 struct Walk<'t, E, A: Allocator> {
-    alloc: A,
     elements: &'t E,
     source: &'t str,
     slots: Vec<Slot, A>,
@@ -60,20 +62,26 @@ struct Walk<'t, E, A: Allocator> {
     // where the element begins that is met
     here: usize,
     comments: CommentState,
-    // how many of the open nodes are lists that may break
-    list_count: usize,
-    // the number of the last slot in which a line ends, and of the last token of a list that has more than one line
+    // the index of the first element after an item that stays as it is
+    written_until: usize,
+    // whether the last token was a closing brace
+    after_brace: bool,
+    // how many of the open nodes are groups
+    group_count: usize,
+    // the groups that have ended, while it is not known where the next line may end
+    ended: Vec<Ended, A>,
+    // whether a group without brackets has ended after the last token
+    is_after_group: bool,
+    // the number of the last slot in which a line ends, or of the last token in which one does
     last_line: usize,
-    last_long_token: usize,
-    // the width of the tokens of fields, without their selections, and of the tokens before each of them while no line ends
-    width: usize,
+    // where the last token ends, in columns while nothing breaks; it is counted only while a group is open, or one that has ended waits
+    place: usize,
 }
 
 impl<'t, E: Elements, A: Allocator + Copy> Walk<'t, E, A> {
     // Nothing was met yet.
     fn new(alloc: A, source: &'t str, elements: &'t E) -> Result<Walk<'t, E, A>, AllocError> {
         Ok(Walk {
-            alloc,
             elements,
             source,
             // no more than a part of this is used, and the rest is never touched
@@ -81,11 +89,39 @@ impl<'t, E: Elements, A: Allocator + Copy> Walk<'t, E, A> {
             is_pending: false,
             here: 0,
             comments: CommentState::NONE,
-            list_count: 0,
+            written_until: 0,
+            after_brace: false,
+            group_count: 0,
+            ended: Vec::new(alloc),
+            is_after_group: false,
             last_line: 0,
-            last_long_token: 0,
-            width: 0,
+            place: 0,
         })
+    }
+
+    // Whether places are counted.
+    #[inline(always)]
+    fn is_counting(&self) -> bool {
+        self.group_count > 0 || !self.ended.is_empty()
+    }
+
+    // A line may end after the last token: so the widths of the groups that wait for that are known.
+    #[inline(always)]
+    fn may_end_line(&mut self) {
+        for _ in 0..self.ended.len() {
+            self.note_width();
+        }
+    }
+
+    // Notes the width of the group that ended last.
+    fn note_width(&mut self) {
+        let Some(group) = self.ended.pop() else {
+            return;
+        };
+        let width = self.place.saturating_sub(group.start);
+        if let Some(slot) = self.slots.get_mut(group.first) {
+            slot.width = u8::try_from(width).unwrap_or(BREAKS);
+        }
     }
 
     // How many line ends were met since the last token or comment.
@@ -93,13 +129,28 @@ impl<'t, E: Elements, A: Allocator + Copy> Walk<'t, E, A> {
         self.comments.line_ends(self.source, self.here)
     }
 
+    // Whether the locations of a directive begin here with a sign.
+    fn begins_with_sign(&self) -> bool {
+        self.source.as_bytes().get(self.here).copied() == Some(b'|')
+    }
+
     // What separates a child, which is no comment, from the text before it.
     #[inline(always)]
     fn separator(&self, parent: &Frame, child: SyntaxKind) -> Separator {
-        match parent.previous {
+        let separator = match parent.previous {
+            Some(_) if child == SyntaxKind::DIRECTIVE_LOCATIONS && self.begins_with_sign() => {
+                Separator::SoftSpace
+            }
             Some(left) => between(parent.inside, parent.kind, left, child),
             None if self.slots.is_empty() => Separator::Nothing,
             None => Separator::Line,
+        };
+        match separator {
+            Separator::Line | Separator::Comma => {
+                self.comments
+                    .with_blank(parent, child, separator, self.line_ends())
+            }
+            other => other,
         }
     }
 
@@ -119,37 +170,52 @@ impl<'t, E: Elements, A: Allocator + Copy> Walk<'t, E, A> {
     fn slot(&mut self, parent: &Frame, child: SyntaxKind, level: u16) -> Result<(), AllocError> {
         let mut slot = Slot {
             separator: self.separator(parent, child),
-            breaks_with_list: matches!(parent.inside, Inside::List),
-            bracket: Bracket::Neither,
+            part: Part::Neither,
+            is_after_group: self.is_after_group,
+            width: BREAKS,
             level,
         };
+        self.is_after_group = false;
+        let mut ends_line = slot.separator.is_line();
         if self.comments.last_was_comment() {
-            slot = self
-                .comments
-                .slot_after_comment(parent, child, self.line_ends(), slot);
+            slot = CommentState::slot_after_comment(parent, child, slot);
+            ends_line = true;
         }
-        if slot.separator.is_line() {
+        if ends_line {
             self.last_line = self.slots.len();
         }
-        if parent.in_field {
-            self.width = self.width.saturating_add(slot.separator.width());
+        if self.is_counting() {
+            if ends_line || slot.separator.is_soft() {
+                self.may_end_line();
+            }
+            self.place = self.place.saturating_add(slot.separator.width());
         }
         self.slots.push(slot)?;
         Ok(())
     }
 
     // A comment: in the line of the token before it, or in a line of its own.
-    fn comment(&mut self, parent: &Frame) -> Result<(), AllocError> {
+    fn comment(&mut self, index: usize, parent: &Frame) -> Result<(), AllocError> {
         let line_ends = self.line_ends();
         let is_first = self.slots.is_empty();
-        let slot = self.comments.slot_of_comment(parent, is_first, line_ends);
+        let slot = self
+            .comments
+            .slot_of_comment(parent, is_first, self.is_after_group, line_ends);
+        self.is_after_group = false;
         self.last_line = self.slots.len();
+        self.may_end_line();
         self.slots.push(slot)?;
-        self.comments.meet_comment(is_first || line_ends > 0);
+        let is_between = match parent.previous {
+            Some(left) => is_between_items(parent.inside, left),
+            None => true,
+        };
+        let text = self.text(index);
+        self.comments
+            .meet_comment(text, is_first || line_ends > 0, is_between);
         Ok(())
     }
 
-    // A token of a number of characters, which is a leaf, or a node of this kind that holds nothing else.
+    // A token of a number of columns, which is a leaf, or a node of this kind that holds nothing else.
     #[inline(always)]
     fn token(
         &mut self,
@@ -161,26 +227,27 @@ impl<'t, E: Elements, A: Allocator + Copy> Walk<'t, E, A> {
             let level = self.level(parent, kind);
             self.slot(parent, kind, level)?;
         }
-        if matches!(parent.inside, Inside::List) {
+        if parent.inside.has_brackets() {
             self.bracket(kind);
         }
-        if parent.in_field {
-            self.width = self.width.saturating_add(width);
+        if self.is_counting() {
+            self.place = self.place.saturating_add(width);
         }
         self.is_pending = false;
+        self.after_brace = kind == SyntaxKind::R_CURLY;
         self.comments.meet_token();
         parent.previous = Some(kind);
         Ok(())
     }
 
-    // A token of a list: notes a bracket.
+    // A token of a group between brackets: notes a bracket.
     #[inline(always)]
     fn bracket(&mut self, kind: SyntaxKind) {
         if let Some(slot) = self.slots.last_mut() {
             if opens(kind) {
-                slot.bracket = Bracket::Open;
+                slot.part = Part::Open;
             } else if closes(kind) {
-                slot.bracket = Bracket::Close;
+                slot.part = Part::Close;
             }
         }
     }
@@ -193,6 +260,30 @@ impl<'t, E: Elements, A: Allocator + Copy> Walk<'t, E, A> {
         }
     }
 
+    // The text of the element with an index, which is met.
+    #[inline(always)]
+    fn text(&self, index: usize) -> &'t str {
+        self.source.get(self.here..self.end(index)).unwrap_or("")
+    }
+
+    // A node of this kind that holds a string.
+    fn string(
+        &mut self,
+        index: usize,
+        kind: SyntaxKind,
+        parent: &mut Frame,
+    ) -> Result<(), AllocError> {
+        let text = self.text(index);
+        if !has_lines(text) {
+            return self.token(kind, columns(text), parent);
+        }
+        self.token(kind, QUOTES, parent)?;
+        // a line ends in it
+        self.last_line = self.slots.len().saturating_sub(1);
+        self.may_end_line();
+        Ok(())
+    }
+
     // A node of this kind that holds one token.
     #[inline(always)]
     fn word(
@@ -201,23 +292,17 @@ impl<'t, E: Elements, A: Allocator + Copy> Walk<'t, E, A> {
         kind: SyntaxKind,
         parent: &mut Frame,
     ) -> Result<(), AllocError> {
-        if kind == SyntaxKind::STRING_VALUE && self.list_count > 0 {
-            let text = self.source.get(self.here..self.end(index)).unwrap_or("");
-            let size = Size::of_string(self.alloc, text)?;
-            if size.has_lines {
-                self.last_long_token = self.slots.len();
-            }
-            return self.token(kind, size.width, parent);
+        if !self.is_counting() {
+            return self.token(kind, 0, parent);
         }
-        let width = if parent.in_field {
-            self.end(index).saturating_sub(self.here)
-        } else {
-            0
-        };
+        if matches!(kind, SyntaxKind::STRING_VALUE | SyntaxKind::DESCRIPTION) {
+            return self.string(index, kind, parent);
+        }
+        let width = self.end(index).saturating_sub(self.here);
         self.token(kind, width, parent)
     }
 
-    // A leaf. In a field, without its selections, each one that is a token has one character.
+    // A leaf.
     #[inline(always)]
     fn leaf(
         &mut self,
@@ -233,14 +318,19 @@ impl<'t, E: Elements, A: Allocator + Copy> Walk<'t, E, A> {
             }
             _ => {}
         }
-        self.leave_before(index, open);
+        self.leave_before(index, open)?;
         let Some(parent) = open.last_mut() else {
             return Ok(());
         };
         if kind == SyntaxKind::COMMENT {
-            return self.comment(parent);
+            return self.comment(index, parent);
         }
-        self.token(kind, 1, parent)
+        let width = if self.is_counting() {
+            self.end(index).saturating_sub(self.here)
+        } else {
+            0
+        };
+        self.token(kind, width, parent)
     }
 
     // A node.
@@ -251,11 +341,15 @@ impl<'t, E: Elements, A: Allocator + Copy> Walk<'t, E, A> {
         index: usize,
         open: &mut Vec<Frame, A>,
     ) -> Result<usize, AllocError> {
-        self.leave_before(index, open);
+        self.leave_before(index, open)?;
         let Some(parent) = open.last_mut() else {
             return Ok(element.after_subtree);
         };
         let kind = element.kind;
+        if self.comments.ignores_next() {
+            self.ignored(element, parent)?;
+            return Ok(index.saturating_add(1));
+        }
         if is_word(kind) {
             self.word(index, kind, parent)?;
             return Ok(element.after_subtree);
@@ -265,77 +359,142 @@ impl<'t, E: Elements, A: Allocator + Copy> Walk<'t, E, A> {
         Ok(index.saturating_add(1))
     }
 
+    // A node that stays as it is, after a comment that says so.
+    fn ignored(&mut self, element: IndexedElement, parent: &mut Frame) -> Result<(), AllocError> {
+        let level = self.level(parent, element.kind);
+        self.slot(parent, element.kind, level)?;
+        if let Some(slot) = self.slots.last_mut() {
+            slot.part = Part::Written;
+        }
+        parent.previous = Some(element.kind);
+        self.is_pending = true;
+        self.written_until = element.after_subtree;
+        Ok(())
+    }
+
+    // An element of an item that stays as it is.
+    fn written(&mut self, element: IndexedElement) -> Result<(), AllocError> {
+        if element.is_node || matches!(element.kind, SyntaxKind::WHITESPACE | SyntaxKind::COMMA) {
+            return Ok(());
+        }
+        if !self.is_pending {
+            self.slots.push(Slot::WRITTEN)?;
+        }
+        self.is_pending = false;
+        self.after_brace = element.kind == SyntaxKind::R_CURLY;
+        self.comments.meet_token();
+        Ok(())
+    }
+
     // A node of this kind, from its parent down.
     #[inline(always)]
     fn enter(&mut self, element: IndexedElement, parent: &mut Frame) -> Result<Frame, AllocError> {
         let kind = element.kind;
         let level = self.level(parent, kind);
         let inside = Inside::of(kind);
-        if matches!(inside, Inside::List) {
-            self.list_count = self.list_count.saturating_add(1);
-        }
         if !self.is_pending {
             self.slot(parent, kind, level)?;
             self.is_pending = true;
+        }
+        if matches!(parent.inside, Inside::Document) && parent.previous.is_some() {
+            self.part_definition(element);
+        }
+        if inside.is_group() {
+            self.group_count = self.group_count.saturating_add(1);
+            if inside.is_open_ended() {
+                self.begin_open_ended(kind, parent.kind);
+            }
         }
         self.comments.meet_node();
         parent.previous = Some(kind);
         Ok(Frame {
             after: element.after_subtree,
             first: self.slots.len().saturating_sub(1),
-            start: self.width,
+            start: self.place,
             level,
             kind,
             inside,
             previous: None,
-            in_field: kind == SyntaxKind::FIELD
-                || (parent.in_field && !matches!(inside, Inside::Braces)),
         })
     }
 
-    // Whether the list breaks: where a line ends in it, where the field is too long whose arguments it holds, and where one of the arguments that
-    // it defines has more than one line.
-    fn is_broken(&self, list: Frame, parent: Frame) -> bool {
-        self.last_line > list.first
-            || (list.kind == SyntaxKind::ARGUMENTS
-                && parent.kind == SyntaxKind::FIELD
-                && self.width.saturating_sub(parent.start) > MAX_FIELD_WIDTH)
-            || (list.kind == SyntaxKind::ARGUMENTS_DEFINITION && self.last_long_token > list.first)
+    // Notes the first token of a group without brackets, which is in a node of this kind.
+    fn begin_open_ended(&mut self, kind: SyntaxKind, parent: SyntaxKind) {
+        let is_flush = kind == SyntaxKind::DIRECTIVES
+            && matches!(
+                parent,
+                SyntaxKind::OPERATION_DEFINITION | SyntaxKind::FRAGMENT_DEFINITION
+            );
+        if let Some(slot) = self.slots.last_mut() {
+            slot.part = if is_flush {
+                Part::FirstFlush
+            } else {
+                Part::First
+            };
+        }
     }
 
-    // The end of a list, in this node. Where it breaks, a line ends in it.
-    fn leave_list(&mut self, list: Frame, parent: Frame) {
-        self.list_count = self.list_count.saturating_sub(1);
-        if self.is_broken(list, parent) {
-            self.last_line = self.slots.len();
-            if let Some(slot) = self.slots.get_mut(list.first) {
-                slot.bracket = Bracket::OpenBroken;
+    // An empty line between two definitions in one line, if one of them ends with a brace.
+    fn part_definition(&mut self, element: IndexedElement) {
+        if self.comments.last_was_comment() || self.line_ends() > 0 {
+            return;
+        }
+        let last = element.end.saturating_sub(1);
+        let ends_with_brace = self.source.as_bytes().get(last).copied() == Some(b'}');
+        if let Some(slot) = self.slots.last_mut() {
+            if self.after_brace || ends_with_brace {
+                slot.separator = Separator::BlankLine;
             }
         }
+    }
+
+    // Whether a line ends in a group that ends here, or before its first token where that is a part of it.
+    fn has_line(&self, group: Frame) -> bool {
+        if self.last_line != group.first {
+            return self.last_line > group.first;
+        }
+        match self.slots.get(group.first) {
+            Some(slot) => group.inside.is_open_ended() && slot.separator.is_soft(),
+            None => false,
+        }
+    }
+
+    // The end of a group. It breaks at any column where a line ends in it.
+    fn leave_group(&mut self, group: Frame) -> Result<(), AllocError> {
+        self.group_count = self.group_count.saturating_sub(1);
+        self.is_after_group = group.inside.is_open_ended();
+        if self.has_line(group) {
+            return Ok(());
+        }
+        self.ended.push(Ended {
+            first: group.first,
+            start: group.start,
+        })?;
+        Ok(())
     }
 
     // The end of the innermost open node.
     #[inline(always)]
-    fn leave(&mut self, open: &mut Vec<Frame, A>) {
+    fn leave(&mut self, open: &mut Vec<Frame, A>) -> Result<(), AllocError> {
         self.comments.meet_node();
         if let Some(frame) = open.pop() {
-            if matches!(frame.inside, Inside::List) {
-                if let Some(parent) = open.last() {
-                    self.leave_list(frame, *parent);
-                }
+            if frame.inside.is_group() {
+                self.leave_group(frame)?;
             }
         }
+        Ok(())
     }
 
     // Leaves the nodes that have ended before the element with an index.
     #[inline(always)]
-    fn leave_before(&mut self, index: usize, open: &mut Vec<Frame, A>) {
+    fn leave_before(&mut self, index: usize, open: &mut Vec<Frame, A>) -> Result<(), AllocError> {
         for _ in 0..open.len() {
             match open.last() {
-                Some(frame) if frame.after <= index => self.leave(open),
+                Some(frame) if frame.after <= index => self.leave(open)?,
                 _ => break,
             }
         }
+        Ok(())
     }
 
     // An element. Answers the index of the next one.
@@ -347,6 +506,10 @@ impl<'t, E: Elements, A: Allocator + Copy> Walk<'t, E, A> {
         open: &mut Vec<Frame, A>,
     ) -> Result<usize, AllocError> {
         self.here = element.start;
+        if index < self.written_until {
+            self.written(element)?;
+            return Ok(index.saturating_add(1));
+        }
         if element.is_node {
             return self.node(element, index, open);
         }
@@ -377,6 +540,7 @@ pub fn slots_of<E: Elements, A: Allocator + Copy>(
         };
         index = walk.element(element, index, &mut open)?;
     }
-    walk.leave_before(element_count, &mut open);
+    walk.leave_before(element_count, &mut open)?;
+    walk.may_end_line();
     Ok(walk.slots)
 }

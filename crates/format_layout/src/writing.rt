@@ -1,18 +1,20 @@
 // The tokens of a text, written with other gaps between them.
-ghost use Rattle.std.specs.Prelude.{◌≡◌, ◌≤◌, true, IfOk, OnOk, length, string_bytes};
+ghost use Rattle.std.specs.Prelude.{◌≡◌, ◌≤◌, true, false, IfOk, OnOk, length, string_bytes};
 ghost use Rattle.lexical_grammar.specs.Answers.{IsTokenText, usize_max};
 ghost use Rattle.lexical_grammar.specs.Tokens.{Tok};
 ghost use Rattle.lexical_grammar.specs.Reads.{items_of};
 ghost use Rattle.lexical_grammar.specs.Kept.{Kept, is_kept_kind};
+ghost use Rattle.format_tokens.specs.Laid.{Keeps};
 ghost use Rattle.format_layout.specs.Formatted.{Formatted, IsSentence};
 ghost use Rattle.format_layout.specs.Written.{AddsSame, HoldsSame};
 
 use crate::block_text::Indented;
 use crate::elements::Elements;
-use crate::gaps::Gaps;
+use crate::gaps::{Gaps, column_after};
+use crate::size::{QUOTES, columns, has_lines};
 use apollo_lexer::{Lexer, Token};
 use format_strings::spelled;
-use format_tokens::{Layout, is_kept};
+use format_tokens::{Gap, Layout, is_kept};
 use lexical_grammar::TokenKind;
 use std::alloc::{AllocError, Allocator};
 
@@ -24,16 +26,18 @@ struct Writer<A: Allocator> {
     gaps: Gaps<A>,
     // how many spaces the line begins with
     indent: u16,
+    // the column in which the last token ends
+    column: usize,
 }
 
 impl<A: Allocator + Copy> Writer<A> {
-    // Writes a significant token or a comment, or another block string with the same value.
-    fn spell(&mut self, kind: TokenKind, text: &str) -> Result<(), AllocError>
+    // Writes a significant token or a comment as it is, or, where it need not stay so, another block string with the same value.
+    fn spell(&mut self, kind: TokenKind, text: &str, stays: bool) -> Result<(), AllocError>
         requires token { Tok kind text.now }
         requires kept { is_kept_kind kind ≡ true }
         ensures { OnOk result (AddsSame (string_bytes self.old.layout.text) self.old.layout.edge (record { kind = kind; text = text.now }) (string_bytes self.new.layout.text) self.new.layout.edge) }
     {
-        if kind == TokenKind::StringValue {
+        if kind == TokenKind::StringValue && !stays && has_lines(text) {
             let style = Indented {
                 spaces: usize::from(self.indent),
             };
@@ -46,24 +50,68 @@ impl<A: Allocator + Copy> Writer<A> {
         Ok(())
     }
 
+    // Writes white space or a comma where these stay as they are in the source.
+    fn write_ignored(&mut self, kind: TokenKind, text: &str) -> Result<(), AllocError>
+        requires token { IsTokenText kind text.now }
+        requires ignored { is_kept_kind kind ≡ false }
+        ensures { OnOk result (Keeps (string_bytes self.old.layout.text) self.old.layout.edge (string_bytes self.new.layout.text) self.new.layout.edge) }
+    {
+        if kind == TokenKind::Eof || !self.gaps.keeps_blanks() {
+            return Ok(());
+        }
+        self.layout.ignored(kind, text)
+    }
+
+    // The column in which a token ends that begins in a column.
+    #[inline(always)]
+    fn column_after_token(&self, kind: TokenKind, text: &str, column: usize) -> usize {
+        if kind != TokenKind::StringValue {
+            column.saturating_add(text.len())
+        } else if has_lines(text) {
+            usize::from(self.indent).saturating_add(QUOTES)
+        } else {
+            column.saturating_add(columns(text))
+        }
+    }
+
+    // Writes the gap before a token.
+    #[inline(always)]
+    fn write_gap(&mut self, gap: Gap) -> Result<(), AllocError>
+        ensures { OnOk result (Keeps (string_bytes self.old.layout.text) self.old.layout.edge (string_bytes self.new.layout.text) self.new.layout.edge) }
+    {
+        if gap.lines > 0 {
+            self.indent = gap.spaces;
+        }
+        self.column = column_after(gap, self.column);
+        self.layout.gap(gap)
+    }
+
     // Writes a token with the gap before it, unless it is white space, a comma or the end.
     fn write(&mut self, token: Token<'_>) -> Result<(), AllocError>
         requires { IsTokenText token.kind token.text.now }
         ensures { OnOk result (AddsSame (string_bytes self.old.layout.text) self.old.layout.edge (record { kind = token.entry.kind; text = token.entry.text.now }) (string_bytes self.new.layout.text) self.new.layout.edge) }
     {
         let kind = token.kind();
+        let text = token.data();
         if !is_kept(kind) {
+            self.write_ignored(kind, text)?;
             return Ok(());
         }
-        let gap = self.gaps.next_gap()?;
-        self.indent = if gap.lines > 0 {
-            gap.spaces
-        } else {
-            self.indent
-        };
-        self.layout.gap(gap)?;
-        self.spell(kind, token.data())?;
+        let advice = self.gaps.next_advice(self.column)?;
+        self.write_gap(advice.gap)?;
+        self.column = self.column_after_token(kind, text, self.column);
+        self.spell(kind, text, advice.is_written)?;
         Ok(())
+    }
+
+    // Ends the last line, if there is one.
+    fn finish(&mut self) -> Result<(), AllocError>
+        ensures { OnOk result (Keeps (string_bytes self.old.layout.text) self.old.layout.edge (string_bytes self.new.layout.text) self.new.layout.edge) }
+    {
+        if self.gaps.is_empty() {
+            return Ok(());
+        }
+        self.layout.line()
     }
 }
 
@@ -81,14 +129,29 @@ fn write<A: Allocator + Copy>(
         layout: Layout::with_capacity(alloc, source.len())?,
         gaps,
         indent: 0,
+        column: 0,
     };
     for item in Lexer::new(source) {
         if let Ok(token) = item {
             writer.write(token)?;
         }
     }
-    writer.layout.line()?;
+    writer.finish()?;
     Ok(writer.layout.finish())
+}
+
+/// The significant tokens and the comments of a text with another layout. Its tree has these elements. It fails only where memory is refused.
+pub fn format_text<E: Elements, A: Allocator + Copy>(
+    alloc: A,
+    source: &str,
+    elements: &E,
+) -> Result<String<A>, AllocError>
+    requires { length (items_of source.now) ≤ usize_max }
+    ensures { IfOk result (λ text. HoldsSame (string_bytes text) (Kept (items_of source.now))) }
+{
+    let gaps = Gaps::of(alloc, source, elements)?;
+    let text = write(alloc, source, gaps)?;
+    Ok(text)
 }
 
 /// The document with another layout. Its tree has these elements. It fails only where memory is refused.
@@ -100,7 +163,6 @@ pub fn format_document<E: Elements, A: Allocator + Copy>(
     requires { IsSentence source.now }
     ensures { IfOk result (λ text. Formatted source.now (string_bytes text)) }
 {
-    let gaps = Gaps::of(alloc, source, elements)?;
-    let text = write(alloc, source, gaps)?;
+    let text = format_text(alloc, source, elements)?;
     Ok(text)
 }

@@ -1,5 +1,5 @@
 // The writer of tokens and of the gaps between them. Functions called for each token are inlined: the whole program takes some 3 % less time.
-ghost use Rattle.std.specs.Prelude.{◌≡◌, ◌<◌, true, [], List, IfOk, OnOk, length, slice_index, string_bytes};
+ghost use Rattle.std.specs.Prelude.{◌≡◌, ◌<◌, true, false, [], List, IfOk, OnOk, length, slice_index, string_bytes};
 ghost use Rattle.std.specs.List.{list_all};
 ghost use Rattle.lexical_grammar.specs.Cut.{Word};
 ghost use Rattle.lexical_grammar.specs.Tokens.{Tok};
@@ -161,6 +161,19 @@ impl<A: Allocator> Layout<A> {
             self.blanks(" ")?;
         }
         self.put(kind, text)
+    }
+
+    /// Writes white space or a comma of another text as it is, but nothing where it could not follow directly. It fails only where memory is refused.
+    pub fn ignored(&mut self, kind: TokenKind, text: &str) -> Result<(), AllocError>
+        requires token { Tok kind text.now }
+        requires ignored { is_kept_kind kind ≡ false }
+        ensures { OnOk result (Keeps (string_bytes self.old.text) self.old.edge (string_bytes self.new.text) self.new.edge) }
+    {
+        let first = text.as_bytes().first().copied().unwrap_or(0);
+        if self.edge.may_touch(kind, first) {
+            self.put(kind, text)?;
+        }
+        Ok(())
     }
 
     /// The text: its significant tokens and comments are those that were written, in that order.
