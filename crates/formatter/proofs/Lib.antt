@@ -1,2 +1,3 @@
+pub mod Ignored
 pub mod Parses
 pub mod Items

@@ -1,15 +1,19 @@
 //! Formats a GraphQL document: the same document with another layout, or the errors of a text that is no document.
 //!
 //! `format` parses the text and writes it anew. It keeps significant tokens and comments, in their order; only block strings may be spelled
-//! anew, with the same value. `gqlls_run` and `dumyroke_flat` call it. `gqlfmt_run` calls it through the trait `DocumentFormatter`, so that it is proved
-//! without the code of the parser.
+//! anew, with the same value. `format_comments` is for texts without definitions. `gqlls_run` and `dumyroke_flat` call `format`. `gqlfmt_run` has both
+//! through the trait `DocumentFormatter`, so that it is proved without the code of the parser.
 #![tactic(auto)]
 
-ghost use Rattle.std.specs.Prelude.{◌≡◌, ◌<◌, ℕ, true, false, List, length, IfErr, IfOk, string_bytes};
+ghost use Rattle.std.specs.Prelude.{◌≡◌, ◌<◌, ℕ, true, false, List, None, length, IfErr, IfOk, IfSome, string_bytes};
 ghost use Rattle.lexical_grammar.specs.Reads.{items_of};
+ghost use Rattle.formatter.specs.Comments.{HasNoDefinitions, HasSameComments};
 ghost use Rattle.formatter.specs.Formatted.{IsDocument, IsFormatted, IsRefused};
 
+mod comments;
+
 use apollo_parser::{DocumentRoot, Error, IndexedElement, Lexer, Limits, Parser, SyntaxTree};
+pub use comments::format_comments;
 use format_layout::{Elements, format_document};
 use std::alloc::{AllocError, Allocator};
 
@@ -88,6 +92,15 @@ pub trait DocumentFormatter {
     ) -> Result<Result<String<A>, Vec<Error<A>, A>>, AllocError>
         ensures formatted { IfOk result (λ r. IfOk r (λ text. IsFormatted source.now limits.recursion limits.tokens (string_bytes text))) }
         ensures refused { IfOk result (λ r. IfErr r (λ errors. IsRefused source.now limits.recursion limits.tokens errors.items)) };
+
+    /// A text without definitions with another layout, or `None`, as the function `format_comments` has it.
+    fn format_comments<A: Allocator + Copy>(
+        &self,
+        alloc: A,
+        source: &str,
+    ) -> Result<Option<String<A>>, AllocError>
+        ensures same { IfOk result (λ o. IfSome o (λ text. HasSameComments source.now (string_bytes text))) }
+        ensures other { IfOk result (λ o. o ≡ None → ¬ HasNoDefinitions source.now) };
 }
 
 /// The function `format`.
@@ -102,5 +115,13 @@ impl DocumentFormatter for Formatter {
         limits: Limits,
     ) -> Result<Result<String<A>, Vec<Error<A>, A>>, AllocError> {
         format(alloc, source, limits)
+    }
+
+    fn format_comments<A: Allocator + Copy>(
+        &self,
+        alloc: A,
+        source: &str,
+    ) -> Result<Option<String<A>>, AllocError> {
+        format_comments(alloc, source)
     }
 }

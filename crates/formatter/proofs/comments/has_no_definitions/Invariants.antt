@@ -1,0 +1,9 @@
+use Rattle.std.proofs.Common.{◌≡◌}
+use Rattle.apollo_lexer.specs.Answers.{answers_left}
+use Rattle.lexical_grammar.specs.Reads.{items_of}
+use Rattle.formatter.proofs.Ignored.{are_ignored, are_ignored_answers}
+use Rattle.formatter.proofs.comments.has_no_definitions.Given as goal
+
+-- the tokens so far are ignored, so the others decide
+abbrev pub invariant-loop-item : goal.invariant-loop-item
+invariant-loop-item l = are_ignored_answers (answers_left l.item-iterator) ≡ are_ignored (items_of l.fn.source)

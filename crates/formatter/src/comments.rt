@@ -1,0 +1,57 @@
+// Texts without definitions.
+ghost use Rattle.std.specs.Prelude.{◌≡◌, ◌≤◌, true, false, not, [], None, length, IfOk, IfSome, string_bytes};
+ghost use Rattle.lexical_grammar.specs.Answers.{usize_max};
+ghost use Rattle.lexical_grammar.specs.Cut.{Significant, are_tokens, is_significant_kind};
+ghost use Rattle.lexical_grammar.specs.Reads.{items_of};
+ghost use Rattle.formatter.specs.Comments.{HasNoDefinitions, HasSameComments};
+
+use crate::TreeElements;
+use apollo_parser::{Lexer, Parser, TokenKind};
+use format_layout::format_text;
+use std::alloc::{AllocError, Allocator};
+
+fn is_ignored(kind: TokenKind) -> bool
+    ensures { result ≡ not (is_significant_kind kind) }
+{
+    matches!(
+        kind,
+        TokenKind::Whitespace | TokenKind::Comment | TokenKind::Comma | TokenKind::Eof
+    )
+}
+
+// Whether the text has no significant token and no bad text.
+fn has_no_definitions(source: &str) -> bool
+    ensures few { length (items_of source.now) ≤ usize_max }
+    ensures tokens { result ≡ true → are_tokens (items_of source.now) ≡ true }
+    ensures none { result ≡ true → Significant (items_of source.now) ≡ [] }
+    ensures some { result ≡ false → ¬ HasNoDefinitions source.now }
+{
+    for item in Lexer::new(source) {
+        let Ok(token) = item else {
+            return false;
+        };
+        if !is_ignored(token.kind()) {
+            return false;
+        }
+    }
+    true
+}
+
+/// A text without definitions with the layout of this crate: one that is empty, or has comments alone. `None` where the text has a significant token or bad
+/// text. It fails only where memory is refused.
+///
+/// Such a text is no document by the standard, so `format` refuses it; but people have such files, and want them formatted too.
+pub fn format_comments<A: Allocator + Copy>(
+    alloc: A,
+    source: &str,
+) -> Result<Option<String<A>>, AllocError>
+    ensures same { IfOk result (λ o. IfSome o (λ text. HasSameComments source.now (string_bytes text))) }
+    ensures other { IfOk result (λ o. o ≡ None → ¬ HasNoDefinitions source.now) }
+{
+    if !has_no_definitions(source) {
+        return Ok(None);
+    }
+    let tree = Parser::new(source).parse(alloc)?;
+    let text = format_text(alloc, source, &TreeElements { tree: &tree })?;
+    Ok(Some(text))
+}
