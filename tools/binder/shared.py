@@ -99,7 +99,7 @@ def static_library():
 
 
 def texts():
-    """The texts of the tests: those that gqlfmt is tried with. Those of crates/tests_texts are among them."""
+    """The texts of the tests: those that gqlfmt is tried with. Those of crates/tests_parser are among them."""
     records = (TOP / "tools/format_trial/records").read_bytes().split(b"\x1e")
     return [record.split(b"\x1f")[1] for record in records if b"\x1f" in record]
 

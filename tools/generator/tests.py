@@ -353,9 +353,9 @@ def a_mistake_ends_with_status_1(made):
 
 def each_struct_is_cast():
     """The answers on casts, which are written by hand, have a line for each kind of node."""
-    lines = (CRATES / "tests_lexer_and_tree/stdout").read_text().splitlines()
+    lines = (CRATES / "tests_parser/stdout").read_text().splitlines()
     missing = [kind for kind in Grammar().nodes if f"{type_case(kind)} Some({kind})" not in lines]
-    return f"tests_lexer_and_tree/stdout has no line for {', '.join(missing)}" if missing else None
+    return f"tests_parser/stdout has no line for {', '.join(missing)}" if missing else None
 
 
 def main():

@@ -1,8 +1,8 @@
 // Definitions and values, as the typed tree gives them.
-use crate::printing::put;
+use crate::answers::Answers;
 use apollo_parser::SyntaxNode;
 use apollo_parser::cst::{CstNode, Definition, Document, IntValue, StringValue};
-use std::alloc::{AllocError, Global};
+use std::alloc::Global;
 
 // The description of a definition that may have one.
 fn description_of(definition: Definition<'_>) -> Option<StringValue<'_>> {
@@ -22,64 +22,50 @@ fn description_of(definition: Definition<'_>) -> Option<StringValue<'_>> {
     description?.string_value()
 }
 
-fn put_definition(
-    alloc: Global,
-    found: &mut String,
-    definition: Definition<'_>,
-) -> Result<(), AllocError> {
-    found.push_str(definition.kind())?;
+fn put_definition(alloc: Global, found: &mut Answers, definition: Definition<'_>) {
+    found.say(definition.kind());
     if let Some(name) = definition.name() {
-        found.push(' ')?;
-        found.push_str(name.text().as_str())?;
+        found.say(" ");
+        found.say(name.text().as_str());
     }
     if definition.is_executable_definition() {
-        found.push_str(", executable")?;
+        found.say(", executable");
     }
     if definition.is_extension_definition() {
-        found.push_str(", an extension")?;
+        found.say(", an extension");
     }
     if let Some(description) = description_of(definition) {
-        found.push_str(", described as ")?;
-        put(found, &description.to_string_in(alloc)?.as_str(), "")?;
+        found.say(", described as ");
+        found.made(description.to_string_in(alloc), "");
     }
-    found.push('\n')
+    found.end_line();
 }
 
 /// A line for each definition, with its kind, its name and its description.
-pub fn put_definitions(
-    alloc: Global,
-    found: &mut String,
-    root: SyntaxNode<'_>,
-) -> Result<(), AllocError> {
+pub fn put_definitions(alloc: Global, found: &mut Answers, root: SyntaxNode<'_>) {
     if let Some(document) = Document::cast(root) {
         for definition in document.definitions() {
-            put_definition(alloc, found, definition)?;
+            put_definition(alloc, found, definition);
         }
     }
-    Ok(())
 }
 
-fn put_value(alloc: Global, found: &mut String, node: SyntaxNode<'_>) -> Result<(), AllocError> {
+fn put_value(alloc: Global, found: &mut Answers, node: SyntaxNode<'_>) {
     if let Some(string) = StringValue::cast(node) {
-        return put(found, &string.to_string_in(alloc)?.as_str(), "\n");
+        found.made(string.to_string_in(alloc), "\n");
+        return;
     }
     if let Some(integer) = IntValue::cast(node) {
-        return match i32::try_from(&integer) {
-            Ok(number) => put(found, &number, "\n"),
-            Err(_) => found.push_str("out of range\n"),
-        };
+        match i32::try_from(&integer) {
+            Ok(number) => found.write(&number, "\n"),
+            Err(_) => found.say("out of range\n"),
+        }
     }
-    Ok(())
 }
 
 /// A line for each string and each integer, with its value.
-pub fn put_values(
-    alloc: Global,
-    found: &mut String,
-    root: SyntaxNode<'_>,
-) -> Result<(), AllocError> {
+pub fn put_values(alloc: Global, found: &mut Answers, root: SyntaxNode<'_>) {
     for node in root.descendants() {
-        put_value(alloc, found, node)?;
+        put_value(alloc, found, node);
     }
-    Ok(())
 }

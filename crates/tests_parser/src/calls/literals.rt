@@ -1,5 +1,5 @@
 // Lines, raw values and block values of strings, and the error of literals.
-use crate::answer::put;
+use crate::answers::Answers;
 use apollo_cst_core::{GraphQLLines, LiteralError, block_value, raw_value};
 use std::alloc::{AllocError, Global};
 
@@ -10,22 +10,22 @@ const TEXTS: [&str; 4] = [
     "é\ré",
 ];
 
-fn put_lines(found: &mut String, text: &str) -> Result<(), AllocError> {
-    found.push_str("lines:")?;
+fn put_lines(found: &mut Answers, text: &str) {
+    found.say("lines:");
     for line in GraphQLLines::new(text) {
-        put(found, &line)?;
+        found.put(&line);
     }
-    found.push('\n')
+    found.end_line();
 }
 
 // No line follows the last.
-fn put_last_line(found: &mut String) -> Result<(), AllocError> {
+fn put_last_line(found: &mut Answers) {
     let mut lines = GraphQLLines::new("é");
-    found.push_str("next lines:")?;
+    found.say("next lines:");
     for _ in 0..3 {
-        put(found, &lines.next())?;
+        found.put(&lines.next());
     }
-    found.push('\n')
+    found.end_line();
 }
 
 // What is between the quotes of block strings.
@@ -45,29 +45,28 @@ const RAW_VALUES: [&str; 10] = [
     "\n\t\té\n\t😀",
 ];
 
-fn put_strings(alloc: Global, found: &mut String) -> Result<(), AllocError> {
-    found.push_str("raw values:")?;
+fn put_strings(alloc: Global, found: &mut Answers) -> Result<(), AllocError> {
+    found.say("raw values:");
     for inside in INSIDES {
-        put(found, &raw_value(inside, alloc)?.as_str())?;
+        found.put(&raw_value(inside, alloc)?.as_str());
     }
-    found.push_str("\nblock values:")?;
+    found.say("\nblock values:");
     for raw in RAW_VALUES {
-        put(found, &block_value(raw, alloc)?.as_str())?;
+        found.put(&block_value(raw, alloc)?.as_str());
     }
-    found.push('\n')
+    found.end_line();
+    Ok(())
 }
 
-pub fn put_answers(alloc: Global, found: &mut String) -> Result<(), AllocError> {
+pub fn put_answers(alloc: Global, found: &mut Answers) -> Result<(), AllocError> {
     for text in TEXTS {
-        put_lines(found, text)?;
+        put_lines(found, text);
     }
-    put_last_line(found)?;
+    put_last_line(found);
     put_strings(alloc, found)?;
-    found.push_str("error:")?;
-    put(found, &LiteralError::OutOfRange)?;
-    put(
-        found,
-        &(LiteralError::OutOfRange == LiteralError::OutOfRange),
-    )?;
-    found.push('\n')
+    found.say("error:");
+    found.put(&LiteralError::OutOfRange);
+    found.put(&(LiteralError::OutOfRange == LiteralError::OutOfRange));
+    found.end_line();
+    Ok(())
 }

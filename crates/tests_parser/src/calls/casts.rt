@@ -1,5 +1,5 @@
 // Which kinds each type of node and of leaf takes, of all kinds.
-use crate::answer::put;
+use crate::answers::Answers;
 use apollo_cst_core::{
     CommentToken, CstNode, CstToken, FloatToken, IdentToken, IntToken, StringToken, WhitespaceToken,
 };
@@ -20,7 +20,6 @@ use apollo_cst_type_system::{
     SchemaExtension, UnionMemberTypes, UnionTypeDefinition, UnionTypeExtension,
 };
 use document_grammar::SyntaxKind;
-use std::alloc::AllocError;
 
 // The only kind that a type of node takes.
 fn kind_of<'t, N: CstNode<'t>>() -> Option<SyntaxKind> {
@@ -162,36 +161,35 @@ fn leaves() -> [Row; 6] {
     ]
 }
 
-fn put_rows(found: &mut String, rows: &[Row]) -> Result<(), AllocError> {
+fn put_rows(found: &mut Answers, rows: &[Row]) {
     for (name, kind) in rows {
-        found.push_str(name)?;
-        put(found, kind)?;
-        found.push('\n')?;
+        found.say(name);
+        found.put(kind);
+        found.end_line();
     }
-    Ok(())
 }
 
 // The kinds that a choice takes.
-fn put_choice<'t, N: CstNode<'t>>(found: &mut String, name: &str) -> Result<(), AllocError> {
-    found.push_str(name)?;
+fn put_choice<'t, N: CstNode<'t>>(found: &mut Answers, name: &str) {
+    found.say(name);
     for number in 0..SyntaxKind::COUNT {
         if let Some(kind) = SyntaxKind::from_u16(number)
             && N::can_cast(kind)
         {
-            put(found, &kind)?;
+            found.put(&kind);
         }
     }
-    found.push('\n')
+    found.end_line();
 }
 
-pub fn put_answers(found: &mut String) -> Result<(), AllocError> {
-    put_choice::<Definition>(found, "Definition")?;
-    put_choice::<Selection>(found, "Selection")?;
-    put_choice::<Value>(found, "Value")?;
-    put_choice::<Ty>(found, "Type")?;
-    put_rows(found, &values_and_types())?;
-    put_rows(found, &executable_definitions())?;
-    put_rows(found, &type_definitions())?;
-    put_rows(found, &documents_and_extensions())?;
-    put_rows(found, &leaves())
+pub fn put_answers(found: &mut Answers) {
+    put_choice::<Definition>(found, "Definition");
+    put_choice::<Selection>(found, "Selection");
+    put_choice::<Value>(found, "Value");
+    put_choice::<Ty>(found, "Type");
+    put_rows(found, &values_and_types());
+    put_rows(found, &executable_definitions());
+    put_rows(found, &type_definitions());
+    put_rows(found, &documents_and_extensions());
+    put_rows(found, &leaves());
 }

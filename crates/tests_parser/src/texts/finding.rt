@@ -1,8 +1,8 @@
 // What is found in a text.
-use crate::parts::put_parts;
-use crate::printing::put;
-use crate::record::{Mode, Record, View};
-use crate::typed::{put_definitions, put_values};
+use super::parts::put_parts;
+use super::record::{Mode, Record, View};
+use super::typed::{put_definitions, put_values};
+use crate::answers::Answers;
 use apollo_parser::cst::{CstNode, SyntaxNodePtr};
 use apollo_parser::{
     DocumentRoot, Error, LexError, Lexer, Limits, Parser, Root, SelectionSetRoot, Steps,
@@ -48,26 +48,25 @@ impl Parsed for TypeRoot {
     }
 }
 
-fn put_error(found: &mut String, error: &Error) -> Result<(), AllocError> {
-    put(found, &error.index(), " ")?;
+fn put_error(found: &mut Answers, error: &Error) {
+    found.write(&error.index(), " ");
     if error.is_limit() {
-        found.push_str("limit")?;
+        found.say("limit");
     } else if error.is_eof() {
-        found.push_str("end")?;
+        found.say("end");
     } else {
-        put(found, &error.data(), "")?;
+        found.write(&error.data(), "");
     }
-    found.push_str(": ")?;
-    found.push_str(error.message())?;
-    found.push('\n')
+    found.say(": ");
+    found.say(error.message());
+    found.end_line();
 }
 
 // A line for each of the first ten errors, with the byte offset, the text that it is about, and the message.
-fn put_errors<R: Root>(found: &mut String, tree: &SyntaxTree<R, Global>) -> Result<(), AllocError> {
+fn put_errors<R: Root>(found: &mut Answers, tree: &SyntaxTree<R, Global>) {
     for error in tree.errors().take(10) {
-        put_error(found, error)?;
+        put_error(found, error);
     }
-    Ok(())
 }
 
 fn node_count(root: SyntaxNode<'_>) -> usize {
@@ -78,37 +77,41 @@ fn node_count(root: SyntaxNode<'_>) -> usize {
     count
 }
 
-fn put_root(found: &mut String, root: SyntaxNode<'_>) -> Result<(), AllocError> {
-    put(found, &root.kind(), " of ")?;
-    put(found, &root.text().len(), " bytes, ")?;
-    put(found, &node_count(root), " nodes below it; ")
+fn put_root(found: &mut Answers, root: SyntaxNode<'_>) {
+    found.write(&root.kind(), " of ");
+    found.write(&root.text().len(), " bytes, ");
+    found.write(&node_count(root), " nodes below it; ");
 }
 
 // The errors, and a line with the root and the counts.
-fn put_tree<R: Root>(found: &mut String, tree: &SyntaxTree<R, Global>) -> Result<(), AllocError> {
-    put_errors(found, tree)?;
-    put_root(found, tree.root())?;
-    put(found, &tree.element_count(), " elements, ")?;
-    put(found, &tree.token_limit().high, " items, nesting ")?;
-    put(found, &tree.recursion_limit().high, ", ")?;
-    put(found, &tree.errors().len(), " errors\n")
+fn put_tree<R: Root>(found: &mut Answers, tree: &SyntaxTree<R, Global>) {
+    put_errors(found, tree);
+    put_root(found, tree.root());
+    found.write(&tree.element_count(), " elements, ");
+    found.write(&tree.token_limit().high, " items, nesting ");
+    found.write(&tree.recursion_limit().high, ", ");
+    found.write(&tree.errors().len(), " errors\n");
 }
 
 fn put_item(
     alloc: Global,
-    found: &mut String,
+    found: &mut Answers,
     item: Result<Token<'_>, LexError<'_>>,
 ) -> Result<(), AllocError> {
     match item {
-        Ok(token) => writeln!(found, "{token}"),
+        Ok(token) => {
+            found.show(&token);
+            found.end_line();
+        }
         Err(error) => put_error(found, &error.to_error(alloc)?),
     }
+    Ok(())
 }
 
 // A line for each item of the lexer.
 fn put_items(
     alloc: Global,
-    found: &mut String,
+    found: &mut Answers,
     source: &str,
     limits: Limits,
 ) -> Result<(), AllocError> {
@@ -118,21 +121,22 @@ fn put_items(
     Ok(())
 }
 
-fn put_range(found: &mut String, node: SyntaxNode<'_>) -> Result<(), AllocError> {
-    put(found, &node.kind(), " ")?;
-    put(found, &node.text_range(), " ")?;
-    put(found, &node.text(), " ")
+fn put_range(found: &mut Answers, node: SyntaxNode<'_>) {
+    found.write(&node.kind(), " ");
+    found.write(&node.text_range(), " ");
+    found.write(&node.text(), " ");
 }
 
 // Where a node is, its text, and the same of a copy of it.
-fn put_place(alloc: Global, found: &mut String, node: SyntaxNode<'_>) -> Result<(), AllocError> {
+fn put_place(alloc: Global, found: &mut Answers, node: SyntaxNode<'_>) -> Result<(), AllocError> {
     let copy = node.clone_subtree(alloc)?;
-    put_range(found, node)?;
-    put_range(found, copy.root())?;
-    put(found, &node.source_string(alloc)?.as_str(), "\n")
+    put_range(found, node);
+    put_range(found, copy.root());
+    found.made(node.source_string(alloc), "\n");
+    Ok(())
 }
 
-fn put_places(alloc: Global, found: &mut String, root: SyntaxNode<'_>) -> Result<(), AllocError> {
+fn put_places(alloc: Global, found: &mut Answers, root: SyntaxNode<'_>) -> Result<(), AllocError> {
     for node in root.descendants() {
         put_place(alloc, found, node)?;
     }
@@ -142,7 +146,7 @@ fn put_places(alloc: Global, found: &mut String, root: SyntaxNode<'_>) -> Result
 // What is looked at in the nodes of a tree, from its root on.
 fn put_nodes(
     alloc: Global,
-    found: &mut String,
+    found: &mut Answers,
     root: SyntaxNode<'_>,
     view: View,
 ) -> Result<(), AllocError> {
@@ -150,32 +154,34 @@ fn put_nodes(
         View::Definitions => put_definitions(alloc, found, root),
         View::Values => put_values(alloc, found, root),
         View::Parts => put_parts(alloc, found, root),
-        _ => put_places(alloc, found, root),
+        _ => put_places(alloc, found, root)?,
     }
+    Ok(())
 }
 
 fn put_view<R: Parsed>(
     alloc: Global,
-    found: &mut String,
+    found: &mut Answers,
     tree: &SyntaxTree<R, Global>,
     view: View,
 ) -> Result<(), AllocError> {
     match view {
         View::Counts => put_tree(found, tree),
-        View::Printed => writeln!(found, "{tree:?}"),
+        View::Printed => found.write(tree, "\n"),
         _ => {
-            put_errors(found, tree)?;
+            put_errors(found, tree);
             match R::typed(tree) {
-                Some(root) => put_nodes(alloc, found, root, view),
-                None => found.push_str("no type\n"),
+                Some(root) => put_nodes(alloc, found, root, view)?,
+                None => found.say("no type\n"),
             }
         }
     }
+    Ok(())
 }
 
 fn put_text<R: Parsed>(
     alloc: Global,
-    found: &mut String,
+    found: &mut Answers,
     source: &str,
     limits: Limits,
     view: View,
@@ -198,15 +204,16 @@ fn counted_copy(
 
 fn put_copy(
     alloc: Global,
-    found: &mut String,
+    found: &mut Answers,
     source: &str,
     limits: Limits,
 ) -> Result<(), AllocError> {
     let copy = counted_copy(alloc, source, limits)?;
-    writeln!(found, "{copy:?}")?;
-    put(found, &copy.token_limit().limit, " ")?;
-    put(found, &copy.element(0), "\n")?;
-    put_tree(found, &copy)
+    found.write(&copy, "\n");
+    found.write(&copy.token_limit().limit, " ");
+    found.write(&copy.element(0), "\n");
+    put_tree(found, &copy);
+    Ok(())
 }
 
 fn document(alloc: Global, source: &str) -> Result<SyntaxTree<DocumentRoot, Global>, AllocError> {
@@ -232,19 +239,20 @@ fn pointer_to_field(alloc: Global, source: &str) -> Result<Option<SyntaxNodePtr>
 
 fn put_pointed(
     alloc: Global,
-    found: &mut String,
+    found: &mut Answers,
     pointer: SyntaxNodePtr,
     source: &str,
 ) -> Result<(), AllocError> {
     let tree = document(alloc, source)?;
     match pointer.to_node(&tree.root()) {
-        Some(node) => put(found, &(node.kind(), node.text()), "\n"),
-        None => found.push_str("no node\n"),
+        Some(node) => found.write(&(node.kind(), node.text()), "\n"),
+        None => found.say("no node\n"),
     }
+    Ok(())
 }
 
 // What a pointer to the first field of the first line finds in the other lines.
-fn put_pointers(alloc: Global, found: &mut String, source: &str) -> Result<(), AllocError> {
+fn put_pointers(alloc: Global, found: &mut Answers, source: &str) -> Result<(), AllocError> {
     let (first, others) = source.split_once("\n").unwrap_or((source, ""));
     if let Some(pointer) = pointer_to_field(alloc, first)? {
         for line in others.split("\n") {
@@ -257,7 +265,7 @@ fn put_pointers(alloc: Global, found: &mut String, source: &str) -> Result<(), A
 // What a mode finds in a text.
 fn put_findings(
     alloc: Global,
-    found: &mut String,
+    found: &mut Answers,
     source: &str,
     mode: Mode,
     limits: Limits,
@@ -277,7 +285,7 @@ fn put_findings(
 /// What the record's mode finds in its text.
 pub fn findings(alloc: Global, record: &Record<'_>) -> Result<String, AllocError> {
     let source = record.text(alloc)?;
-    let mut found = String::new(alloc);
+    let mut found = Answers::new(alloc);
     put_findings(
         alloc,
         &mut found,
@@ -285,5 +293,5 @@ pub fn findings(alloc: Global, record: &Record<'_>) -> Result<String, AllocError
         record.mode,
         record.limits,
     )?;
-    Ok(found)
+    found.into_text()
 }

@@ -1,5 +1,5 @@
 // Calls on errors.
-use crate::answer::put;
+use crate::answers::Answers;
 use apollo_lexer::{Error, quoting_error, static_error};
 use std::alloc::{AllocError, Global};
 use std::hash::{DefaultHasher, Hash, Hasher};
@@ -18,33 +18,35 @@ fn about_a_limit(alloc: Global) -> Result<Error, AllocError> {
     Ok(Error::limit(String::from_str(alloc, "m")?, 5))
 }
 
-fn put_error(found: &mut String, error: &Error) -> Result<(), AllocError> {
-    write!(found, "{error}|")?;
-    put(found, error)?;
-    put(found, &error.message())?;
-    put(found, &error.data())?;
-    put(found, &error.index())?;
-    put(found, &error.is_eof())?;
-    put(found, &error.is_limit())?;
-    found.push('\n')
+fn put_error(found: &mut Answers, error: &Error) {
+    found.show(error);
+    found.say("|");
+    found.put(error);
+    found.put(&error.message());
+    found.put(&error.data());
+    found.put(&error.index());
+    found.put(&error.is_eof());
+    found.put(&error.is_limit());
+    found.end_line();
 }
 
-fn put_comparison(found: &mut String, error: &Error, other: &Error) -> Result<(), AllocError> {
-    found.push_str("equal:")?;
-    put(found, &(*error == *other))?;
-    found.push('\n')
+fn put_comparison(found: &mut Answers, error: &Error, other: &Error) {
+    found.say("equal:");
+    found.put(&(*error == *other));
+    found.end_line();
 }
 
-fn put_subjects(alloc: Global, found: &mut String) -> Result<(), AllocError> {
+fn put_subjects(alloc: Global, found: &mut Answers) -> Result<(), AllocError> {
     let text = about_a_text(alloc)?;
     let end = about_the_end(alloc)?;
     let limit = about_a_limit(alloc)?;
     for error in [&text, &end, &limit] {
-        put_error(found, error)?;
+        put_error(found, error);
     }
-    put_comparison(found, &text, &end)?;
-    put_comparison(found, &text, &limit)?;
-    put_comparison(found, &end, &limit)
+    put_comparison(found, &text, &end);
+    put_comparison(found, &text, &limit);
+    put_comparison(found, &end, &limit);
+    Ok(())
 }
 
 fn hash_of(error: &Error) -> u64 {
@@ -54,12 +56,13 @@ fn hash_of(error: &Error) -> u64 {
 }
 
 // A clone is equal, and has the same hash.
-fn put_clone(alloc: Global, found: &mut String, error: &Error) -> Result<(), AllocError> {
+fn put_clone(alloc: Global, found: &mut Answers, error: &Error) -> Result<(), AllocError> {
     let copy = error.try_clone(alloc)?;
-    put_comparison(found, error, &copy)?;
-    found.push_str("one hash:")?;
-    put(found, &(hash_of(error) == hash_of(&copy)))?;
-    found.push('\n')
+    put_comparison(found, error, &copy);
+    found.say("one hash:");
+    found.put(&(hash_of(error) == hash_of(&copy)));
+    found.end_line();
+    Ok(())
 }
 
 // An error whose message and text are its own.
@@ -69,21 +72,22 @@ fn owning(alloc: Global, message: &str, text: &str) -> Result<Error, AllocError>
 }
 
 // An error of static words, beside one that owns its words.
-fn put_static(alloc: Global, found: &mut String, text: &str) -> Result<(), AllocError> {
+fn put_static(alloc: Global, found: &mut Answers, text: &str) -> Result<(), AllocError> {
     let owned = owning(alloc, "expected definition", text)?;
     let error = static_error(alloc, "expected definition", text, 0)?;
-    put_comparison(found, &error, &owned)
+    put_comparison(found, &error, &owned);
+    Ok(())
 }
 
 // An error whose message quotes its text, beside one that owns its words.
 fn put_quoting(
     alloc: Global,
-    found: &mut String,
+    found: &mut Answers,
     (text, message): (&str, &str),
 ) -> Result<(), AllocError> {
     let owned = owning(alloc, message, text)?;
     let error = quoting_error(alloc, "expected COLON", ", got ", text, "!", 0)?;
-    put_comparison(found, &error, &owned)?;
+    put_comparison(found, &error, &owned);
     put_clone(alloc, found, &error)
 }
 
@@ -107,19 +111,19 @@ const QUOTED: [(&str, &str); 3] = [
     ),
 ];
 
-pub fn put_answers(alloc: Global, found: &mut String) -> Result<(), AllocError> {
+pub fn put_answers(alloc: Global, found: &mut Answers) -> Result<(), AllocError> {
     put_subjects(alloc, found)?;
     put_clone(alloc, found, &about_the_end(alloc)?)?;
     put_comparison(
         found,
         &Error::eof_from_static("m", 5),
         &about_the_end(alloc)?,
-    )?;
+    );
     put_comparison(
         found,
         &Error::limit_from_static("m", 5),
         &about_a_limit(alloc)?,
-    )?;
+    );
     for text in TEXTS {
         put_static(alloc, found, text)?;
     }

@@ -1,6 +1,6 @@
 use Rattle.apollo_parser.specs.Derivation.{document}
-use Rattle.tests_texts.proofs.Composed.{same-text, reads-back, one-tree}
-use Rattle.tests_texts.proofs.promises.parsed.Goals as goal
+use Rattle.tests_parser.proofs.Composed.{same-text, reads-back, one-tree}
+use Rattle.tests_parser.proofs.promises.parsed.Goals as goal
 
 pub returns-clause-only_derivation : goal.returns-clause-only_derivation
 returns-clause-only_derivation g c = let p = same-text c.new.ensures.source c.new.ensures.recursion_limit c.in_ok-tree.ensures.promise in

@@ -4,7 +4,7 @@ ghost use Rattle.std.specs.Ordering.{nat_cmp};
 ghost use Rattle.std.specs.Cmp.Lexicographic.{slice_cmp};
 ghost use Rattle.apollo_tree.specs.References.{token_text};
 
-use crate::answer::put;
+use crate::answers::Answers;
 use apollo_tree::{Record, RecordTable, SyntaxKind, TokenText};
 use std::alloc::{AllocError, Global};
 use std::cmp::Ordering;
@@ -43,22 +43,23 @@ fn narrow_table(alloc: Global) -> Result<RecordTable<Global>, AllocError> {
 }
 
 // The numbers of records, and the start and the size of each.
-fn put_table(found: &mut String, table: &RecordTable<Global>) -> Result<(), AllocError> {
+fn put_table(found: &mut Answers, table: &RecordTable<Global>) {
     let records = table.as_records();
-    found.push_str("table:")?;
-    put(found, &table.len())?;
-    put(found, &records.len())?;
+    found.say("table:");
+    found.put(&table.len());
+    found.put(&records.len());
     for index in 0..records.len() {
         let record = records.get(index);
-        put(found, &(record.start, record.size))?;
+        found.put(&(record.start, record.size));
     }
-    found.push('\n')
+    found.end_line();
 }
 
 // A record that starts past 2 ^ 32 makes a table wide, and one whose size takes more than 24 bits narrow, each with the records that it held.
-fn put_tables(alloc: Global, found: &mut String) -> Result<(), AllocError> {
-    put_table(found, &wide_table(alloc)?.try_clone(alloc)?)?;
-    put_table(found, &narrow_table(alloc)?)
+fn put_tables(alloc: Global, found: &mut Answers) -> Result<(), AllocError> {
+    put_table(found, &wide_table(alloc)?.try_clone(alloc)?);
+    put_table(found, &narrow_table(alloc)?);
+    Ok(())
 }
 
 // What a caller knows of `==` and of the order.
@@ -75,18 +76,19 @@ fn order_of(left: TokenText<'_>, right: TokenText<'_>) -> Ordering
 }
 
 // A text is like its `str`.
-fn put_text(alloc: Global, found: &mut String) -> Result<(), AllocError> {
+fn put_text(alloc: Global, found: &mut Answers) -> Result<(), AllocError> {
     let text = TokenText::new(r#"a"b"#);
-    write!(found, "{text}")?;
-    put(found, &text)?;
-    put(found, &text.as_str())?;
-    put(found, &text.to_string_in(alloc)?.as_str())?;
-    put(found, &are_equal(text, TokenText::new(r#"a"b"#)))?;
-    put(found, &order_of(TokenText::new("a"), text))?;
-    found.push('\n')
+    found.show(&text);
+    found.put(&text);
+    found.put(&text.as_str());
+    found.put(&text.to_string_in(alloc)?.as_str());
+    found.put(&are_equal(text, TokenText::new(r#"a"b"#)));
+    found.put(&order_of(TokenText::new("a"), text));
+    found.end_line();
+    Ok(())
 }
 
-pub fn put_answers(alloc: Global, found: &mut String) -> Result<(), AllocError> {
+pub fn put_answers(alloc: Global, found: &mut Answers) -> Result<(), AllocError> {
     put_tables(alloc, found)?;
     put_text(alloc, found)
 }
