@@ -8,7 +8,7 @@ import subprocess
 
 def errors_of(notice):
     """The syntax errors in a notice of diagnostics: a violation of a rule of validation has the rule's name as its code."""
-    return [it for it in notice["diagnostics"] if "code" not in it]
+    return [it for it in notice["diagnostics"] if it["code"] == "syntax"]
 
 
 class Client:

@@ -189,16 +189,21 @@ def violations():
 
 
 def diagnostics():
+    def found(text):
+        return [(it["range"], it["severity"], it["source"], it["message"]) for it in client.open(URI, text)["diagnostics"]]
+
     client = started()
-    one = client.open(URI, "{ hero(id) { name }")
-    expect("two errors", [(it["range"], it["severity"], it["source"], it["message"]) for it in one["diagnostics"]],
-           [(span(0, 9, 10), 1, "gqlls", "expected COLON, got )"), (span(0, 19, 19), 1, "gqlls", "expected R_CURLY, got EOF")])
-    expect("an error at the end", client.open(URI, "{ 😀a")["diagnostics"][-1]["range"], span(0, 5, 5))
-    published = client.open(URI, "! " * 300)["diagnostics"]
+    expect("two errors in one definition", found("{ hero(id) { name }"), [(span(0, 9, 10), 1, "gqlls", "expected : (1 more error before the next definition)")])
+    expect("an error in each of two definitions", found("{ a(b: ) }\n{ c"),
+           [(span(0, 7, 8), 1, "gqlls", "expected a valid Value"), (span(1, 3, 3), 1, "gqlls", "expected }")])
+    expect("a string that runs over its line", found('{ a(b: "c) }\n}')[0][0], span(0, 7, 12))
+    expect("an error at the end", client.open(URI, "{ a")["diagnostics"][0]["range"], span(0, 3, 3))
+    expect("tokens that belong to no definition", found("! " * 300), [(span(0, 0, 1), 1, "gqlls", "expected a definition (299 more errors before the next definition)")])
+    published = client.open(URI, "{} " * 300)["diagnostics"]
     expect("how many are published", len(published), 101)
-    expect("where the hundredth is", published[99]["range"], span(0, 198, 199))
+    expect("where the hundredth is", published[99]["range"], span(0, 298, 299))
     expect("the last one", (published[100]["range"], published[100]["message"]), (span(0, 0, 0), "200 more errors"))
-    expect("a hundred", len(client.open(URI, "! " * 100)["diagnostics"]), 100)
+    expect("a hundred", len(client.open(URI, "{} " * 100)["diagnostics"]), 100)
     expect("closing", client.close(URI), {"uri": URI, "diagnostics": []})
     client.notify("textDocument/didChange", textDocument={"uri": URI, "version": 3}, contentChanges=[{"text": "{"}])
     client.notify("textDocument/didClose", textDocument=DOCUMENT)
@@ -218,6 +223,10 @@ def names(encoding, far):
     expect("its uses", [it["range"] for it in found], [definition, use])
     found = client.ask_about(URI, "references", context={"includeDeclaration": False}, **at(0, 13))
     expect("its uses alone", [it["range"] for it in found], [use])
+    expect("the same, marked", client.ask_about(URI, "documentHighlight", **at(0, 13)), [{"range": definition}, {"range": use}])
+    expect("another name", client.ask_about(URI, "rename", newName="key", **at(0, 13)),
+           {"changes": {URI: [{"range": definition, "newText": "key"}, {"range": use, "newText": "key"}]}})
+    expect("another name for a bracket", client.ask_about(URI, "rename", newName="key", **at(2, 1)), None)
     expect("a fragment", client.ask_about(URI, "definition", **at(1, 33 + far))["range"], span(3, 9, 14))
     expect("a type", client.ask_about(URI, "definition", **at(3, 19))["range"], span(5, 5, 8))
     expect("what is no name", client.ask_about(URI, "definition", **at(2, 1)), None)
@@ -226,6 +235,30 @@ def names(encoding, far):
            {"contents": {"kind": "markdown", "value": "```graphql\ntype Pet\n```\n\nA pet."}, "range": span(3, 18, 21)})
     expect("hover on a field", client.ask_about(URI, "hover", **at(7, 3))["contents"]["value"], "```graphql\nname: String\n```\n\nWhat it is called.")
     expect("hover on a bracket", client.ask_about(URI, "hover", **at(2, 0)), None)
+    expect("the end", client.end(), 0)
+
+
+def other_documents():
+    """A name that is defined in another open document, and built-in ones."""
+    client = started()
+    client.open("file:///schema", '"A pet."\ntype Pet {\n  name: ID\n}\ndirective @d on FIELD\n')
+    client.open(URI, "fragment F on Pet { name @d @skip(if: true) }\nquery Q($a: Int) { b(c: $a) ...F }\n")
+    expect("a type of another document", client.ask_about(URI, "definition", **at(0, 14)), {"uri": "file:///schema", "range": span(1, 5, 8)})
+    expect("a directive of another document", client.ask_about(URI, "definition", **at(0, 26)), {"uri": "file:///schema", "range": span(4, 11, 12)})
+    expect("hover on it", client.ask_about(URI, "hover", **at(0, 14)),
+           {"contents": {"kind": "markdown", "value": "```graphql\ntype Pet\n```\n\nA pet."}, "range": span(0, 14, 17)})
+
+    def heading(line, character):
+        return client.ask_about(URI, "hover", **at(line, character))["contents"]["value"].split("\n")[1]
+
+    expect("hover on a fragment", heading(1, 31), "fragment F on Pet")
+    expect("hover on a variable", heading(1, 25), "$a: Int")
+    expect("hover on a built-in type", heading(1, 13), "scalar Int")
+    expect("hover on a built-in directive", heading(0, 29), "directive @skip(if: Boolean!) on FIELD | FRAGMENT_SPREAD | INLINE_FRAGMENT")
+    labels = [it["label"] for it in client.ask_about(URI, "completion", **at(0, 17))]
+    expect("types of another document", labels, ["Pet", "Boolean", "Float", "ID", "Int", "String"])
+    expect("its uses stay in this one", client.ask_about(URI, "rename", newName="Cat", **at(0, 14)), None)
+    expect("too many positions", code(client.ask("textDocument/selectionRange", textDocument=DOCUMENT, positions=[{"line": 0, "character": 0}] * 101)), -32602)
     expect("the end", client.end(), 0)
 
 
@@ -336,7 +369,7 @@ def refused_words():
         expect(f"the words {words}", (ended.returncode, ended.stdout, ended.stderr), (2, b"", usage))
 
 
-TESTS = [states, statuses_without_shutdown, faulty_messages, pieces_of_input, capabilities, changes, diagnostics, violations, lambda: names("utf-16", 0), lambda: names("utf-8", 2),
+TESTS = [states, statuses_without_shutdown, faulty_messages, pieces_of_input, capabilities, changes, diagnostics, violations, lambda: names("utf-16", 0), lambda: names("utf-8", 2), other_documents,
          lambda: parts("utf-16", 0), lambda: parts("utf-8", 2), names_of_symbols, more_folds, completion, layout, limits, refused_words]
 for test in TESTS:
     test()

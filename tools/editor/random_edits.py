@@ -3,6 +3,7 @@
 
 The texts and positions are the client's own. The errors that are published have to be those of the same text opened anew and, where gqlcst is built, be at the offsets that
 it gives. Then it requests one of the other features, and its answer has to be as the protocol wants it (answers.py)."""
+import bisect
 import random
 import re
 import subprocess
@@ -81,14 +82,17 @@ class Run:
 
 
 def at_their_offsets(text, errors):
-    """Whether the errors are where gqlcst finds them, or at the line's end where that is between CR and LF: a hundred at most, and then how many more there are."""
+    """Whether the errors are the first that gqlcst finds in each definition, up to the ends of their lines: a hundred at most, and then how many more there are."""
     data = text.text.encode()
-    report = subprocess.run([GQLCST, "check"], input=data, stdout=subprocess.PIPE).stdout
-    parts = [(int(start), int(end)) for start, end in re.findall(rb'^ERROR@(\d+):(\d+) "', report, re.MULTILINE)]
-    wanted = [text.range(*(text.boundary(len(data[:offset].decode())) for offset in part)) for part in parts[:100]]
-    if len(parts) > 100:
+    report = subprocess.run([GQLCST, "tree"], input=data, stdout=subprocess.PIPE).stdout
+    starts = [int(start) for start in re.findall(rb"^    - \w+@(\d+)\.\.\d+$", report, re.MULTILINE)]
+    first = {}
+    for start, end in re.findall(rb'^- ERROR@(\d+):(\d+) "', report, re.MULTILINE):
+        first.setdefault(bisect.bisect(starts, int(start)), (int(start), int(start) + len(re.split(rb"[\r\n]", data[int(start):int(end)])[0])))
+    wanted = [text.range(*(text.boundary(len(data[:offset].decode())) for offset in part)) for part in list(first.values())[:100]]
+    more = len(first) - 100
+    if more > 0:
         wanted.append(text.range(0, 0))
-    more = len(parts) - 100
     return [it["range"] for it in errors] == wanted and (more <= 0 or errors[100]["message"] == f"{more} more error{'s' if more > 1 else ''}")
 
 

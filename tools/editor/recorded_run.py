@@ -14,7 +14,7 @@ FAULTY = "{ hero(id) { name }"
 TEXT = 'type A { # 😀\n  "😀" b: C }\n'
 TYPES = ["comment", "keyword", "string", "number", "operator", "variable", "type", "property", "parameter", "enumMember", "function", "decorator"]
 SERVED = ["documentSymbolProvider", "foldingRangeProvider", "selectionRangeProvider", "documentFormattingProvider", "documentRangeFormattingProvider",
-          "definitionProvider", "referencesProvider", "hoverProvider"]
+          "definitionProvider", "referencesProvider", "documentHighlightProvider", "renameProvider", "hoverProvider"]
 # Two folds of brackets, and one of a description.
 FOLDED = '{ a(\n b: 1\n )\n}\n"""\nd\n"""\nscalar S\n'
 # The keywords with which a definition begins.
@@ -23,7 +23,7 @@ CAPABILITIES = {
     "positionEncoding": "utf-16",
     **{name: True for name in SERVED},
     "textDocumentSync": {"openClose": True, "change": 2, "save": True},
-    "completionProvider": {"triggerCharacters": ["$", "@"]},
+    "completionProvider": {"triggerCharacters": ["$", "@", ".", ":", "(", "{"]},
     "semanticTokensProvider": {"full": True, "range": True, "legend": {"tokenModifiers": [], "tokenTypes": TYPES}},
 }
 
@@ -63,7 +63,7 @@ def published(version, *diagnostics):
 
 
 def diagnostic(start, end, message):
-    return {"range": span(0, start, end), "severity": 1, "source": "gqlls", "message": message}
+    return {"range": span(0, start, end), "code": "syntax", "severity": 1, "source": "gqlls", "message": message}
 
 
 def warning(range, rule, message):
@@ -88,7 +88,7 @@ CONVERSATION = [
     (request(1, "initialize", capabilities={}), result(1, {"capabilities": CAPABILITIES, "serverInfo": {"name": "gqlls"}})),
     (notification("initialized"), b""),
     (notification("textDocument/didOpen", textDocument={"uri": URI, "languageId": "graphql", "version": 1, "text": FAULTY}),
-     published(1, diagnostic(9, 10, "expected COLON, got )"), diagnostic(19, 19, "expected R_CURLY, got EOF"))),
+     published(1, diagnostic(9, 10, "expected : (1 more error before the next definition)"))),
     (notification("textDocument/didChange", textDocument={"uri": URI, "version": 2},
                   contentChanges=[{"text": TEXT}, {"range": span(1, 10, 11), "text": "A"}]), published(2)),
     # a malformed range
@@ -108,6 +108,11 @@ CONVERSATION = [
                           {"start": at(0, 0), "end": at(2, 0)})])),
     (request(9, "textDocument/references", textDocument=DOCUMENT, position=at(0, 5), context={"includeDeclaration": True}),
      result(9, [{"uri": URI, "range": span(0, 5, 6)}, {"uri": URI, "range": span(1, 10, 11)}])),
+    (request("highlight", "textDocument/documentHighlight", textDocument=DOCUMENT, position=at(0, 5)),
+     result("highlight", [{"range": span(0, 5, 6)}, {"range": span(1, 10, 11)}])),
+    (request("rename", "textDocument/rename", textDocument=DOCUMENT, position=at(1, 10), newName="B"),
+     result("rename", {"changes": {URI: [{"range": span(0, 5, 6), "newText": "B"}, {"range": span(1, 10, 11), "newText": "B"}]}})),
+    (request("no name", "textDocument/rename", textDocument=DOCUMENT, position=at(1, 10), newName="1"), error("no name", -32602, "no name of GraphQL")),
     (request(10, "textDocument/rangeFormatting", textDocument=DOCUMENT, range=span(0, 0, 1)),
      result(10, [{"range": {"start": at(0, 0), "end": at(1, 13)}, "newText": 'type A { # 😀\n  "😀"\n  b: A\n}'}])),
     (request(11, "textDocument/completion", textDocument=DOCUMENT, position=at(2, 0)),

@@ -1,5 +1,5 @@
 -- The names in a document, their meanings (GraphQL, October 2021), and where these are defined and used.
-use Rattle.std.specs.Prelude.{ℕ, List, [], ◌∷◌, Bool, false, not, ◌&&◌, ◌||◌, Option, Some, None, option_and_then, option_map, unwrap_or}
+use Rattle.std.specs.Prelude.{ℕ, List, [], ◌∷◌, Bool, true, false, not, if◌then◌else◌, ◌&&◌, ◌||◌, Option, Some, None, option_and_then, option_map, unwrap_or}
 use Rattle.std.specs.List.{filter, find, list_any}
 use Rattle.std.specs.Str.{bytes_eq}
 use Rattle.document_grammar.specs.declared.kind.SyntaxKind.{SyntaxKind}
@@ -66,6 +66,10 @@ is_definition kind text leaf = is_name kind text leaf && holds (defines kind) (n
 abbrev pub identifier_at : Place → ℕ → Option Place
 identifier_at root offset = find (is_of IDENT) (leaves_at offset root)
 
+abbrev pub is_variable : NameKind → Bool
+is_variable Variable = true
+is_variable _ = false
+
 -- the nodes that an element is in
 abbrev pub above : Option Place → List Place
 above None = []
@@ -98,6 +102,13 @@ wanted_at root offset = option_and_then (wanted_by root) (identifier_at root off
 -- the definition of the name at an offset: the first one in its scope
 abbrev pub definition_in : Place → ℕ → Option Place
 definition_in root offset = option_and_then (λ w. find (is_definition w.kind w.text) (at_or_below w.scope)) (wanted_at root offset)
+
+-- the definition in another document of the name at an offset, which is no variable's: the first one there
+abbrev pub defined_in : Place → Wanted → Option Place
+defined_in other w = if is_variable w.kind then None else find (is_definition w.kind w.text) (at_or_below other)
+
+abbrev pub definition_elsewhere : Place → ℕ → Place → Option Place
+definition_elsewhere root offset other = option_and_then (defined_in other) (wanted_at root offset)
 
 -- a use of the name, or a definition where these count too
 abbrev pub is_reference : Bool → NameKind → List ℕ → Place → Bool

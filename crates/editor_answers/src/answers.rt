@@ -5,7 +5,9 @@ mod ranges;
 mod symbols;
 mod tokens;
 
-pub use names::{answer_hover, push_definition, push_references};
+pub use names::{
+    Elsewhere, answer_hover, push_highlights, push_location, push_references, push_rename,
+};
 pub use parts::{push_folds, push_selections};
 pub use ranges::push_range;
 pub use symbols::answer_symbols;

@@ -1,7 +1,8 @@
 // What is said of a name.
-use crate::labels::{child_of, identifier_at, is_one_of, name_of};
-use crate::names::{NameKind, defines_type, is_in, meaning_of, named_by};
+use crate::labels::{child_of, identifier_at, is_one_of};
+use crate::names::{is_in, meaning_of, named_by};
 use crate::span::{Span, span_of};
+use crate::usage::definition;
 use apollo_cst_core::child;
 use apollo_cst_executable::Description;
 use apollo_tree::{SyntaxKind, SyntaxNode, SyntaxToken};
@@ -22,35 +23,36 @@ const DESCRIBED: [SyntaxKind; 2] = [
     SyntaxKind::INPUT_VALUE_DEFINITION,
 ];
 
+// The nodes that are a name and no more: their parents are what they name.
+const NAMES: [SyntaxKind; 2] = [SyntaxKind::FRAGMENT_NAME, SyntaxKind::VARIABLE];
+
 // The parts of a definition that are in braces.
-const IN_BRACES: [SyntaxKind; 3] = [
+const IN_BRACES: [SyntaxKind; 4] = [
+    SyntaxKind::SELECTION_SET,
     SyntaxKind::FIELDS_DEFINITION,
     SyntaxKind::ENUM_VALUES_DEFINITION,
     SyntaxKind::INPUT_FIELDS_DEFINITION,
 ];
 
-// The definition of a type or a directive with a name.
-fn definition_of<'t>(root: SyntaxNode<'t>, kind: NameKind, name: &str) -> Option<SyntaxNode<'t>> {
-    for node in root.children() {
-        let fits = match kind {
-            NameKind::Type => defines_type(node.kind()),
-            NameKind::Directive => node.kind().is(SyntaxKind::DIRECTIVE_DEFINITION),
-            _ => false,
-        };
-        if fits
-            && let Some(found) = name_of(node)
-            && found.text() == name
-        {
-            return Some(node);
-        }
+// The node that defines the fragment, variable, type or directive whose name is at an offset.
+fn definition_of<'t>(root: SyntaxNode<'t>, offset: usize) -> Option<SyntaxNode<'t>> {
+    let name = definition(root, offset)?;
+    let named = named_by(identifier_at(root, name.start)?)?;
+    if is_one_of(named.kind(), &NAMES) {
+        named.parent()
+    } else {
+        Some(named)
     }
-    None
 }
 
-// The definition that describes a name: of its type or directive, or the field, argument or value that it names.
-fn described_by<'t>(root: SyntaxNode<'t>, leaf: SyntaxToken<'t>) -> Option<SyntaxNode<'t>> {
-    if let Some(meaning) = meaning_of(leaf) {
-        return definition_of(root, meaning.kind, leaf.text());
+// The definition that describes the name at an offset: of its fragment, variable, type or directive, or the field, argument or value that it names.
+fn described_by<'t>(
+    root: SyntaxNode<'t>,
+    leaf: SyntaxToken<'t>,
+    offset: usize,
+) -> Option<SyntaxNode<'t>> {
+    if meaning_of(leaf).is_some() {
+        return definition_of(root, offset);
     }
     let named = named_by(leaf)?;
     if is_in(named, SyntaxKind::ENUM_VALUE_DEFINITION) {
@@ -84,11 +86,11 @@ pub(crate) fn description_of(alloc: Global, node: SyntaxNode<'_>) -> Result<Stri
     Ok(String::new(alloc))
 }
 
-/// What the document says of the name at an offset, or that ends there: of a type or a directive by its definition, and of a field, an argument or
-/// a value where that is defined. `None` where it says nothing.
+/// What the document says of the name at an offset, or that ends there: of a fragment, a variable, a type or a directive by its definition, and of a
+/// field, an argument or a value where that is defined. `None` where it says nothing.
 pub fn hover_at<'t>(root: SyntaxNode<'t>, offset: usize) -> Option<Hover<'t>> {
     if let Some(leaf) = identifier_at(root, offset)
-        && let Some(definition) = described_by(root, leaf)
+        && let Some(definition) = described_by(root, leaf, offset)
     {
         return Some(Hover {
             span: span_of(leaf.text_range()),

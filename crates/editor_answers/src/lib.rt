@@ -8,6 +8,7 @@
 #![tactic(auto)]
 
 mod answers;
+mod built_in;
 mod coloring;
 mod folding;
 mod hovering;
@@ -19,9 +20,10 @@ mod span;
 mod usage;
 
 pub use answers::{
-    answer_hover, answer_symbols, answer_tokens, push_definition, push_folds, push_range,
-    push_references, push_selections,
+    Elsewhere, answer_hover, answer_symbols, answer_tokens, push_folds, push_highlights,
+    push_location, push_range, push_references, push_rename, push_selections,
 };
+pub use built_in::{BUILT_INS, BuiltIn};
 pub use coloring::{SemanticToken, TOKEN_TYPES, TokenType, semantic_tokens};
 pub use folding::fold_of;
 pub use hovering::{Hover, hover_at};
@@ -29,4 +31,4 @@ pub use names::{Meaning, NameKind, meaning_of};
 pub use outline::{Symbol, SymbolKind, symbol_of};
 pub use selecting::selection;
 pub use span::{Span, span_of};
-pub use usage::{definition, references};
+pub use usage::{definition, definition_elsewhere, references};

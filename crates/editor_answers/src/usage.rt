@@ -2,11 +2,12 @@
 ghost use Rattle.std.specs.Prelude.{◌≡◌, IfOk, map, option_map};
 ghost use Rattle.std.specs.List.{find};
 ghost use Rattle.apollo_tree.specs.Above.{at_or_above};
+ghost use Rattle.apollo_tree.specs.Below.{at_or_below};
 ghost use Rattle.apollo_tree.specs.Order.{parent_place, range_at};
 ghost use Rattle.apollo_tree.specs.References.{node_place, token_place};
 ghost use Rattle.apollo_tree.specs.Yields.{element_place};
 ghost use Rattle.document_grammar.specs.declared.kind.SyntaxKind.TheVariants.{OPERATION_DEFINITION};
-ghost use Rattle.editor_answers.specs.Names.{above, definition_in, is_definition, is_name, is_of, is_reference, references_in, scope_of, wanted, wanted_at};
+ghost use Rattle.editor_answers.specs.Names.{above, definition_elsewhere, definition_in, is_definition, is_name, is_of, is_reference, references_in, scope_of, wanted, wanted_at};
 ghost use Rattle.editor_answers.specs.Parts.{bounds};
 
 use crate::labels::identifier_at;
@@ -99,19 +100,44 @@ fn is_reference(element: SyntaxElement<'_>, sought: Sought<'_>, with_definition:
     is_name(element, sought) && (with_definition || !is_definition(element, sought))
 }
 
-/// Where the fragment, variable, type or directive is defined whose name is at an offset of a text, or ends there, by the root of the text's tree:
-/// the part that the name takes in the definition. `None` where there is no such name or no definition. The first counts where there are
-/// several.
-pub fn definition(root: SyntaxNode<'_>, offset: usize) -> Option<Span>
-    ensures { option_map bounds result ≡ option_map range_at (definition_in (node_place root.entry) offset) }
+// Where the name is defined that is looked for.
+fn first_definition(sought: Sought<'_>) -> Option<Span>
+    ensures { option_map bounds result ≡ option_map range_at (find (is_definition sought.entry.kind sought.entry.text.now) (at_or_below (node_place sought.entry.scope))) }
 {
-    let sought = sought_at(root, offset)?;
     for element in sought.scope.descendants_with_tokens() {
         if is_definition(element, sought) {
             return Some(span_of(element.text_range()));
         }
     }
     None
+}
+
+/// Where the fragment, variable, type or directive is defined whose name is at an offset of a text, or ends there, by the root of the text's tree:
+/// the part that the name takes in the definition. `None` where there is no such name or no definition. The first counts where there are
+/// several.
+pub fn definition(root: SyntaxNode<'_>, offset: usize) -> Option<Span>
+    ensures { option_map bounds result ≡ option_map range_at (definition_in (node_place root.entry) offset) }
+{
+    first_definition(sought_at(root, offset)?)
+}
+
+/// Where a document, by the root of its tree, defines the name at an offset of another; `None` where it doesn't, and for the name of a variable.
+pub fn definition_elsewhere(
+    root: SyntaxNode<'_>,
+    offset: usize,
+    other: SyntaxNode<'_>,
+) -> Option<Span>
+    ensures { option_map bounds result ≡ option_map range_at (definition_elsewhere (node_place root.entry) offset (node_place other.entry)) }
+{
+    let sought = sought_at(root, offset)?;
+    match sought.kind {
+        NameKind::Variable => None,
+        NameKind::Fragment | NameKind::Type | NameKind::Directive => first_definition(Sought {
+            kind: sought.kind,
+            text: sought.text,
+            scope: other,
+        }),
+    }
 }
 
 /// Where the name is used that is at an offset of a text, or ends there, in the order of the text; where it is defined too when `with_definition`

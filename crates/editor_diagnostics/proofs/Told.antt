@@ -11,12 +11,10 @@ use Rattle.json.specs.Json.{Json, object}
 use Rattle.json.specs.Token.{Token, end_array, end_object}
 use Rattle.json.specs.Tree.{items_tokens, json_tokens}
 use Rattle.json.specs.Value.{items_of}
-use Rattle.apollo_lexer.specs.Diagnostics.{Diagnostic}
 use Rattle.line_index.specs.declared.PositionEncoding.{PositionEncoding}
-use Rattle.editor_diagnostics.specs.Positions.{cursor_at, position_in, position_of}
-use Rattle.editor_diagnostics.specs.Publication.{diagnostic_of, diagnostics_of, more_diagnostics, publish_params, remark_diagnostic}
+use Rattle.editor_diagnostics.specs.Publication.{publish_params, remark_diagnostic}
 use Rattle.editor_diagnostics.specs.Remarks.{Remarked, as_remarked}
-use Rattle.editor_diagnostics.specs.Tokens.{all_tokens, front_tokens, tokens_of_remarks}
+use Rattle.editor_diagnostics.specs.Tokens.{front_tokens, tokens_of_remarks}
 use Rattle.editor_diagnostics.specs.declared.remark.Remark.{Remark}
 
 -- three additions, one after the other
@@ -45,13 +43,6 @@ one_more {E = E} {Y = Y} g things k thing first old new is within so_far added =
     ap (flat_map g) step ∙ flat_map-append g (take k things) (thing ∷ []) ∙ ap (λ (x : List Y). flat_map g (take k things) ++ x) last in
     added ∙ ap (λ (x : List Y). x ++ g thing) so_far ∙ append_assoc first (flat_map g (take k things)) (g thing) ∙ ap (λ (x : List Y). first ++ x) (sym taken)
 
-min_again : (x n : ℕ) → min (min x n) n ≡ min x n
-min_again x n = omega arith
-
--- no offset is after the end
-pub capped : (encoding : PositionEncoding) (text : List ℕ) (x : ℕ) → position_of encoding text (min x (length text)) ≡ position_of encoding text x
-capped encoding text x = ap (λ (k : ℕ). position_in encoding text (cursor_at text k)) (min_again x (length text))
-
 -- ---- the tokens of the parameters
 
 items_then : (values : List Json) (rest : List Token) → items_tokens (items_of values) ++ rest ≡ flat_map json_tokens values ++ end_array ∷ rest
@@ -74,26 +65,12 @@ remarks_tokens encoding text remarks =
     ∙ sym (flat_map-map json_tokens (remark_diagnostic encoding text) (map as_remarked remarks))
 
 -- the front, the diagnostics and the end make the parameters
-pub whole_params : (uri : List ℕ) (version : Option ℤ) (encoding : PositionEncoding) (text : List ℕ) (errors told : List Diagnostic) (more : ℕ)
-    (remarks : List Remark) (p q r s : List Token)
-    → told ≡ take 100 errors → more ≡ length errors - 100 → p ≡ front_tokens uri version → q ≡ p ++ all_tokens encoding text told
-    → r ≡ q ++ flat_map json_tokens (more_diagnostics encoding text more) → s ≡ r ++ tokens_of_remarks encoding text remarks
-    → s ++ end_array ∷ end_object ∷ [] ≡ json_tokens (object (publish_params uri version (diagnostics_of encoding text errors (map as_remarked remarks))))
-whole_params uri version encoding text errors told more remarks p q r s t m i j k l =
-    let firsts : List Json = map (diagnostic_of encoding text) (take 100 errors) in
-    let others : List Json = more_diagnostics encoding text (length errors - 100) in
-    let last : List Json = map (remark_diagnostic encoding text) (map as_remarked remarks) in
+pub whole_params : (uri : List ℕ) (version : Option ℤ) (encoding : PositionEncoding) (text : List ℕ) (remarks : List Remark) (p q : List Token)
+    → p ≡ front_tokens uri version → q ≡ p ++ tokens_of_remarks encoding text remarks
+    → q ++ end_array ∷ end_object ∷ [] ≡ json_tokens (object (publish_params uri version (map (remark_diagnostic encoding text) (map as_remarked remarks))))
+whole_params uri version encoding text remarks p q front added =
+    let values : List Json = map (remark_diagnostic encoding text) (map as_remarked remarks) in
     let f : List Token = front_tokens uri version in
-    let a : List Token = flat_map json_tokens firsts in
-    let b : List Token = flat_map json_tokens others in
-    let c : List Token = flat_map json_tokens last in
-    let e : List Token = end_array ∷ end_object ∷ [] in
-    let firsts_are : all_tokens encoding text told ≡ a =
-    ap (all_tokens encoding text) t ∙ sym (flat_map-map json_tokens (diagnostic_of encoding text) (take 100 errors)) in
-    let others_are : flat_map json_tokens (more_diagnostics encoding text more) ≡ b =
-    ap (λ (n : ℕ). flat_map json_tokens (more_diagnostics encoding text n)) m in
-    let s_is : s ≡ ((f ++ a) ++ b) ++ c = rw (l, k, j, i, firsts_are, others_are, remarks_tokens encoding text remarks) in
-    let all : flat_map json_tokens (firsts ++ (others ++ last)) ≡ a ++ (b ++ c) = rw (flat_map-append, flat_map-append) in
-    let grouped : ((f ++ a) ++ b) ++ c ≡ f ++ (a ++ (b ++ c)) = rw (append_assoc, append_assoc) in
-    ap (λ (x : List Token). x ++ e) (s_is ∙ grouped ∙ ap (λ (x : List Token). f ++ x) (sym all))
-    ∙ append_assoc f (flat_map json_tokens (firsts ++ (others ++ last))) e ∙ sym (params_tokens uri version (firsts ++ (others ++ last)))
+    let is : q ≡ f ++ flat_map json_tokens values = rw (added, front, remarks_tokens encoding text remarks) in
+    ap (λ (x : List Token). x ++ end_array ∷ end_object ∷ []) is
+    ∙ append_assoc f (flat_map json_tokens values) (end_array ∷ end_object ∷ []) ∙ sym (params_tokens uri version values)

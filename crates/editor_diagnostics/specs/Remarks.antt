@@ -1,4 +1,4 @@
--- Remarks on a document besides its syntax errors.
+-- Remarks on a document.
 use Rattle.std.specs.Prelude.{ℕ, List, string_bytes}
 use Rattle.editor_diagnostics.specs.declared.remark.Remark.{Remark}
 use Rattle.editor_diagnostics.specs.declared.remark.Severity.{Severity}

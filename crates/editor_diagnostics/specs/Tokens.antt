@@ -1,12 +1,11 @@
--- The tokens of a notice of errors, part by part.
+-- The tokens of a notice, part by part.
 use Rattle.std.specs.Prelude.{ℕ, ℤ, List, [], ◌∷◌, Option, Some, None, codes}
 use Rattle.std.specs.Fmt.{signed_decimal}
 use Rattle.std.specs.List.{flat_map}
 use Rattle.json.specs.Token.{Token, begin_object, begin_array, key, string, number}
 use Rattle.json.specs.Tree.{json_tokens}
-use Rattle.apollo_lexer.specs.Diagnostics.{Diagnostic}
 use Rattle.line_index.specs.declared.PositionEncoding.{PositionEncoding}
-use Rattle.editor_diagnostics.specs.Publication.{diagnostic_of, remark_diagnostic}
+use Rattle.editor_diagnostics.specs.Publication.{remark_diagnostic}
 use Rattle.editor_diagnostics.specs.Remarks.{as_remarked}
 use Rattle.editor_diagnostics.specs.declared.remark.Remark.{Remark}
 
@@ -15,12 +14,6 @@ abbrev pub front_tokens : List ℕ → Option ℤ → List Token
 front_tokens uri (Some version) =
     begin_object ∷ key (codes "uri") ∷ string uri ∷ key (codes "version") ∷ number (signed_decimal version) ∷ key (codes "diagnostics") ∷ begin_array ∷ []
 front_tokens uri None = begin_object ∷ key (codes "uri") ∷ string uri ∷ key (codes "diagnostics") ∷ begin_array ∷ []
-
-abbrev pub error_tokens : PositionEncoding → List ℕ → Diagnostic → List Token
-error_tokens encoding text error = json_tokens (diagnostic_of encoding text error)
-
-abbrev pub all_tokens : PositionEncoding → List ℕ → List Diagnostic → List Token
-all_tokens encoding text = flat_map (error_tokens encoding text)
 
 abbrev pub remark_tokens : PositionEncoding → List ℕ → Remark → List Token
 remark_tokens encoding text remark = json_tokens (remark_diagnostic encoding text (as_remarked remark))

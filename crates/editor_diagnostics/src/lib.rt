@@ -1,7 +1,7 @@
-//! The notices by which a language server tells a client the errors of a document.
+//! The notices by which a language server tells a client what is wrong with a document.
 //!
-//! `publication` says of each error and each further remark where it is, as the client counts lines and columns, and what is wrong; `withdrawal` takes all
-//! of them back.
+//! `publication` says of each remark where it is, as the client counts lines and columns, and what is wrong; `withdrawal` takes all of them back.
+//! `syntax_remarks` makes remarks of the parser's errors, one for each definition.
 //!
 //! `gqlls_run`, the crate above, calls `publication` after each change.
 #![tactic(auto)]
@@ -10,8 +10,10 @@ mod diagnostic;
 mod positions;
 mod publishing;
 mod remark;
+mod syntax;
+mod wording;
 
-pub use diagnostic::TOLD;
 pub use positions::Positions;
 pub use publishing::{publication, withdrawal};
 pub use remark::{Remark, Severity};
+pub use syntax::syntax_remarks;

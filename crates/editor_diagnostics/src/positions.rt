@@ -1,5 +1,5 @@
 // Positions in a text as the client counts them.
-ghost use Rattle.std.specs.Prelude.{◌≡◌, ◌+◌, ◌≤◌, IfOk, flat_map, length, min, take};
+ghost use Rattle.std.specs.Prelude.{◌≡◌, ◌≤◌, IfOk, flat_map, length, take};
 ghost use Rattle.std.specs.Str.{IsCharBoundary};
 ghost use Rattle.json.specs.Tree.{json_tokens};
 ghost use Rattle.line_index.specs.Positions.{offset_of, units};
@@ -62,13 +62,6 @@ impl<'t> Positions<'t> {
     {
         let offset = offset.min(self.text.len());
         self.lines.position(self.encoding, self.cursor(offset))
-    }
-
-    /// The byte offset at which a part of the text ends, by where it begins and how many bytes it has. No part ends after the text.
-    pub(crate) fn end_of(&self, start: usize, count: usize) -> usize
-        ensures { result ≡ min (start + count) (length self.now.text.now) }
-    {
-        start.saturating_add(count).min(self.text.len())
     }
 
     /// The byte offset of a position, which is a boundary of characters: as many units are in front of it as the client means.

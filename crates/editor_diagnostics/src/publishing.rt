@@ -1,19 +1,18 @@
-// The notice of a document's errors and further remarks to a client.
-ghost use Rattle.std.specs.Prelude.{◌≡◌, ◌++◌, ◌∷◌, [], IfOk, OnOk, None, flat_map, map, string_bytes, take};
+// The notice of the remarks on a document to a client.
+ghost use Rattle.std.specs.Prelude.{◌≡◌, ◌++◌, ◌∷◌, [], IfOk, OnOk, None, flat_map, map};
 ghost use Rattle.json.specs.Json.{Members, object};
 ghost use Rattle.json.specs.Token.{end_array, end_object};
 ghost use Rattle.json.specs.Tree.{json_tokens};
 ghost use Rattle.rpc_messages.specs.Answers.{AreOfObject};
 ghost use Rattle.rpc_messages.specs.Messages.{IsNotice, IsNoticeOf};
 ghost use Rattle.rpc_messages.specs.Pieces.{tokens_of};
-ghost use Rattle.editor_diagnostics.specs.Publication.{IsNoticeAbout, IsPublication, method, more_diagnostics, more_words, noun_of};
+ghost use Rattle.editor_diagnostics.specs.Publication.{IsNoticeAbout, IsPublication, method};
 ghost use Rattle.editor_diagnostics.specs.Remarks.{as_remarked};
-ghost use Rattle.editor_diagnostics.specs.Tokens.{all_tokens, front_tokens, tokens_of_remarks};
+ghost use Rattle.editor_diagnostics.specs.Tokens.{front_tokens, tokens_of_remarks};
 
-use crate::diagnostic::{TOLD, push_diagnostic, push_error, push_remark};
+use crate::diagnostic::push_remark;
 use crate::positions::Positions;
 use crate::remark::Remark;
-use apollo_lexer::Error;
 use rpc_messages::{Piece, notice};
 use std::alloc::{AllocError, Global};
 
@@ -48,59 +47,6 @@ fn push_front<'p>(
     }
 }
 
-// The errors that a client gets.
-fn first_errors(errors: &[Error]) -> &[Error]
-    ensures { result.now ≡ take 100 errors.now }
-{
-    &errors[..TOLD.min(errors.len())]
-}
-
-// Adds the diagnostics of errors.
-fn push_errors<'p>(
-    pieces: &mut Vec<Piece<'p>>,
-    positions: &Positions<'_>,
-    errors: &'p [Error],
-) -> Result<(), AllocError>
-    ensures { OnOk result (flat_map tokens_of pieces.new.items ≡ flat_map tokens_of pieces.old.items
-        ++ all_tokens positions.now.encoding positions.now.text.now errors.now) }
-{
-    for error in errors {
-        push_error(pieces, positions, error)?;
-    }
-    Ok(())
-}
-
-fn noun_for(count: usize) -> &'static str
-    ensures { result.now ≡ noun_of count }
-{
-    if count == 1 { "error" } else { "errors" }
-}
-
-// How many more errors there are, in words.
-fn words_for(alloc: Global, more: usize) -> Result<String, AllocError>
-    ensures { IfOk result (λ words. string_bytes words ≡ more_words more) }
-{
-    let noun = noun_for(more);
-    format!(in alloc; "{more} more {noun}")
-}
-
-// Adds how many more errors there are, unless there are none.
-fn push_more<'p>(
-    pieces: &mut Vec<Piece<'p>>,
-    positions: &Positions<'_>,
-    more: usize,
-    words: &'p str,
-) -> Result<(), AllocError>
-    requires { words.now ≡ more_words more }
-    ensures { OnOk result (flat_map tokens_of pieces.new.items ≡ flat_map tokens_of pieces.old.items
-        ++ flat_map json_tokens (more_diagnostics positions.now.encoding positions.now.text.now more)) }
-{
-    if more == 0 {
-        return Ok(());
-    }
-    push_diagnostic(pieces, positions, 0, 0, words)
-}
-
 // Adds the diagnostics of remarks.
 fn push_remarks<'p>(
     pieces: &mut Vec<Piece<'p>>,
@@ -127,34 +73,27 @@ fn end(alloc: Global, pieces: &mut Vec<Piece<'_>>) -> Result<Vec<u8>, AllocError
     notice(alloc, METHOD, pieces.as_slice())
 }
 
-/// The notice of the errors of a document with this name, version and text, and of further remarks on it: the first hundred errors, then one at the
-/// front of the text that says how many more there are, and then all remarks. It fails only where memory is refused.
+/// The notice of the remarks on a document with this name, version and text. It fails only where memory is refused.
 pub fn publication(
     alloc: Global,
     uri: &str,
     version: Option<i64>,
     positions: &Positions<'_>,
-    errors: &[Error],
     remarks: &[Remark],
 ) -> Result<Vec<u8>, AllocError>
     ensures notifies { IfOk result (λ body. IsNotice body.items) }
-    ensures published { IfOk result (λ body. IsPublication uri.now version positions.now.encoding positions.now.text.now errors.now
-        (map as_remarked remarks.now) body.items) }
+    ensures published { IfOk result (λ body. IsPublication uri.now version positions.now.encoding positions.now.text.now (map as_remarked remarks.now)
+        body.items) }
 {
-    let told = first_errors(errors);
-    let more = errors.len().saturating_sub(TOLD);
-    let words = words_for(alloc, more)?;
     let mut pieces = Vec::new(alloc);
     push_front(&mut pieces, uri, version)?;
-    push_errors(&mut pieces, positions, told)?;
-    push_more(&mut pieces, positions, more, words.as_str())?;
     // a slice of its own, since no more than two lifetimes of the signature may meet in the pieces
     push_remarks(&mut pieces, positions, &remarks[..])?;
     let body = end(alloc, &mut pieces)?;
     Ok(body)
 }
 
-/// The notice that takes the errors of a document back. It fails only where memory is refused.
+/// The notice that takes all remarks on a document back. It fails only where memory is refused.
 pub fn withdrawal(alloc: Global, uri: &str) -> Result<Vec<u8>, AllocError>
     ensures notifies { IfOk result (λ body. IsNotice body.items) }
     ensures withdrawn { IfOk result (λ body. IsNoticeAbout uri.now None [] body.items) }

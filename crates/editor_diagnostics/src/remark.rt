@@ -1,4 +1,4 @@
-// Remarks on a document besides its syntax errors.
+// Remarks on a document.
 ghost use Rattle.std.specs.Prelude.{◌≡◌};
 ghost use Rattle.editor_diagnostics.specs.Remarks.{severity_number};
 
@@ -21,7 +21,7 @@ impl Severity {
     }
 }
 
-/// A diagnostic of a document besides its syntax errors.
+/// What is wrong with a part of a document, or may be.
 #[derive(Drop)]
 pub struct Remark {
     /// The byte offset at which the part of the text begins that it is about.

@@ -1,5 +1,5 @@
--- Remarks on a document: the rules of validation that it breaks.
-use Rattle.std.specs.Prelude.{◌≡◌, Bool, ◌||◌, if◌then◌else◌, List, map, find, unwrap_or}
+-- Remarks on a document: its syntax errors, or the rules of validation that it breaks.
+use Rattle.std.specs.Prelude.{◌≡◌, ℕ, Bool, ◌||◌, if◌then◌else◌, List, [], ◌∷◌, map, find, unwrap_or}
 use Rattle.document_grammar.specs.declared.kind.SyntaxKind.TheVariants.{ENUM_VALUE, FRAGMENT_NAME, NAME, VARIABLE}
 use Rattle.document_grammar.specs.Numbers.{is_kind}
 use Rattle.apollo_tree.specs.Order.{Place, kind_at, range_at}
@@ -11,7 +11,9 @@ use Rattle.definition_rules.specs.Violations.{Breach}
 use Rattle.apollo_validation.specs.Lists.{document_kind}
 use Rattle.apollo_validation.specs.Messages.{message_of}
 use Rattle.apollo_validation.specs.Validity.{AreBreaches, BreaksAs}
+use Rattle.apollo_lexer.specs.Diagnostics.{Diagnostic}
 use Rattle.editor_diagnostics.specs.Remarks.{Remarked}
+use Rattle.editor_diagnostics.specs.Syntax.{IsAboutFirst, syntax_remarks}
 use Rattle.editor_diagnostics.specs.declared.remark.Severity.{Severity}
 use Rattle.editor_diagnostics.specs.declared.remark.Severity.TheVariants.{Error, Warning}
 
@@ -44,3 +46,15 @@ pub record AreRemarks (document : Place) (remarks : List Remarked) : Type 0 wher
   pub breaches : List Breach
   pub exact : AreBreaches 100 (BreaksAs (document_kind document) document) breaches
   pub are : remarks ≡ map remark_of breaches
+
+-- ---- all remarks
+
+-- where the definitions of a document begin
+abbrev pub definition_starts : Place → List ℕ
+definition_starts document = map (λ p. (range_at p).0) (child_nodes document)
+
+-- the remarks on a document with these syntax errors: on the errors, and the first of them is about the first; without errors, on broken rules
+abbrev pub AreRemarksOn : Place → List Diagnostic → List Remarked → Type 0
+AreRemarksOn document [] remarks = AreRemarks document remarks
+AreRemarksOn document (error ∷ errors) remarks =
+    (remarks ≡ syntax_remarks (definition_starts document) (error ∷ errors)) × IsAboutFirst (error ∷ errors) remarks

@@ -64,9 +64,12 @@ fn remark_of(alloc: Global, violation: &Violation<'_>) -> Result<Remark, AllocEr
     })
 }
 
-/// The remarks on a document, by the root of its tree: one for each place at which it breaks a rule of validation, at most a hundred of them. It fails
-/// only where memory is refused.
-pub fn remarks(alloc: Global, document: &SyntaxNode<'_>) -> Result<Vec<Remark>, AllocError>
+/// One remark for each place at which a document breaks a rule of validation, by the root of its tree; at most a hundred of them. It fails only where
+/// memory is refused.
+pub(crate) fn rule_remarks(
+    alloc: Global,
+    document: &SyntaxNode<'_>,
+) -> Result<Vec<Remark>, AllocError>
     ensures { IfOk result (λ found. AreRemarks (node_place document.now) (map as_remarked found.items)) }
 {
     let violations = validate(alloc, document, MOST)?;

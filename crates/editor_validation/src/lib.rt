@@ -1,8 +1,9 @@
-//! What an editor shows of a document without syntax errors: the rules of validation that it breaks.
+//! Remarks on a document: its syntax errors, or the rules of validation that it breaks.
 //!
-//! `gqlls_run`, the crate above, publishes `remarks` after each change.
+//! `gqlls_run`, the crate above, publishes them after each change.
 #![tactic(auto)]
 
+mod all_remarks;
 mod broken_rules;
 
-pub use broken_rules::remarks;
+pub use all_remarks::remarks;

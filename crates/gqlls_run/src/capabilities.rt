@@ -15,7 +15,7 @@ use rpc_messages::{Piece, answer};
 use std::alloc::{AllocError, Global};
 
 // What is served, up to the types of tokens.
-const SERVED: [Piece<'static>; 46] = [
+const SERVED: [Piece<'static>; 54] = [
     Piece::Key("documentSymbolProvider"),
     Piece::Flag(true),
     Piece::Key("foldingRangeProvider"),
@@ -29,6 +29,10 @@ const SERVED: [Piece<'static>; 46] = [
     Piece::Key("definitionProvider"),
     Piece::Flag(true),
     Piece::Key("referencesProvider"),
+    Piece::Flag(true),
+    Piece::Key("documentHighlightProvider"),
+    Piece::Flag(true),
+    Piece::Key("renameProvider"),
     Piece::Flag(true),
     Piece::Key("hoverProvider"),
     Piece::Flag(true),
@@ -47,6 +51,10 @@ const SERVED: [Piece<'static>; 46] = [
     Piece::Array,
     Piece::Text("$"),
     Piece::Text("@"),
+    Piece::Text("."),
+    Piece::Text(":"),
+    Piece::Text("("),
+    Piece::Text("{"),
     Piece::EndArray,
     Piece::EndObject,
     Piece::Key("semanticTokensProvider"),

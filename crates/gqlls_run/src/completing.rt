@@ -2,10 +2,11 @@
 use apollo_parser::{
     DocumentRoot, Limits, Parser, SyntaxKind, SyntaxNode, SyntaxToken, SyntaxTree,
 };
-use editor_answers::{NameKind, meaning_of, span_of};
+use editor_answers::{BUILT_INS, NameKind, meaning_of, span_of};
 use editor_diagnostics::Positions;
 use rpc_messages::Piece;
 use std::alloc::{AllocError, Global};
+use std::collections::BTreeSet;
 
 // A word that may come next, and the protocol's number of its sort.
 #[derive(Clone, Copy)]
@@ -16,10 +17,6 @@ struct Candidate<'t> {
 
 // The protocol's number of a keyword.
 const KEYWORD: usize = 14;
-
-const BUILT_IN_TYPES: [&str; 5] = ["Boolean", "Float", "ID", "Int", "String"];
-
-const BUILT_IN_DIRECTIVES: [&str; 4] = ["deprecated", "include", "skip", "specifiedBy"];
 
 // How long the text of the definition that an offset is in may be for words to be tried there.
 const LONGEST_FRONT: usize = 32768;
@@ -166,19 +163,11 @@ fn name_number(kind: NameKind) -> usize {
     }
 }
 
-fn has_label(found: &[Candidate<'_>], label: &str) -> bool {
-    for candidate in found {
-        if candidate.label == label {
-            return true;
-        }
-    }
-    false
-}
-
-// Adds the names of a kind that a document defines, each once.
+// Adds the names of a kind that a document defines and that are not known yet.
 fn push_names<'t>(
     root: SyntaxNode<'t>,
     kind: NameKind,
+    known: &mut BTreeSet<&'t str>,
     found: &mut Vec<Candidate<'t>>,
 ) -> Result<(), AllocError> {
     for element in root.descendants_with_tokens() {
@@ -186,7 +175,7 @@ fn push_names<'t>(
             && let Some(meaning) = meaning_of(leaf)
             && meaning.defines
             && meaning.kind == kind
-            && !has_label(found.as_slice(), leaf.text())
+            && known.insert(leaf.text())?
         {
             found.push(Candidate {
                 label: leaf.text(),
@@ -197,28 +186,34 @@ fn push_names<'t>(
     Ok(())
 }
 
-// Adds names of a kind.
-fn push_labels<'t>(
-    labels: &[&'t str],
+// Adds the names of a kind that some documents define, each once. Those of variables are the first document's alone.
+fn push_all_names<'t>(
+    alloc: Global,
+    roots: &[SyntaxNode<'t>],
     kind: NameKind,
     found: &mut Vec<Candidate<'t>>,
 ) -> Result<(), AllocError> {
-    for label in labels {
-        found.push(Candidate {
-            label: *label,
-            number: name_number(kind),
-        })?;
+    let mut known = BTreeSet::new(alloc);
+    for root in roots {
+        push_names(*root, kind, &mut known, found)?;
+        if kind == NameKind::Variable {
+            break;
+        }
     }
     Ok(())
 }
 
-// Adds the names that need no definition.
+// Adds the names of a kind that need no definition.
 fn push_built_in<'t>(kind: NameKind, found: &mut Vec<Candidate<'t>>) -> Result<(), AllocError> {
-    match kind {
-        NameKind::Type => push_labels(&BUILT_IN_TYPES, kind, found),
-        NameKind::Directive => push_labels(&BUILT_IN_DIRECTIVES, kind, found),
-        _ => Ok(()),
+    for built_in in &BUILT_INS {
+        if built_in.kind == kind {
+            found.push(Candidate {
+                label: built_in.name,
+                number: name_number(kind),
+            })?;
+        }
     }
+    Ok(())
 }
 
 // The end of a text from where its last definition begins, as its parse has it.
@@ -238,12 +233,12 @@ fn last_front(
     }
 }
 
-// The words that may come after a front of a text: the keywords that the grammar takes, and where a name is expected those that the document
-// defines and that are built in. There are none after an error of the same definition.
+// The words that may come after a front of a text: the keywords that the grammar takes, and where a name is expected those that the documents
+// define, the text's first, and that are built in. There are none after an error of the same definition.
 fn completions<'t>(
     alloc: Global,
     before: &str,
-    root: SyntaxNode<'t>,
+    roots: &[SyntaxNode<'t>],
     limits: Limits,
 ) -> Result<Vec<Candidate<'t>>, AllocError> {
     let mut found = Vec::new(alloc);
@@ -252,7 +247,7 @@ fn completions<'t>(
     };
     push_keywords(front, &mut found)?;
     if let Some(kind) = front.name()? {
-        push_names(root, kind, &mut found)?;
+        push_all_names(alloc, roots, kind, &mut found)?;
         push_built_in(kind, &mut found)?;
     }
     Ok(found)
@@ -290,17 +285,18 @@ fn push_candidates<'p>(
     pieces.extend_from_slice(&[Piece::EndArray])
 }
 
-/// Adds the result of completion at a byte offset: the words that may be there instead of the one that ends there.
+/// Adds the result of completion at a byte offset: the words that may be there instead of the one that ends there. The roots are those of the document
+/// and then of others, whose names may be there too.
 pub(crate) fn push_completions<'p>(
     alloc: Global,
     pieces: &mut Vec<Piece<'p>>,
-    root: SyntaxNode<'p>,
+    roots: &[SyntaxNode<'p>],
     positions: &Positions<'_>,
     offset: usize,
     limits: Limits,
 ) -> Result<(), AllocError> {
     let before = front_of(positions.text, offset);
-    let found = completions(alloc, before, root, limits)?;
+    let found = completions(alloc, before, roots, limits)?;
     let range = positions.range(before.len(), offset);
     push_candidates(pieces, &range, found.as_slice())
 }

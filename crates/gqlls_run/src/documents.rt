@@ -5,11 +5,10 @@ ghost use Rattle.rpc_messages.specs.Messages.{IsNotice};
 ghost use Rattle.gqlls_run.specs.Parameters.{told};
 ghost use Rattle.gqlls_run.specs.Dialogue.{IsChanged, Updates};
 ghost use Rattle.gqlls_run.specs.State.{contents};
-ghost use Rattle.editor_diagnostics.specs.Remarks.{as_remarked};
-ghost use Rattle.gqlls_run.specs.Told.{AreRemarksOf, IsTold};
+ghost use Rattle.gqlls_run.specs.Told.{IsTold};
 
 use apollo_parser::{DocumentRoot, Limits, Parser, SyntaxTree};
-use editor_diagnostics::{Positions, Remark, publication};
+use editor_diagnostics::{Positions, publication};
 use editor_text::{Change, OpenDocument};
 use editor_validation::remarks;
 use line_index::PositionEncoding;
@@ -27,16 +26,6 @@ fn parsed(
     // bound to a name, so that its clauses on `Ok` are found
     let tree = Parser::within(content.text(), limits).parse(alloc)?;
     Ok(tree)
-}
-
-// The remarks on a document, which has none where it has syntax errors.
-fn remarks_of(alloc: Global, tree: &SyntaxTree<DocumentRoot>) -> Result<Vec<Remark>, AllocError>
-    ensures { IfOk result (λ found. AreRemarksOf tree.now (map as_remarked found.items)) }
-{
-    if !tree.errors().as_slice().is_empty() {
-        return Ok(Vec::new(alloc));
-    }
-    remarks(alloc, &tree.root())
 }
 
 /// A document that a client has open.
@@ -77,7 +66,7 @@ impl Document {
         Ok(())
     }
 
-    /// The notice of its errors and the remarks on it, by its name and the version that the client gave it.
+    /// The notice of the remarks on it, by its name and the version that the client gave it.
     pub(crate) fn told(
         &self,
         alloc: Global,
@@ -89,10 +78,9 @@ impl Document {
             → IsTold limits uri.now version self.now.content body.items) }
     {
         let positions = self.positions(alloc)?;
-        let errors = self.tree.errors().as_slice();
-        let remarks = remarks_of(alloc, &self.tree)?;
+        let remarks = remarks(alloc, &self.tree.root(), self.tree.errors().as_slice())?;
         // bound to a name, so that its clauses on `Ok` are found
-        let body = publication(alloc, uri, version, &positions, errors, remarks.as_slice())?;
+        let body = publication(alloc, uri, version, &positions, remarks.as_slice())?;
         Ok(body)
     }
 

@@ -194,6 +194,26 @@ pub(crate) fn asks_for_definition(params: &Value<'_>) -> bool {
     include_declaration(params) == Some(true)
 }
 
+// Whether a text is a Name (GraphQL, October 2021, section 2.1.9).
+fn is_name(text: &str) -> bool {
+    let bytes = text.as_bytes();
+    match bytes.first() {
+        Some(first) => {
+            !first.is_ascii_digit()
+                && bytes
+                    .iter()
+                    .all(|b| b.is_ascii_alphanumeric() || *b == b'_')
+        }
+        None => false,
+    }
+}
+
+/// The name that something gets, if it is one of GraphQL.
+pub(crate) fn new_name_of<'a>(params: &Value<'a>) -> Option<&'a str> {
+    let name = params.get("newName")?.as_str()?;
+    if is_name(name) { Some(name) } else { None }
+}
+
 // The encodings that a client offers.
 fn offered<'v, 'a>(params: &'v Value<'a>) -> Option<&'v [Value<'a>]>
     ensures { IfSome result (λ names. OffersAll (value_view params.now) (map (λ name. value_view name) names.now)) }

@@ -8,16 +8,17 @@ use crate::completing::push_completions;
 use crate::documents::Document;
 use crate::formatting::answer_layout;
 use crate::layout::format_part;
-use crate::parameters::{asks_for_definition, offset_of, offsets_of, span_of};
+use crate::parameters::{asks_for_definition, new_name_of, offset_of, offsets_of, span_of};
 use apollo_parser::{Limits, SyntaxNode};
 use editor_answers::{
-    answer_hover, answer_symbols, answer_tokens, push_definition, push_folds, push_references,
-    push_selections,
+    Elsewhere, Span, answer_hover, answer_symbols, answer_tokens, definition, definition_elsewhere,
+    push_folds, push_highlights, push_location, push_references, push_rename, push_selections,
 };
 use editor_diagnostics::Positions;
 use json::Value;
 use rpc_messages::{Piece, answer, code, refusal};
 use std::alloc::{AllocError, Global};
+use std::collections::BTreeMap;
 
 /// What is asked.
 #[derive(Clone, Copy)]
@@ -29,11 +30,13 @@ pub(crate) enum Question {
     RangeFormatting,
     Definition,
     References,
+    Highlight,
+    Rename,
     Hover,
     Completion,
 }
 
-const QUESTIONS: [(&str, Question); 10] = [
+const QUESTIONS: [(&str, Question); 12] = [
     ("textDocument/documentSymbol", Question::Symbols),
     ("textDocument/foldingRange", Question::Folds),
     ("textDocument/selectionRange", Question::Selections),
@@ -42,9 +45,14 @@ const QUESTIONS: [(&str, Question); 10] = [
     ("textDocument/rangeFormatting", Question::RangeFormatting),
     ("textDocument/definition", Question::Definition),
     ("textDocument/references", Question::References),
+    ("textDocument/documentHighlight", Question::Highlight),
+    ("textDocument/rename", Question::Rename),
     ("textDocument/hover", Question::Hover),
     ("textDocument/completion", Question::Completion),
 ];
+
+// For how many positions a client gets the parts of the text around them: each answer is as long as the tree is deep there.
+const MOST_POSITIONS: usize = 100;
 
 /// The question of a method.
 pub(crate) fn question_of(method: &str) -> Option<Question> {
@@ -63,11 +71,71 @@ struct Asked<'a, 'd, 'v> {
     root: SyntaxNode<'a>,
     positions: &'a Positions<'d>,
     uri: &'a str,
+    documents: &'a BTreeMap<String, Document>,
     params: &'a Value<'v>,
     limits: Limits,
 }
 
-impl Asked<'_, '_, '_> {
+// Another open document that defines a name, the document's name, and where it defines it.
+#[derive(Clone, Copy)]
+struct Definer<'a> {
+    uri: &'a str,
+    document: &'a Document,
+    span: Span,
+}
+
+impl<'a> Asked<'a, '_, '_> {
+    // The first open document that defines the name at a byte offset, which this one doesn't define.
+    fn definer(self, offset: usize) -> Option<Definer<'a>> {
+        for (uri, document) in self.documents {
+            if let Some(span) = definition_elsewhere(self.root, offset, document.tree.root()) {
+                return Some(Definer {
+                    uri: uri.as_str(),
+                    document,
+                    span,
+                });
+            }
+        }
+        None
+    }
+
+    // Adds the result of definition: the location of the definition of the name at a byte offset, in this document or another, or null.
+    fn push_definition(self, pieces: &mut Vec<Piece<'a>>, offset: usize) -> Result<(), AllocError> {
+        if let Some(span) = definition(self.root, offset) {
+            return push_location(pieces, self.positions, self.uri, span);
+        }
+        match self.definer(offset) {
+            Some(definer) => {
+                let positions = definer.document.positions(self.alloc)?;
+                push_location(pieces, &positions, definer.uri, definer.span)
+            }
+            None => pieces.extend_from_slice(&[Piece::Null]),
+        }
+    }
+
+    // The document that defines the name at a byte offset, where it is another one.
+    fn elsewhere(self, offset: usize) -> Option<Elsewhere<'a>> {
+        if definition(self.root, offset).is_some() {
+            return None;
+        }
+        let definer = self.definer(offset)?;
+        Some(Elsewhere {
+            source: definer.document.content.text(),
+            root: definer.document.tree.root(),
+            offset: definer.span.start,
+        })
+    }
+
+    // The roots of the trees of this document, and then of all.
+    fn roots(self) -> Result<Vec<SyntaxNode<'a>>, AllocError> {
+        let mut roots = Vec::new(self.alloc);
+        roots.push(self.root)?;
+        for document in self.documents.values() {
+            roots.push(document.tree.root())?;
+        }
+        Ok(roots)
+    }
+
     // The answer that lacks a parameter.
     fn refused(self, id: &Value<'_>) -> Result<Vec<u8>, AllocError>
         requires { HasNumbers (value_view id.now) }
@@ -92,6 +160,9 @@ impl Asked<'_, '_, '_> {
         let Some(offsets) = offsets_of(self.alloc, self.positions, self.params)? else {
             return self.refused(id);
         };
+        if offsets.len() > MOST_POSITIONS {
+            return refusal(self.alloc, id, code::INVALID_PARAMS, "too many positions");
+        }
         let mut pieces = Vec::new(self.alloc);
         push_selections(
             self.alloc,
@@ -133,7 +204,7 @@ impl Asked<'_, '_, '_> {
             return self.refused(id);
         };
         let mut pieces = Vec::new(self.alloc);
-        push_definition(&mut pieces, self.root, self.positions, self.uri, offset)?;
+        self.push_definition(&mut pieces, offset)?;
         answer(self.alloc, id, pieces.as_slice())
     }
 
@@ -157,12 +228,54 @@ impl Asked<'_, '_, '_> {
         answer(self.alloc, id, pieces.as_slice())
     }
 
+    fn highlights(self, id: &Value<'_>) -> Result<Vec<u8>, AllocError>
+        requires { HasNumbers (value_view id.now) }
+        ensures { IfOk result (λ body. IsAnswer (value_view id.now) body.items) }
+    {
+        let Some(offset) = offset_of(self.positions, self.params) else {
+            return self.refused(id);
+        };
+        let mut pieces = Vec::new(self.alloc);
+        push_highlights(self.alloc, &mut pieces, self.root, self.positions, offset)?;
+        answer(self.alloc, id, pieces.as_slice())
+    }
+
+    fn rename(self, id: &Value<'_>) -> Result<Vec<u8>, AllocError>
+        requires { HasNumbers (value_view id.now) }
+        ensures { IfOk result (λ body. IsAnswer (value_view id.now) body.items) }
+    {
+        let Some(offset) = offset_of(self.positions, self.params) else {
+            return self.refused(id);
+        };
+        let Some(name) = new_name_of(self.params) else {
+            return refusal(self.alloc, id, code::INVALID_PARAMS, "no name of GraphQL");
+        };
+        let mut pieces = Vec::new(self.alloc);
+        push_rename(
+            self.alloc,
+            &mut pieces,
+            self.root,
+            self.positions,
+            self.uri,
+            offset,
+            name,
+        )?;
+        answer(self.alloc, id, pieces.as_slice())
+    }
+
     fn hover(self, id: &Value<'_>) -> Result<Vec<u8>, AllocError>
         requires { HasNumbers (value_view id.now) }
         ensures { IfOk result (λ body. IsAnswer (value_view id.now) body.items) }
     {
         match offset_of(self.positions, self.params) {
-            Some(offset) => answer_hover(self.alloc, id, self.root, self.positions, offset),
+            Some(offset) => answer_hover(
+                self.alloc,
+                id,
+                self.root,
+                self.positions,
+                offset,
+                self.elsewhere(offset),
+            ),
             None => self.refused(id),
         }
     }
@@ -174,11 +287,12 @@ impl Asked<'_, '_, '_> {
         let Some(offset) = offset_of(self.positions, self.params) else {
             return self.refused(id);
         };
+        let roots = self.roots()?;
         let mut pieces = Vec::new(self.alloc);
         push_completions(
             self.alloc,
             &mut pieces,
-            self.root,
+            roots.as_slice(),
             self.positions,
             offset,
             self.limits,
@@ -199,19 +313,22 @@ impl Asked<'_, '_, '_> {
             Question::RangeFormatting => self.range_formatting(id),
             Question::Definition => self.definition(id),
             Question::References => self.references(id),
+            Question::Highlight => self.highlights(id),
+            Question::Rename => self.rename(id),
             Question::Hover => self.hover(id),
             Question::Completion => self.completion(id),
         }
     }
 }
 
-/// The answer to a question about the document with a name, within limits.
+/// The answer to a question about the document with a name, one of those that are open, within limits.
 pub(crate) fn answer_question(
     alloc: Global,
     id: &Value<'_>,
     question: Question,
     uri: &str,
     document: &Document,
+    documents: &BTreeMap<String, Document>,
     params: &Value<'_>,
     limits: Limits,
 ) -> Result<Vec<u8>, AllocError>
@@ -224,6 +341,7 @@ pub(crate) fn answer_question(
         root: document.tree.root(),
         positions: &positions,
         uri,
+        documents,
         params,
         limits,
     };

@@ -100,7 +100,17 @@ impl Server {
         if let Some(uri) = uri_of(params)
             && let Some(document) = self.documents.get(uri)
         {
-            return answer_question(alloc, id, question, uri, document, params, self.limits);
+            let documents = &self.documents;
+            return answer_question(
+                alloc,
+                id,
+                question,
+                uri,
+                document,
+                documents,
+                params,
+                self.limits,
+            );
         }
         refused(alloc, id, code::INVALID_PARAMS, NO_DOCUMENT)
     }

@@ -5,8 +5,10 @@ ghost use Rattle.json.specs.Value.{value_view};
 ghost use Rattle.rpc_messages.specs.Messages.{IsAnswer};
 
 use crate::answers::ranges::push_range;
+use crate::built_in::built_in_at;
 use crate::hovering::{description_of, heading_of, hover_at};
-use crate::span::Span;
+use crate::labels::identifier_at;
+use crate::span::{Span, span_of};
 use crate::usage::{definition, references};
 use apollo_tree::SyntaxNode;
 use editor_diagnostics::Positions;
@@ -14,8 +16,8 @@ use json::Value;
 use rpc_messages::{Piece, answer};
 use std::alloc::{AllocError, Global};
 
-// Adds a location in a document.
-fn push_location<'p>(
+/// Adds a location in a document. It fails only where memory is refused.
+pub fn push_location<'p>(
     pieces: &mut Vec<Piece<'p>>,
     positions: &Positions<'_>,
     uri: &'p str,
@@ -24,20 +26,6 @@ fn push_location<'p>(
     pieces.extend_from_slice(&[Piece::Object, Piece::Key("uri"), Piece::Text(uri)])?;
     push_range(pieces, positions, "range", span)?;
     pieces.extend_from_slice(&[Piece::EndObject])
-}
-
-/// Adds the result of definition: the location of the definition of the name at a byte offset, or null. It fails only where memory is refused.
-pub fn push_definition<'p>(
-    pieces: &mut Vec<Piece<'p>>,
-    root: SyntaxNode<'_>,
-    positions: &Positions<'_>,
-    uri: &'p str,
-    offset: usize,
-) -> Result<(), AllocError> {
-    match definition(root, offset) {
-        Some(span) => push_location(pieces, positions, uri, span),
-        None => pieces.extend_from_slice(&[Piece::Null]),
-    }
 }
 
 // Adds a list of locations in a document.
@@ -69,15 +57,138 @@ pub fn push_references<'p>(
     push_locations(pieces, positions, uri, found.as_slice())
 }
 
+/// Adds the result of documentHighlight: the parts of the text where the name at a byte offset is used or defined. It fails only where memory is refused.
+pub fn push_highlights<'p>(
+    alloc: Global,
+    pieces: &mut Vec<Piece<'p>>,
+    root: SyntaxNode<'_>,
+    positions: &Positions<'_>,
+    offset: usize,
+) -> Result<(), AllocError> {
+    let found = references(alloc, root, offset, true)?;
+    pieces.extend_from_slice(&[Piece::Array])?;
+    for span in &found {
+        pieces.extend_from_slice(&[Piece::Object])?;
+        push_range(pieces, positions, "range", *span)?;
+        pieces.extend_from_slice(&[Piece::EndObject])?;
+    }
+    pieces.extend_from_slice(&[Piece::EndArray])
+}
+
+// Adds a list of changes, each of a part of the text to a name.
+fn push_changes<'p>(
+    pieces: &mut Vec<Piece<'p>>,
+    positions: &Positions<'_>,
+    found: &[Span],
+    name: &'p str,
+) -> Result<(), AllocError> {
+    pieces.extend_from_slice(&[Piece::Array])?;
+    for span in found {
+        pieces.extend_from_slice(&[Piece::Object])?;
+        push_range(pieces, positions, "range", *span)?;
+        pieces.extend_from_slice(&[Piece::Key("newText"), Piece::Text(name), Piece::EndObject])?;
+    }
+    pieces.extend_from_slice(&[Piece::EndArray])
+}
+
+/// Adds the result of rename: the changes that give the name at a byte offset another text wherever it is used or defined, or null where the document
+/// does not define it. It fails only where memory is refused.
+pub fn push_rename<'p>(
+    alloc: Global,
+    pieces: &mut Vec<Piece<'p>>,
+    root: SyntaxNode<'_>,
+    positions: &Positions<'_>,
+    uri: &'p str,
+    offset: usize,
+    name: &'p str,
+) -> Result<(), AllocError> {
+    if definition(root, offset).is_none() {
+        return pieces.extend_from_slice(&[Piece::Null]);
+    }
+    let found = references(alloc, root, offset, true)?;
+    pieces.extend_from_slice(&[
+        Piece::Object,
+        Piece::Key("changes"),
+        Piece::Object,
+        Piece::Key(uri),
+    ])?;
+    push_changes(pieces, positions, found.as_slice(), name)?;
+    pieces.extend_from_slice(&[Piece::EndObject, Piece::EndObject])
+}
+
 // What is shown of a definition, as Markdown.
-fn markdown_of(
+fn markdown(alloc: Global, heading: &str, description: &str) -> Result<String, AllocError> {
+    format!(in alloc; "```graphql\n{heading}\n```\n\n{description}")
+}
+
+/// Another document that defines a name: its text, the root of its tree, and a byte offset where the name is.
+#[derive(Clone, Copy)]
+pub struct Elsewhere<'t> {
+    pub source: &'t str,
+    pub root: SyntaxNode<'t>,
+    pub offset: usize,
+}
+
+// What a document says of the name at a byte offset, and where the name is.
+fn said_at(
     alloc: Global,
     source: &str,
-    definition: SyntaxNode<'_>,
-) -> Result<String, AllocError> {
-    let description = description_of(alloc, definition)?;
-    let heading = heading_of(source, definition);
-    format!(in alloc; "```graphql\n{heading}\n```\n\n{description}")
+    root: SyntaxNode<'_>,
+    offset: usize,
+) -> Result<Option<(Span, String)>, AllocError> {
+    let Some(found) = hover_at(root, offset) else {
+        return Ok(None);
+    };
+    let description = description_of(alloc, found.definition)?;
+    let heading = heading_of(source, found.definition);
+    let text = markdown(alloc, heading, description.as_str())?;
+    Ok(Some((found.span, text)))
+}
+
+// What another document says of the name at a byte offset of this one, and where the name is.
+fn said_elsewhere(
+    alloc: Global,
+    root: SyntaxNode<'_>,
+    offset: usize,
+    elsewhere: Elsewhere<'_>,
+) -> Result<Option<(Span, String)>, AllocError> {
+    let Some(leaf) = identifier_at(root, offset) else {
+        return Ok(None);
+    };
+    match said_at(alloc, elsewhere.source, elsewhere.root, elsewhere.offset)? {
+        Some((_, text)) => Ok(Some((span_of(leaf.text_range()), text))),
+        None => Ok(None),
+    }
+}
+
+// What the standard says of the name at a byte offset, and where the name is.
+fn said_by_standard(
+    alloc: Global,
+    root: SyntaxNode<'_>,
+    offset: usize,
+) -> Result<Option<(Span, String)>, AllocError> {
+    let Some((span, built_in)) = built_in_at(root, offset) else {
+        return Ok(None);
+    };
+    let text = markdown(alloc, built_in.heading, built_in.description)?;
+    Ok(Some((span, text)))
+}
+
+// What is said of the name at a byte offset, and where the name is: by the document, by another, or by the standard.
+fn said(
+    alloc: Global,
+    source: &str,
+    root: SyntaxNode<'_>,
+    offset: usize,
+    elsewhere: Option<Elsewhere<'_>>,
+) -> Result<Option<(Span, String)>, AllocError> {
+    if let Some(found) = said_at(alloc, source, root, offset)? {
+        return Ok(Some(found));
+    }
+    match elsewhere {
+        Some(elsewhere) => said_elsewhere(alloc, root, offset, elsewhere),
+        None => said_by_standard(alloc, root, offset),
+    }
 }
 
 const MARKDOWN: [Piece<'static>; 6] = [
@@ -102,22 +213,23 @@ fn push_markdown<'p>(
     pieces.extend_from_slice(&[Piece::EndObject])
 }
 
-/// The answer to hover: what the document says of the name at a byte offset, or null. It fails only where memory is refused.
+/// The answer to hover: what the document says of the name at a byte offset, or else another one that defines it, or else the standard; or null. It fails
+/// only where memory is refused.
 pub fn answer_hover(
     alloc: Global,
     id: &Value<'_>,
     root: SyntaxNode<'_>,
     positions: &Positions<'_>,
     offset: usize,
+    elsewhere: Option<Elsewhere<'_>>,
 ) -> Result<Vec<u8>, AllocError>
     requires { HasNumbers (value_view id.now) }
     ensures { IfOk result (λ body. IsAnswer (value_view id.now) body.items) }
 {
-    let Some(found) = hover_at(root, offset) else {
+    let Some((span, text)) = said(alloc, positions.text, root, offset, elsewhere)? else {
         return answer(alloc, id, &[Piece::Null]);
     };
-    let text = markdown_of(alloc, positions.text, found.definition)?;
     let mut pieces = Vec::new(alloc);
-    push_markdown(&mut pieces, positions, found.span, text.as_str())?;
+    push_markdown(&mut pieces, positions, span, text.as_str())?;
     answer(alloc, id, pieces.as_slice())
 }

@@ -1,6 +1,8 @@
-use Rattle.editor_diagnostics.specs.Publication.{words_of_remark}
-use Rattle.editor_diagnostics.specs.Remarks.{as_remarked}
+use Rattle.rpc_messages.specs.Pieces.{tokens_of}
+use Rattle.editor_diagnostics.proofs.Told.{added_thrice}
 use Rattle.editor_diagnostics.proofs.diagnostic.push_remark.Goals as goal
 
 pub returns : goal.returns
-returns c = c.in_ok-push_ranged.ensures (words_of_remark (as_remarked c.args.remark.now)) c.remark_words.ensures
+returns c =
+    added_thrice tokens_of c.args.pieces.now.items _ _ _ _ _ _ _ _ c.in_ok-extend_from_slice.ensures.items c.in_ok-extend_from_slice-2.ensures.items
+    c.in_ok-extend_from_slice-3.ensures.items c.range.ensures c.remark_words.ensures

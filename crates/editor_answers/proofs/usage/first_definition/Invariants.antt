@@ -4,7 +4,7 @@ use Rattle.apollo_tree.specs.Below.{at_or_below}
 use Rattle.apollo_tree.specs.References.{node_place}
 use Rattle.apollo_tree.specs.Yields.{rest_descendants}
 use Rattle.editor_answers.specs.Names.{is_definition}
-use Rattle.editor_answers.proofs.usage.definition.Given as goal
+use Rattle.editor_answers.proofs.usage.first_definition.Given as goal
 
 abbrev pub invariant-loop-element : goal.invariant-loop-element
 invariant-loop-element l =

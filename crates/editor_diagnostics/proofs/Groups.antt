@@ -1,0 +1,84 @@
+-- The errors of the definitions, and the remarks on them.
+use Rattle.std.proofs.Common.{◌≡◌, ◌<◌, ◌+◌, ◌-◌, ℕ, suc, get_or, List, [], ◌∷◌, ◌++◌, Bool, true, false, cond, map, take, drop, length, min}
+use Rattle.std.proofs.Common.{ap, refl, sym, ◌∙◌, inl, inr, arith}
+use Rattle.std.specs.Prelude.{nat_lt, take_while}
+use Rattle.std.specs.List.{flat_map}
+use Rattle.std.proofs.lemmas.Bool.{cases_Bool}
+use Rattle.std.proofs.lemmas.List.{length-map, map-append, take-map, take_min}
+use Rattle.std.proofs.Math.Seq.{take-suc}
+use Rattle.std.proofs.lemmas.List.Sums.{take_while-cons}
+use Rattle.apollo_lexer.specs.Diagnostics.{Diagnostic}
+use Rattle.editor_diagnostics.specs.Remarks.{Remarked}
+use Rattle.editor_diagnostics.specs.declared.syntax.ErrorGroup.{ErrorGroup}
+use Rattle.editor_diagnostics.specs.Syntax.{Group, IsAboutFirst, as_group, group_of, groups, is_before, more_remarks, syntax_remark, syntax_remarks}
+
+-- the remarks after that on the first group
+abbrev remarks_after : ℕ → Diagnostic → List Group → List Remarked
+remarks_after others error more =
+    map syntax_remark (take 99 more) ++ more_remarks (length (record { first = error; others = others } ∷ more) - 100)
+
+abbrev remarks_on : List Group → List Remarked
+remarks_on gs = map syntax_remark (take 100 gs) ++ more_remarks (length gs - 100)
+
+-- the remarks on the first hundred groups, and how many more there are
+pub capped : (starts : List ℕ) (errors : List Diagnostic) (items slice : List ErrorGroup) (most : ℕ) (found now : List Remarked)
+    → map as_group items ≡ groups starts errors → slice ≡ items → most ≡ min 100 (length slice)
+    → found ≡ map syntax_remark (map as_group (take most slice)) → now ≡ found ++ more_remarks (length slice - most) → now ≡ syntax_remarks starts errors
+capped starts errors items slice most found now are view at_most first added =
+    let all : List Group = map as_group slice in
+    let size : length all ≡ length slice = length-map slice as_group in
+    let same : most ≡ min 100 (length all) = omega (arith, at_most, size) in
+    let rest : length slice - most ≡ length all - 100 = omega (arith, at_most, size) in
+    let shown : map as_group (take most slice) ≡ take 100 all =
+    sym (take-map as_group most slice) ∙ ap (λ (n : ℕ). take n all) same ∙ take_min 100 all in
+    added ∙ ap (λ (rs : List Remarked). rs ++ more_remarks (length slice - most)) (first ∙ ap (map syntax_remark) shown)
+    ∙ ap (λ (n : ℕ). map syntax_remark (take 100 all) ++ more_remarks n) rest
+    ∙ ap remarks_on (ap (map as_group) view ∙ are)
+
+-- one more thing made of the next of some
+pub one_made : {A B C D : Type 0} (f : A → D) (g : C → D) (h : B → C) (made now : List A) (all : List B) (k : ℕ) (x : A) (b : B)
+    → map f made ≡ map g (map h (take k all)) → now ≡ made ++ x ∷ [] → f x ≡ g (h b) → b ≡ get_or all k b → k < length all
+    → map f now ≡ map g (map h (take (k + 1) all))
+one_made f g h made now all k x b so_far added is item within =
+    let next : k + 1 ≡ suc k = omega arith in
+    let taken : take (k + 1) all ≡ take k all ++ b ∷ [] =
+    ap (λ (n : ℕ). take n all) next ∙ take-suc all k b within ∙ ap (λ y. take k all ++ y ∷ []) (sym item) in
+    ap (map f) added ∙ map-append f made (x ∷ []) ∙ ap (λ ys. ys ++ f x ∷ []) so_far ∙ ap (λ y. map g (map h (take k all)) ++ y ∷ []) is
+    ∙ sym (ap (λ bs. map g (map h bs)) taken ∙ ap (map g) (map-append h (take k all) (b ∷ [])) ∙ map-append g (map h (take k all)) (h b ∷ []))
+
+-- whether the first error is in front of where a definition begins, or not
+in_first : (start : ℕ) (starts : List ℕ) (error : Diagnostic) (errors : List Diagnostic) → is_before start error ≡ true
+    → groups (start ∷ starts) (error ∷ errors)
+    ≡ record { first = error; others = length (take_while (is_before start) errors) }
+    ∷ groups starts (drop (length (take_while (is_before start) errors)) errors)
+in_first start starts error errors before =
+    let these : take_while (is_before start) (error ∷ errors) ≡ error ∷ take_while (is_before start) errors =
+    take_while-cons (is_before start) error errors ∙ ap (λ (b : Bool). cond b (error ∷ take_while (is_before start) errors) []) before in
+    ap (λ (xs : List Diagnostic). group_of xs ++ groups starts (drop (length xs) (error ∷ errors))) these
+
+in_later : (start : ℕ) (starts : List ℕ) (error : Diagnostic) (errors : List Diagnostic) → is_before start error ≡ false
+    → groups (start ∷ starts) (error ∷ errors) ≡ groups starts (error ∷ errors)
+in_later start starts error errors after =
+    let these : take_while (is_before start) (error ∷ errors) ≡ [] =
+    take_while-cons (is_before start) error errors ∙ ap (λ (b : Bool). cond b (error ∷ take_while (is_before start) errors) []) after in
+    ap (λ (xs : List Diagnostic). group_of xs ++ groups starts (drop (length xs) (error ∷ errors))) these
+
+-- the first group begins with the first error
+first_group : (starts : List ℕ) (error : Diagnostic) (errors : List Diagnostic)
+    → (others : ℕ) × (more : List Group) × (groups starts (error ∷ errors) ≡ record { first = error; others = others } ∷ more)
+first_group [] error errors = (length errors, [], refl)
+first_group (start ∷ starts) error errors = elim (cases_Bool (is_before start error)) [
+  | inl before ↦ (_, _, in_first start starts error errors before)
+  | inr after ↦
+      let later = first_group starts error errors in
+      (later.0, later.1, in_later start starts error errors after ∙ later.2)
+]
+
+no_groups : (starts : List ℕ) → groups starts [] ≡ []
+no_groups [] = refl
+no_groups (start ∷ starts) = no_groups starts
+
+-- the first remark is about the first error
+pub about_first : (starts : List ℕ) (errors : List Diagnostic) → IsAboutFirst errors (syntax_remarks starts errors)
+about_first starts [] = ap remarks_on (no_groups starts)
+about_first starts (error ∷ errors) = (let first = first_group starts error errors in (first.0, remarks_after first.0 error first.1, ap remarks_on first.2))

@@ -1,0 +1,92 @@
+-- The syntax errors of a document as remarks: one for each definition that has some.
+use Rattle.std.specs.Prelude.{◌≡◌, ℕ, ◌+◌, ◌-◌, ◌^◌, ◌==◌, if◌then◌else◌, Bool, not, List, [], ◌∷◌, ◌++◌, length, map, take, drop, min, nat_lt}
+use Rattle.std.specs.Prelude.{codes, decimal, flat_map, take_while}
+use Rattle.std.specs.List.{starts_with}
+use Rattle.apollo_lexer.specs.Diagnostics.{Diagnostic, subject_text}
+use Rattle.lexical_grammar.specs.Characters.{is_line_terminator}
+use Rattle.editor_diagnostics.specs.Remarks.{Remarked}
+use Rattle.editor_diagnostics.specs.declared.remark.Severity.TheVariants.{Error}
+use Rattle.editor_diagnostics.specs.declared.syntax.ErrorGroup.{ErrorGroup}
+
+-- ---- words
+
+abbrev pub begins : List ℕ → List ℕ → Bool
+begins message front = starts_with (λ x y. x == y) message front
+
+-- the words for people: a punctuator in place of its name, and nothing of the text that was found
+abbrev pub words_for : List ℕ → List ℕ
+words_for message =
+    if begins message (codes "expected R_CURLY") then codes "expected }"
+    else if begins message (codes "expected R_PAREN") then codes "expected )"
+    else if begins message (codes "expected R_BRACK") then codes "expected ]"
+    else if begins message (codes "expected L_CURLY") then codes "expected {"
+    else if begins message (codes "expected COLON") then codes "expected :"
+    else if begins message (codes "expected a StringValue") then codes "expected a definition"
+    else if begins message (codes "expected definition") then codes "expected a definition"
+    else if begins message (codes "Unexpected <EOF>") then codes "expected a definition"
+    else if begins message (codes "exptected an Implements") then codes "expected Implements Interfaces, Directives or a Fields Definition"
+    else message
+
+abbrev pub noun_of : ℕ → List ℕ
+noun_of n = if n == 1 then codes "error" else codes "errors"
+
+-- how many errors follow in the same definition
+abbrev pub others_words : ℕ → List ℕ
+others_words n = if n == 0 then [] else codes " (" ++ (decimal n ++ (codes " more " ++ (noun_of n ++ codes " before the next definition)")))
+
+-- ---- the errors of each definition
+
+abbrev pub is_before : ℕ → Diagnostic → Bool
+is_before offset error = nat_lt error.index offset
+
+-- Definitions begin at some offsets: the errors in front of the first, and then those of each, up to where the next one begins.
+abbrev pub by_definition : List ℕ → List Diagnostic → List (List Diagnostic)
+by_definition [] errors = errors ∷ []
+by_definition (start ∷ starts) errors =
+    let these = take_while (is_before start) errors in these ∷ by_definition starts (drop (length these) errors)
+
+-- the first of some errors, and how many others there are
+pub record Group : Type 0 where
+  pub first : Diagnostic
+  pub others : ℕ
+
+abbrev pub group_of : List Diagnostic → List Group
+group_of [] = []
+group_of (error ∷ errors) = record { first = error; others = length errors } ∷ []
+
+abbrev pub as_group : ErrorGroup → Group
+as_group g = record { first = g.first.now; others = g.others }
+
+abbrev pub groups : List ℕ → List Diagnostic → List Group
+groups starts errors = flat_map group_of (by_definition starts errors)
+
+-- ---- remarks
+
+-- the end of the text that an error is about, or of that text's first line; no offset is greater than 2 ^ 64 - 1
+abbrev pub mark_end : Diagnostic → ℕ
+mark_end error = min (error.index + length (take_while (λ c. not (is_line_terminator c)) (subject_text error.subject))) (2 ^ 64 - 1)
+
+-- an error is marked from where it begins
+abbrev pub syntax_remark : Group → Remarked
+syntax_remark group = record {
+  start = group.first.index;
+  end = mark_end group.first;
+  code = codes "syntax";
+  severity = Error;
+  message = words_for group.first.message ++ others_words group.others;
+}
+
+-- the number of further remarks, at the front of the text
+abbrev pub more_remarks : ℕ → List Remarked
+more_remarks n =
+    if n == 0 then [] else record { start = 0; end = 0; code = codes "syntax"; severity = Error; message = decimal n ++ (codes " more " ++ noun_of n) } ∷ []
+
+-- one remark for each definition that has errors, about the first of them, and where there are more than a hundred their number
+abbrev pub syntax_remarks : List ℕ → List Diagnostic → List Remarked
+syntax_remarks starts errors = map syntax_remark (take 100 (groups starts errors)) ++ more_remarks (length (groups starts errors) - 100)
+
+-- where there are errors, the first remark is about the first of them
+abbrev pub IsAboutFirst : List Diagnostic → List Remarked → Type 0
+IsAboutFirst [] remarks = remarks ≡ []
+IsAboutFirst (error ∷ errors) remarks =
+    (others : ℕ) × (more : List Remarked) × (remarks ≡ syntax_remark (record { first = error; others = others }) ∷ more)
