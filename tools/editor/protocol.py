@@ -22,7 +22,7 @@ type Pet {
   name: String
 }
 """
-FEATURES = ["documentSymbol", "foldingRange", "selectionRange", "semanticTokens/full", "semanticTokens/range", "formatting", "rangeFormatting", "definition", "references", "hover",
+FEATURES = ["documentSymbol", "foldingRange", "selectionRange", "semanticTokens/full", "semanticTokens/range", "formatting", "rangeFormatting", "definition", "references", "documentHighlight", "rename", "hover",
             "completion"]
 failed = 0
 
@@ -73,7 +73,7 @@ def states():
     client.notify("textDocument/didOpen", textDocument={**DOCUMENT, "languageId": "graphql", "version": 0, "text": "{"})
     client.initialize()
     expect("a second initialize", code(client.ask("initialize", capabilities={})), -32600)
-    for method in ["workspace/symbol", "textDocument/rename", "$/other", ""]:
+    for method in ["workspace/symbol", "textDocument/codeAction", "$/other", ""]:
         expect(f"the method {method}", code(client.ask(method)), -32601)
     for feature in FEATURES:
         expect(f"{feature} of an unknown document", code(client.ask(f"textDocument/{feature}", textDocument=DOCUMENT, **at(0, 0))), -32602)
