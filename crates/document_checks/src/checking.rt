@@ -8,45 +8,39 @@ use crate::report::{Checks, Finding, Report};
 use apollo_parser::{Error, Parser};
 use apollo_tree::SyntaxNode;
 use apollo_validation::{Violation, message, validate};
+use first_errors::{FirstErrors, first_errors, for_people, shown_at};
 use std::alloc::{AllocError, Global};
 
 // How many violations are looked for.
 const MOST: usize = 1000;
 
-// An error of the parser. One at the end of the text is shown after its last character that is no white space.
+// An error of the parser.
 fn syntax_finding(
     alloc: Global,
     source: &str,
     error: &Error<Global>,
 ) -> Result<Finding, AllocError> {
-    let start = if error.is_eof() {
-        source.trim_end().len()
-    } else {
-        error.index()
-    };
+    let start = shown_at(source, error);
+    let (front, rest) = for_people(error.message());
+    let mut message = String::from_str(alloc, front)?;
+    message.push_str(rest)?;
     Ok(Finding {
         start,
         end: start.saturating_add(error.data().len()),
         rule: "Syntax",
-        message: String::from_str(alloc, error.message())?,
+        message,
     })
 }
 
-// The report of a text that has errors.
-fn refused(
-    alloc: Global,
-    source: &str,
-    errors: &[Error<Global>],
-    most: usize,
-) -> Result<Report, AllocError>
+// The report of a text that has errors, of which these are the first.
+fn refused(alloc: Global, source: &str, first: &FirstErrors<Global>) -> Result<Report, AllocError>
     ensures { IfOk result (λ report. report.passes ≡ false) }
 {
     let mut findings = Vec::new(alloc);
-    for error in errors.iter().take(most) {
+    for error in &first.errors {
         findings.push(syntax_finding(alloc, source, error)?)?;
     }
-    let more = errors.len().saturating_sub(most);
-    Ok(Report::failed(alloc, findings, more))
+    Ok(Report::failed(alloc, findings, first.more))
 }
 
 fn violation_finding(alloc: Global, violation: &Violation<'_>) -> Result<Finding, AllocError> {
@@ -93,7 +87,8 @@ pub fn check(alloc: Global, source: &str, checks: &Checks<'_>) -> Result<Report,
     let tree = Parser::within(source, checks.limits).parse(alloc)?;
     let errors = tree.errors().as_slice();
     if !errors.is_empty() {
-        let report = refused(alloc, source, errors, checks.findings)?;
+        let first = first_errors(alloc, &tree.root(), errors, checks.findings)?;
+        let report = refused(alloc, source, &first)?;
         return Ok(report);
     }
     let report = check_document(alloc, &tree.root(), checks)?;

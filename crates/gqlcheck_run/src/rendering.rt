@@ -1,24 +1,29 @@
 // What is printed for people.
 ghost use Rattle.std.specs.Prelude.{◌≡◌};
+ghost use Rattle.gqlcheck_run.specs.Titles.{title_of};
 
 use document_checks::{Figures, Finding, Limit, OperationReport, Report};
 use line_index::LineIndex;
-use marked_lines::push_message;
+use marked_lines::{Remark, push_escaped, push_message, push_more};
 use std::alloc::{AllocError, Allocator};
 
 // The finding, and the line of the text with its place marked.
-fn push_finding<A: Allocator>(
+fn push_finding<'t, A: Allocator>(
     text: &mut String<A>,
     name: &str,
-    source: &str,
+    source: &'t str,
     index: &LineIndex<'_, A>,
-    finding: &Finding,
+    finding: &'t Finding,
 ) -> Result<(), AllocError>
     requires { index.now ≡ source.now }
 {
     let start = finding.start.min(source.len());
-    let marked = source.get(start..finding.end).unwrap_or("");
-    push_message(text, name, index, start, finding.message.as_str(), marked)
+    let remark = Remark {
+        offset: start,
+        message: (finding.message.as_str(), ""),
+        marked: source.get(start..finding.end).unwrap_or(""),
+    };
+    push_message(text, name, index, &remark)
 }
 
 // The findings, and how many more there are.
@@ -34,11 +39,7 @@ fn push_findings<A: Allocator>(
     for finding in &report.findings {
         push_finding(text, name, source, index, finding)?;
     }
-    if report.more > 0 {
-        let more = report.more;
-        writeln!(text, "{name}: and {more} more")?;
-    }
-    Ok(())
+    push_more(text, name, report.more)
 }
 
 /// The words for a figure.
@@ -66,7 +67,18 @@ fn push_figures<A: Allocator>(text: &mut String<A>, figures: &Figures) -> Result
     text.push('\n')
 }
 
-// A line for each operation: its place, its name and its figures.
+// The title of an operation of this name, which is empty where it has none.
+fn title_of(name: &str) -> &str
+    ensures { result.now ≡ title_of name.now }
+{
+    if name.is_empty() {
+        "the operation without a name"
+    } else {
+        name
+    }
+}
+
+// A line for each operation: its place, its title and its figures.
 fn push_operations<A: Allocator>(
     text: &mut String<A>,
     name: &str,
@@ -80,8 +92,9 @@ fn push_operations<A: Allocator>(
         let start = operation.start.min(source.len());
         let line = index.line_column(start).line.saturating_add(1);
         let column = index.column_in_chars(start).saturating_add(1);
-        let title = operation.name.as_str();
-        write!(text, "{name}:{line}:{column}: {title}")?;
+        let title = title_of(operation.name.as_str());
+        push_escaped(text, name)?;
+        write!(text, ":{line}:{column}: {title}")?;
         push_figures(text, &operation.figures)?;
     }
     Ok(())

@@ -5,18 +5,29 @@
 #![tactic(auto)]
 
 use byte_devices::{StdSink, StdSource};
-use gqlfmt_run::{Formatter, StdFiles, run};
+use gqlfmt_run::{Formatter, run};
 use std::alloc::{AllocError, Global};
 use std::env;
+use std::io::{self, Error, ErrorKind};
 use std::process::ExitCode;
+use std_files::StdFiles;
 
-// The words after the program's name: nothing where they can't be had as texts.
-fn words(rt: &HostRuntime) -> Option<Vec<String>> {
+// The words after the program's name.
+fn words(rt: &HostRuntime) -> io::Result<Vec<String>> {
     let mut words = Vec::new(rt.alloc());
-    for word in env::args(rt).ok()?.skip(1) {
-        words.push(word).ok()?;
+    for word in env::args(rt)?.skip(1) {
+        words.push(word)?;
     }
-    Some(words)
+    Ok(words)
+}
+
+// Why the words are not read.
+fn reason_of(error: &Error) -> &'static str {
+    match error.kind() {
+        ErrorKind::OutOfMemory => "out of memory",
+        ErrorKind::InvalidData => "an argument is not UTF-8",
+        _ => "cannot read the arguments",
+    }
 }
 
 // The same as slices.
@@ -25,9 +36,13 @@ fn views(alloc: Global, words: &[String]) -> Result<Vec<&str>, AllocError> {
 }
 
 fn main(rt: HostRuntime) -> ExitCode {
-    let Some(words) = words(&rt) else {
-        let _ = eprintln!(rt; "gqlfmt: cannot read the arguments");
-        return ExitCode::from(2);
+    let words = match words(&rt) {
+        Ok(words) => words,
+        Err(error) => {
+            let reason = reason_of(&error);
+            let _ = eprintln!(rt; "gqlfmt: {reason}");
+            return ExitCode::from(2);
+        }
     };
     let Ok(views) = views(rt.alloc(), words.as_slice()) else {
         let _ = eprintln!(rt; "gqlfmt: out of memory");

@@ -4,11 +4,10 @@ use Rattle.apollo_parser.specs.declared.Limits.{Limits}
 use Rattle.gqlfmt_files.specs.declared.settling.Mode.{Mode}
 use Rattle.gqlfmt_files.specs.declared.settling.Mode.TheVariants.{Write, Check, Diff}
 use Rattle.gqlfmt_files.specs.declared.settling.Settled.TheVariants.{Done, Found}
-use Rattle.gqlfmt_files.specs.declared.settling.Revised.TheVariants.{Refused}
 use Rattle.gqlfmt_run.specs.declared.formatting.Refusal.{Refusal}
 use Rattle.gqlfmt_run.specs.declared.formatting.Refusal.TheVariants.{Errors, Outgrown}
 use Rattle.formatter.specs.Within.{IsFormattedWithin}
-use Rattle.gqlfmt_run.specs.Formatting.{IsRefused, IsChanged, IsRevised, IsShown}
+use Rattle.gqlfmt_run.specs.Formatting.{IsRefused, IsRefusedFor, IsChanged, IsShown}
 use Rattle.gqlfmt_run.specs.Input.{input_name, IsOutput, kept, settled_of}
 
 pub of_same : (mode : Mode) (limits : Limits) (source output : List ℕ) → IsFormattedWithin limits source source → output ≡ kept mode source
@@ -24,11 +23,11 @@ of_changed Write limits source text output changed shown =
 of_changed Check limits source text output changed shown = inr (record { looks = λ e. (cc); text = text; changed = changed; shown = shown changed.other })
 of_changed Diff limits source text output changed shown = inr (record { looks = λ e. (cc); text = text; changed = changed; shown = shown changed.other })
 
-pub is_refused : {A : Type 0} (limits : Limits) (source : List ℕ) (refusal : Refusal A) → IsRevised limits source (Refused refusal) → IsRefused limits source
-is_refused limits source (Errors errors) h = inl (record { errors = errors.items; refused = h })
+pub is_refused : (limits : Limits) (source : List ℕ) (refusal : Refusal) → IsRefusedFor limits source refusal → IsRefused limits source
+is_refused limits source Errors h = inl h
 is_refused limits source Outgrown h = inr h
 
-pub of_refused : {A : Type 0} (mode : Mode) (limits : Limits) (source output : List ℕ) (refusal : Refusal A) → IsRevised limits source (Refused refusal)
+pub of_refused : (mode : Mode) (limits : Limits) (source output : List ℕ) (refusal : Refusal) → IsRefusedFor limits source refusal
     → output ≡ []
     → IsOutput mode limits source Found output
 of_refused Write limits source output refusal h empty = inl (is_refused limits source refusal h, empty)

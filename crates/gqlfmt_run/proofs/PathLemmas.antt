@@ -29,7 +29,7 @@ ord_max-nat : (a b : ℕ) → ord_max nat_cmp a b ≡ max a b
 ord_max-nat a b = grind (arith, nat_tests)
 
 module _ {S : Type 0} (reads : S → List ℕ → Option (List ℕ) → S → Type 0) (replaces : S → List ℕ → List ℕ → Bool → S → Type 0) where
-  found : {A : Type 0} (X : Type 0) (mode : Mode) (limits : Limits) (path source : List ℕ) (revised : Revised A (Refusal A)) (old new : S)
+  found : {A : Type 0} (X : Type 0) (mode : Mode) (limits : Limits) (path source : List ℕ) (revised : Revised A Refusal) (old new : S)
       (out out' : Account) → IsUtf8 source
       → IsRevised limits source revised → Settles replaces {X = X} mode path revised (Ok Found) old new → Shows mode path source revised (Ok tt) out out'
       → FollowsText reads replaces mode limits path source (Ok Found) old out new out'
@@ -40,7 +40,7 @@ module _ {S : Type 0} (reads : S → List ℕ → Option (List ℕ) → S → Ty
       (utf8, settled, inl (is_refused limits source refusal made, shown))
 
   -- A file whose text is refused or shown. The text is known as it was read, as a slice and as a text.
-  pub found-handled : {A : Type 0} (X : Type 0) (mode : Mode) (limits : Limits) (path bytes slice source : List ℕ) (revised : Revised A (Refusal A))
+  pub found-handled : {A : Type 0} (X : Type 0) (mode : Mode) (limits : Limits) (path bytes slice source : List ℕ) (revised : Revised A Refusal)
       (old middle new : S) (out out' : Account)
       → reads old path (Some bytes) middle → slice ≡ bytes → (source ≡ slice) × IsUtf8 slice → IsRevised limits source revised
       → Settles replaces {X = X} mode path revised (Ok Found) middle new → Shows mode path source revised (Ok tt) out out'

@@ -25,12 +25,16 @@ pub record IsChanged (limits : Limits) (source text : List ℕ) : Type 0 where
   pub formatted : IsFormattedWithin limits source text
   pub other : text ≢ source
 
--- what formatting makes of a source; the errors of a refusal are those of its parse
-abbrev pub IsRevised : {A : Type 0} → Limits → List ℕ → Revised A (Refusal A) → Type 0
+-- why a source is left as it is
+abbrev pub IsRefusedFor : Limits → List ℕ → Refusal → Type 0
+IsRefusedFor limits source Errors = HasErrors limits source
+IsRefusedFor limits source Outgrown = IsOutgrown limits source
+
+-- what formatting makes of a source
+abbrev pub IsRevised : {A : Type 0} → Limits → List ℕ → Revised A Refusal → Type 0
 IsRevised limits source Same = IsFormattedWithin limits source source
 IsRevised limits source (Changed text) = IsChanged limits source (string_bytes text)
-IsRevised limits source (Refused (Errors errors)) = format.IsRefused source limits.recursion limits.tokens errors.items
-IsRevised limits source (Refused Outgrown) = IsOutgrown limits source
+IsRevised limits source (Refused refusal) = IsRefusedFor limits source refusal
 
 -- a unified diff of two texts that have this name: both names at its head, and hunks
 abbrev pub IsDiff : List ℕ → List ℕ → Type 0

@@ -4,22 +4,22 @@ ghost use Rattle.formatter.specs.Formatted as format;
 ghost use Rattle.gqlfmt_run.specs.Formatting.{IsRevised};
 
 use crate::job::Job;
-use apollo_parser::{Error, Limits};
+use apollo_parser::Limits;
 use formatter::{DocumentFormatter, stays_within};
 use gqlfmt_files::Revised;
 use std::alloc::{AllocError, Allocator};
 
 /// Why a text is left as it is.
-#[derive(Drop)]
-pub enum Refusal<A: Allocator> {
+#[derive(Clone, Copy)]
+pub enum Refusal {
     /// It has errors.
-    Errors(Vec<Error<A>, A>),
+    Errors,
     /// Its formatted text has more items than the token limit allows, and would have errors.
     Outgrown,
 }
 
 // What a formatted text is to its source.
-fn compared<A: Allocator>(source: &str, text: String<A>, limits: Limits) -> Revised<A, Refusal<A>>
+fn compared<A: Allocator>(source: &str, text: String<A>, limits: Limits) -> Revised<A, Refusal>
     ensures { format.IsFormatted source.now limits.recursion limits.tokens (string_bytes text) → IsRevised limits source.now result }
 {
     if text.as_str() == source {
@@ -34,12 +34,12 @@ fn compared<A: Allocator>(source: &str, text: String<A>, limits: Limits) -> Revi
 
 impl<A: Allocator + Copy, L: DocumentFormatter> Job<'_, A, L> {
     /// Formats a text, and says whether that changes it. What it gives is not refused when it is formatted again.
-    pub fn revise(&self, source: &str) -> Result<Revised<A, Refusal<A>>, AllocError>
+    pub fn revise(&self, source: &str) -> Result<Revised<A, Refusal>, AllocError>
         ensures { IfOk result (IsRevised self.now.limits source.now) }
     {
         match self.formatter.format(self.alloc, source, self.limits)? {
             Ok(text) => Ok(compared(source, text, self.limits)),
-            Err(errors) => Ok(Revised::Refused(Refusal::Errors(errors))),
+            Err(_) => Ok(Revised::Refused(Refusal::Errors)),
         }
     }
 }

@@ -17,7 +17,6 @@ mod program;
 mod report;
 mod showing;
 mod status;
-mod std_files;
 
 pub use apollo_parser::Limits;
 pub use command::{HELP, USAGE, VERSION};
@@ -27,5 +26,3 @@ pub use formatter::{DocumentFormatter, Formatter};
 pub use input::INPUT;
 pub use job::Job;
 pub use program::run;
-pub use report::render_report;
-pub use std_files::StdFiles;

@@ -8,15 +8,16 @@ ghost use Rattle.gqlfmt_run.specs.Showing.{Shows};
 use crate::fault::FileFault;
 use crate::formatting::Refusal;
 use crate::job::Job;
-use crate::report::{complain, tell_of_file};
+use crate::report::tell_of_file;
 use crate::showing::shown;
 use crate::status::status_of;
 use byte_devices::{Fault, Sink, write_all};
+use error_finder::ErrorFinder;
 use formatter::DocumentFormatter;
 use gqlfmt_files::{Files, Revised, Settled, settle};
 use std::alloc::Allocator;
 
-impl<A: Allocator + Copy, L: DocumentFormatter> Job<'_, A, L> {
+impl<A: Allocator + Copy, L: DocumentFormatter + ErrorFinder> Job<'_, A, L> {
     // Tells why a text is refused, or writes what a mode that changes nothing shows of another one.
     fn show<W: Sink, E: Sink>(
         &self,
@@ -24,7 +25,7 @@ impl<A: Allocator + Copy, L: DocumentFormatter> Job<'_, A, L> {
         complaints: &mut E,
         path: &str,
         source: &str,
-        revised: Revised<A, Refusal<A>>,
+        revised: Revised<A, Refusal>,
     ) -> Result<(), Fault>
         ensures output { Shows self.now.mode path.now source.now revised result (W.account writer.old) (W.account writer.new) }
         ensures silent { OnErr result (E.account complaints.new ≡ E.account complaints.old) }
@@ -32,7 +33,7 @@ impl<A: Allocator + Copy, L: DocumentFormatter> Job<'_, A, L> {
         match revised {
             Revised::Same => Ok(()),
             Revised::Refused(refusal) => {
-                complain(self.alloc, complaints, path, source, refusal)?;
+                self.complain(complaints, path, source, refusal)?;
                 Ok(())
             }
             Revised::Changed(text) => {

@@ -1,52 +1,43 @@
 // What is said on standard error: the errors of a text, with their positions, and why a text was not formatted.
-ghost use Rattle.std.specs.Prelude.{◌≡◌, ◌≤◌, length, OnErr};
+ghost use Rattle.std.specs.Prelude.{◌≡◌, OnErr};
 ghost use Rattle.byte_devices.specs.Devices.{Account};
 ghost use Rattle.gqlfmt_run.specs.Complaints.{IsSilent, IsWritten, Tells, SaysOfFile};
 
 use crate::command::NO_MEMORY;
 use crate::fault::{FileFault, reason_of};
 use crate::formatting::Refusal;
-use apollo_parser::Error;
+use crate::job::Job;
 use byte_devices::{Fault, Sink, write_all};
+use error_finder::ErrorFinder;
+use first_errors::{FirstErrors, for_people, shown_at};
 use gqlfmt_files::{Files, Settled};
 use line_index::LineIndex;
-use marked_lines::push_message;
+use marked_lines::{Remark, push_message, push_more};
 use std::alloc::{AllocError, Allocator};
 use std::io::{self, ErrorKind};
 
-// Where an error is shown. One at the end of the text is shown after its last character that is no white space.
-fn offset_of<A: Allocator>(source: &str, error: &Error<A>) -> usize
-    ensures { result ≤ length source.now }
-{
-    let offset = if error.is_eof() {
-        source.trim_end().len()
-    } else {
-        error.index()
-    };
-    offset.min(source.len())
-}
+// How many errors of a text are shown at most.
+const SHOWN: usize = 20;
 
-/// A line `NAME:LINE:COLUMN: MESSAGE` for each error, and below it the line of the text with the position marked. Lines and columns count from 1,
-/// columns in characters.
-pub fn render_report<A: Allocator + Copy>(
+/// A line `NAME:LINE:COLUMN: MESSAGE` for each error, and below it the line of the text with the position marked; then how many more errors there are.
+/// Lines and columns count from 1, columns in characters.
+fn render_report<A: Allocator + Copy>(
     alloc: A,
     name: &str,
     source: &str,
-    errors: &[Error<A>],
+    first: &FirstErrors<A>,
 ) -> Result<String<A>, AllocError> {
     let index = LineIndex::new(alloc, source)?;
     let mut report = String::new(alloc);
-    for error in errors {
-        let offset = offset_of(source, error);
-        push_message(
-            &mut report,
-            name,
-            &index,
-            offset,
-            error.message(),
-            error.data(),
-        )?;
+    for error in &first.errors {
+        let remark = Remark {
+            offset: shown_at(source, error),
+            message: for_people(error.message()),
+            marked: error.data(),
+        };
+        push_message(&mut report, name, &index, &remark)?;
     }
+    push_more(&mut report, name, first.more)?;
     Ok(report)
 }
 
@@ -57,34 +48,36 @@ pub fn say<E: Sink>(complaints: &mut E, text: &str)
     let _ = write_all(complaints, text.as_bytes());
 }
 
-// Why a text is left as it is.
-fn reasons<A: Allocator + Copy>(
-    alloc: A,
-    name: &str,
-    source: &str,
-    refusal: &Refusal<A>,
-) -> Result<String<A>, AllocError> {
-    match refusal {
-        Refusal::Errors(errors) => render_report(alloc, name, source, errors.as_slice()),
-        Refusal::Outgrown => format!(in alloc;
-            "gqlfmt: {name}: it would have more tokens than allowed when formatted\n"
-        ),
+impl<A: Allocator + Copy, L: ErrorFinder> Job<'_, A, L> {
+    // Why a text is left as it is.
+    fn reasons(&self, name: &str, source: &str, refusal: Refusal) -> Result<String<A>, AllocError> {
+        match refusal {
+            Refusal::Errors => {
+                let first = self
+                    .formatter
+                    .first_errors(self.alloc, source, self.limits, SHOWN)?;
+                render_report(self.alloc, name, source, &first)
+            }
+            Refusal::Outgrown => format!(in self.alloc;
+                "gqlfmt: {name}: it would have more tokens than allowed when formatted\n"
+            ),
+        }
     }
-}
 
-/// Tells why a text is left as it is. What the sink does not take is lost.
-pub fn complain<A: Allocator + Copy, E: Sink>(
-    alloc: A,
-    complaints: &mut E,
-    name: &str,
-    source: &str,
-    refusal: Refusal<A>,
-) -> Result<(), AllocError>
-    ensures { OnErr result (E.account complaints.new ≡ E.account complaints.old) }
-{
-    let report = reasons(alloc, name, source, &refusal)?;
-    say(complaints, report.as_str());
-    Ok(())
+    /// Tells why a text is left as it is. What the sink does not take is lost.
+    pub fn complain<E: Sink>(
+        &self,
+        complaints: &mut E,
+        name: &str,
+        source: &str,
+        refusal: Refusal,
+    ) -> Result<(), AllocError>
+        ensures { OnErr result (E.account complaints.new ≡ E.account complaints.old) }
+    {
+        let report = self.reasons(name, source, refusal)?;
+        say(complaints, report.as_str());
+        Ok(())
+    }
 }
 
 /// Tells why a text was not formatted. What the sink does not take is lost.
@@ -112,7 +105,7 @@ fn tell_error<A: Allocator, E: Sink>(
     }
 }
 
-// Tells which file is left over from an earlier run, when that keeps the one at a path from being replaced.
+// Tells which file of another run keeps the one at a path from being replaced, if one does.
 fn tell_left_over<A: Allocator + Copy, F: Files, E: Sink>(
     alloc: A,
     files: &F,
@@ -125,15 +118,15 @@ fn tell_left_over<A: Allocator + Copy, F: Files, E: Sink>(
     }
     if let Ok(name) = files.new_path(alloc, path)
         && let Ok(line) = format!(in alloc;
-            "gqlfmt: {name}: left over from an earlier run: remove it\n"
+            "gqlfmt: {name}: the new file of another run: remove it if none is at work\n"
         )
     {
         say(complaints, line.as_str());
     }
 }
 
-/// Tells why the file at a path was not formatted, if it was not, and which file has to be removed when one is left over from an earlier run. What
-/// the sink does not take is lost.
+/// Tells why the file at a path was not formatted, if it was not, and which file of another run keeps it from being replaced. What the sink does not
+/// take is lost.
 #[tactic(auto, using(crate::proofs::Saying::silent_says))]
 pub fn tell_of_file<A: Allocator + Copy, F: Files, E: Sink>(
     alloc: A,

@@ -1,4 +1,5 @@
 // A line of a text with an offset in it marked.
+use crate::escaping::{column_count, columns_of, push_escaped};
 use std::alloc::{AllocError, Allocator};
 
 // How many bytes of a line are shown at most in front of the offset and from it on.
@@ -6,41 +7,35 @@ const BEFORE: usize = 60;
 
 const AFTER: usize = 100;
 
-// The character that is shown for one: U+FFFD for each control character but a tab.
-fn shown(c: char) -> char {
-    if c.is_control() && c != '\t' {
-        '\u{FFFD}'
-    } else {
-        c
+// As many columns of blanks as a character takes: a tab for a tab, so that what follows is below what follows the character.
+fn push_blank<A: Allocator>(text: &mut String<A>, c: char) -> Result<(), AllocError> {
+    if c == '\t' {
+        return text.push('\t');
     }
-}
-
-// The characters of a line, as they are shown.
-fn push_shown<A: Allocator>(text: &mut String<A>, part: &str) -> Result<(), AllocError> {
-    for c in part.chars() {
-        text.push(shown(c))?;
+    for _ in 0..columns_of(c) {
+        text.push(' ')?;
     }
     Ok(())
 }
 
-// As many columns of blanks: a tab for each tab, so that what follows is below what follows the characters.
+// The same for some characters.
 fn push_blanks<A: Allocator>(text: &mut String<A>, part: &str) -> Result<(), AllocError> {
     for c in part.chars() {
-        text.push(if c == '\t' { '\t' } else { ' ' })?;
+        push_blank(text, c)?;
     }
     Ok(())
 }
 
-// How many characters two texts have in common at their front, at least 1.
-fn mark_len(shown: &str, marked: &str) -> usize {
-    let mut count = 0usize;
+// The part that two texts have in common at their front.
+fn common_front<'s>(shown: &'s str, marked: &str) -> &'s str {
+    let mut end = 0usize;
     for (a, b) in shown.chars().zip(marked.chars()) {
         if a != b {
             break;
         }
-        count = count.saturating_add(1);
+        end = end.saturating_add(a.len_utf8());
     }
-    count.max(1)
+    shown.get(..end).unwrap_or("")
 }
 
 // What is shown of a line, between a margin and an end.
@@ -51,20 +46,20 @@ fn push_line<A: Allocator>(
     end: &str,
 ) -> Result<(), AllocError> {
     report.push_str(margin)?;
-    push_shown(report, text)?;
+    push_escaped(report, text)?;
     report.push_str(end)
 }
 
-// Below it this number of marks, after the blanks before them.
+// Below it a mark for each column of a text, at least one, after the blanks before them.
 fn push_marks<A: Allocator>(
     report: &mut String<A>,
     margin: &str,
     before: &str,
-    count: usize,
+    marked: &str,
 ) -> Result<(), AllocError> {
     push_blanks(report, margin)?;
     push_blanks(report, before)?;
-    for _ in 0..count {
+    for _ in 0..column_count(marked).max(1) {
         report.push('^')?;
     }
     report.push('\n')
@@ -89,5 +84,5 @@ pub fn push_excerpt<A: Allocator>(
     let margin = if cut.is_empty() { "    " } else { "    ..." };
     let end = if left.is_empty() { "\n" } else { "...\n" };
     push_line(report, margin, text, end)?;
-    push_marks(report, margin, before, mark_len(after, marked))
+    push_marks(report, margin, before, common_front(after, marked))
 }

@@ -5,27 +5,60 @@
 
 ghost use Rattle.std.specs.Prelude.{◌≤◌, length};
 
+mod escaping;
 mod excerpt;
 
+pub use escaping::push_escaped;
 use excerpt::push_excerpt;
 use line_index::LineIndex;
 use std::alloc::{AllocError, Allocator};
 
+/// A message, in two parts, about a place of a text.
+#[derive(Clone, Copy)]
+pub struct Remark<'m> {
+    /// The byte offset of the place.
+    pub offset: usize,
+    pub message: (&'m str, &'m str),
+    /// The text that is marked there.
+    pub marked: &'m str,
+}
+
 /// Puts a line `NAME:LINE:COLUMN: MESSAGE` at the end of a report, and below it the line of the text that has the byte offset, with as many characters
-/// marked from the offset on as it has in common with `marked`, at least one. Lines and columns count from 1, columns in characters.
+/// marked from the offset on as it has in common with `marked`, at least one. Lines and columns count from 1, columns in characters. Marks are below
+/// what they mark on a terminal, and characters that would not be seen there, or would move others, are escaped.
 pub fn push_message<A: Allocator>(
     report: &mut String<A>,
     name: &str,
     index: &LineIndex<'_, A>,
-    offset: usize,
-    message: &str,
-    marked: &str,
+    remark: &Remark<'_>,
 ) -> Result<(), AllocError>
-    requires { offset ≤ length index.now }
+    requires { remark.now.offset ≤ length index.now }
 {
-    let position = index.line_column(offset);
+    let position = index.line_column(remark.offset);
     let line = position.line.saturating_add(1);
-    let column = index.column_in_chars(offset).saturating_add(1);
-    writeln!(report, "{name}:{line}:{column}: {message}")?;
-    push_excerpt(report, index.line_text(offset), position.column, marked)
+    let column = index.column_in_chars(remark.offset).saturating_add(1);
+    push_escaped(report, name)?;
+    write!(report, ":{line}:{column}: ")?;
+    push_escaped(report, remark.message.0)?;
+    push_escaped(report, remark.message.1)?;
+    report.push('\n')?;
+    push_excerpt(
+        report,
+        index.line_text(remark.offset),
+        position.column,
+        remark.marked,
+    )
+}
+
+/// Puts a line at the end of a report that says how many more errors the text of this name has, if it has more.
+pub fn push_more<A: Allocator>(
+    report: &mut String<A>,
+    name: &str,
+    more: usize,
+) -> Result<(), AllocError> {
+    if more == 0 {
+        return Ok(());
+    }
+    push_escaped(report, name)?;
+    writeln!(report, ": and {more} more")
 }

@@ -1,7 +1,7 @@
 // The formatter's program over words, texts and files of these tests, and the changes that it shows.
 use crate::printing::put;
 use byte_devices::{StdSink, StdSource};
-use gqlfmt_run::{Formatter, StdFiles, run, unified_diff};
+use gqlfmt_run::{Formatter, run, unified_diff};
 use std::alloc::{AllocError, Allocator, Global};
 use std::cell::Cell;
 use std::fs::{Metadata, OpenFile, OpenOptions, Permissions};
@@ -10,6 +10,7 @@ use std::os::fd::BorrowedFd;
 use std::os::unix::net::SocketAddr;
 use std::path::{Path, PathBuf};
 use std::rt;
+use std_files::StdFiles;
 
 // A disk with one file. Its calls are counted down, and one fails when none is left.
 #[derive(Drop)]
@@ -84,7 +85,8 @@ impl Seek for Opened<'_> {
 
 impl OpenFile for Opened<'_> {
     fn metadata(&self) -> io::Result<Metadata> {
-        Err(io::Error::from(UNSUPPORTED))
+        self.disk.call()?;
+        Ok(Metadata::of_file(3))
     }
 
     fn set_len(&self, _size: u64) -> io::Result<()> {

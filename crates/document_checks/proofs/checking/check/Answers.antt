@@ -14,4 +14,4 @@ returns c =
     let none : c.is_empty.result ≡ true = grind (arith, nat_tests) in
     parsed asked c.args.source.now c.in_ok-tree.tree passes promise
     (sym c.errors.ensures ∙ sym c.as_slice-errors.ensures.value ∙ empty_list c.as_slice-errors.result.now (sym c.is_empty.ensures ∙ none))
-    (subst (λ (d : Place). (passes ≡ true) ↔ IsSound asked d) c.root.ensures.place c.in_ok-report-2.ensures)
+    (subst (λ (d : Place). (passes ≡ true) ↔ IsSound asked d) c.root-2.ensures.place c.in_ok-report-2.ensures)

@@ -1,0 +1,7 @@
+use Rattle.std.proofs.Common.{◌≡◌, ◌++◌, drop, map}
+use Rattle.first_errors.specs.First.{first_of_each}
+use Rattle.first_errors.proofs.choosing.first_of_each.Given as goal
+
+abbrev pub invariant-loop-error : goal.invariant-loop-error
+invariant-loop-error g l =
+    map (λ error. error.now) l.found.items ++ first_of_each l.left (drop l.error-index l.errors) ≡ first_of_each l.starts l.errors

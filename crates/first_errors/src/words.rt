@@ -1,0 +1,52 @@
+// An error as people see it: its words, and where it is.
+ghost use Rattle.std.specs.Prelude.{◌≡◌, ◌++◌, ◌≤◌, length};
+ghost use Rattle.first_errors.specs.Words.{IsForPeople, IsReplaced};
+
+use apollo_lexer::Error;
+use std::alloc::Allocator;
+
+// How messages of the parser begin, and the words for people in their place.
+const WORDS: [(&str, &str); 8] = [
+    ("expected L_CURLY", "expected {"),
+    ("expected R_CURLY", "expected }"),
+    ("expected R_PAREN", "expected )"),
+    ("expected R_BRACK", "expected ]"),
+    ("expected COLON", "expected :"),
+    (
+        "expected a StringValue, Name or OperationDefinition",
+        "expected a definition",
+    ),
+    ("exptected ", "expected "),
+    ("Unexpected <EOF>.", "The text has no definition."),
+];
+
+// A message in two parts, where the earliest row whose first text begins it has the words in place of that.
+fn replaced<'m>(message: &'m str, rows: &[(&'static str, &'static str)]) -> (&'static str, &'m str)
+    ensures { IsReplaced (λ row. row.0.now) (λ row. row.1.now) rows.now message.now (result.0.now ++ result.1.now) }
+{
+    for row in rows {
+        if let Some(rest) = message.strip_prefix(row.0) {
+            return (row.1, rest);
+        }
+    }
+    ("", message)
+}
+
+/// An error's message for people, in two parts. Punctuators are called by their signs.
+pub fn for_people(message: &str) -> (&'static str, &str)
+    ensures { IsForPeople message.now (result.0.now ++ result.1.now) }
+{
+    replaced(message, &WORDS)
+}
+
+/// The byte offset at which an error is shown. One at the end of the text is shown after its last character that is no white space.
+pub fn shown_at<A: Allocator>(source: &str, error: &Error<A>) -> usize
+    ensures { result ≤ length source.now }
+{
+    let offset = if error.is_eof() {
+        source.trim_end().len()
+    } else {
+        error.index()
+    };
+    offset.min(source.len())
+}

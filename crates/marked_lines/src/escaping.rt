@@ -1,0 +1,48 @@
+// Characters as they are shown.
+use std::alloc::{AllocError, Allocator};
+use ucd_category::GeneralCategory;
+use unicode_width::UnicodeWidthChar;
+
+// Whether a character would not be seen, or would move others: a control character but a tab, a format character, or a separator of lines or paragraphs.
+fn is_unseen(c: char) -> bool {
+    c != '\t'
+        && matches!(
+            GeneralCategory::for_char(c),
+            GeneralCategory::Control
+                | GeneralCategory::Format
+                | GeneralCategory::LineSeparator
+                | GeneralCategory::ParagraphSeparator
+        )
+}
+
+/// Puts a text at the end of another as it is shown: with escapes, as `\u{202e}`, for the characters that would not be seen or would move others.
+pub fn push_escaped<A: Allocator>(report: &mut String<A>, text: &str) -> Result<(), AllocError> {
+    for c in text.chars() {
+        if is_unseen(c) {
+            for part in c.escape_unicode() {
+                report.push(part)?;
+            }
+        } else {
+            report.push(c)?;
+        }
+    }
+    Ok(())
+}
+
+/// How many columns of a terminal a character takes as it is shown. A tab counts as one.
+pub fn columns_of(c: char) -> usize {
+    if is_unseen(c) {
+        c.escape_unicode().count()
+    } else {
+        c.width().unwrap_or(1)
+    }
+}
+
+/// How many columns of a terminal a text takes as it is shown.
+pub fn column_count(text: &str) -> usize {
+    let mut count = 0usize;
+    for c in text.chars() {
+        count = count.saturating_add(columns_of(c));
+    }
+    count
+}
