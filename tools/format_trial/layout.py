@@ -141,7 +141,7 @@ class Layout:
             has_braces = "}" in (self.text[left.loc.end - 1], self.text[right.loc.end - 1])
             return line(None, 2 if BLANK_LINE.search(gap) or (has_braces and not LINE_END.search(gap)) else 1)
 
-        return [self.joined(node.definitions, between), "\n"]
+        return [self.joined(node.definitions, between), HARD]
 
     def operation_definition(self, node):
         if self.begins(node.loc.start_token, "{"):
