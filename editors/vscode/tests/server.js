@@ -41,7 +41,7 @@ const tests = {
     tell("onDidOpenTextDocument", opened);
     await until(() => errorsOf(opened));
     const [{ range, message, severity, source }] = errorsOf(opened);
-    assert.deepEqual([span(range), message, severity, source], [[0, 4, 0, 4], "expected R_CURLY, got EOF", 0, "gqlls"]);
+    assert.deepEqual([span(range), message, severity, source], [[0, 4, 0, 4], "expected }", 0, "gqlls"]);
     tell("onDidChangeTextDocument", { document: opened, contentChanges: [] });
     opened.replace(new vscode.Range(0, 4, 0, 4), "}");
     await until(() => errorsOf(opened).length === 0);
