@@ -65,7 +65,7 @@ const tests = {
   // the layout is that of docs/FORMAT.md
   async "layout"() {
     const [whole] = await ask("DocumentFormattingEdit", "provideDocumentFormattingEdits", query, OPTIONS);
-    assert.equal(whole.newText, data("query.graphql").replace("{ ...parts }", "{\n    ...parts\n  }").replace("\nfragment", "\n\nfragment").replace("{ name }", "{\n  name\n}"));
+    assert.equal(whole.newText, data("query.graphql").replace("{ ...parts }", "{\n    ...parts\n  }").replace("{ name }", "{\n  name\n}"));
     const [part] = await ask("DocumentRangeFormattingEdit", "provideDocumentRangeFormattingEdits", query, new vscode.Range(3, 0, 3, 5), OPTIONS);
     assert.deepEqual([span(part.range), part.newText], [[3, 0, 3, 30], "fragment parts on Pet {\n  name\n}"]);
   },
