@@ -83,7 +83,7 @@ const tests = {
   },
 
   async "completion"() {
-    assert.deepEqual(providers.CompletionItem.words, ["$", "@"]);
+    assert.deepEqual(providers.CompletionItem.words, ["$", "@", ".", ":", "(", "{"]);
     const items = await ask("CompletionItem", "provideCompletionItems", schema, at(3, 17));
     const pet = items.find(({ label }) => label === "Pet");
     assert.deepEqual([pet.kind, pet.insertText, span(pet.range)], [6, "Pet", [3, 16, 3, 17]]);
