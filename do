@@ -43,6 +43,7 @@ quick() {
 tests() {
     tools/format_texts --trial
     tools/gqlcheck_tests
+    tools/fault_tests
     tools/bindings
     tools/figures
     tools/validation
