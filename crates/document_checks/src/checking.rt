@@ -14,33 +14,61 @@ use std::alloc::{AllocError, Global};
 // How many violations are looked for.
 const MOST: usize = 1000;
 
-// An error of the parser.
-fn syntax_finding(
+// An error, in words for people.
+fn finding_for_people(
     alloc: Global,
     source: &str,
     error: &Error<Global>,
 ) -> Result<Finding, AllocError> {
-    let start = shown_at(source, error);
     let (front, rest) = for_people(error.message());
     let mut message = String::from_str(alloc, front)?;
     message.push_str(rest)?;
-    Ok(Finding {
-        start,
-        end: start.saturating_add(error.data().len()),
-        rule: "Syntax",
-        message,
-    })
+    Ok(Finding::of_error(error, shown_at(source, error), message))
 }
 
-// The report of a text that has errors, of which these are the first.
-fn refused(alloc: Global, source: &str, first: &FirstErrors<Global>) -> Result<Report, AllocError>
+// The report of a text that has errors, with the first of each definition.
+fn first_refused(
+    alloc: Global,
+    source: &str,
+    first: &FirstErrors<Global>,
+) -> Result<Report, AllocError>
     ensures { IfOk result (λ report. report.passes ≡ false) }
 {
     let mut findings = Vec::new(alloc);
     for error in &first.errors {
-        findings.push(syntax_finding(alloc, source, error)?)?;
+        findings.push(finding_for_people(alloc, source, error)?)?;
     }
     Ok(Report::failed(alloc, findings, first.more))
+}
+
+// The report of a text that has errors, with the first of all, as the parser has them.
+fn all_refused(alloc: Global, errors: &[Error<Global>], most: usize) -> Result<Report, AllocError>
+    ensures { IfOk result (λ report. report.passes ≡ false) }
+{
+    let mut findings = Vec::new(alloc);
+    for error in errors.iter().take(most) {
+        let message = String::from_str(alloc, error.message())?;
+        findings.push(Finding::of_error(error, error.index(), message))?;
+    }
+    let more = errors.len().saturating_sub(most);
+    Ok(Report::failed(alloc, findings, more))
+}
+
+// The report of a text that has these errors, by the root of its tree.
+fn refused(
+    alloc: Global,
+    source: &str,
+    document: &SyntaxNode<'_>,
+    errors: &[Error<Global>],
+    checks: &Checks<'_>,
+) -> Result<Report, AllocError>
+    ensures { IfOk result (λ report. report.passes ≡ false) }
+{
+    if checks.all_errors {
+        return all_refused(alloc, errors, checks.findings);
+    }
+    let first = first_errors(alloc, document, errors, checks.findings)?;
+    first_refused(alloc, source, &first)
 }
 
 fn violation_finding(alloc: Global, violation: &Violation<'_>) -> Result<Finding, AllocError> {
@@ -87,8 +115,7 @@ pub fn check(alloc: Global, source: &str, checks: &Checks<'_>) -> Result<Report,
     let tree = Parser::within(source, checks.limits).parse(alloc)?;
     let errors = tree.errors().as_slice();
     if !errors.is_empty() {
-        let first = first_errors(alloc, &tree.root(), errors, checks.findings)?;
-        let report = refused(alloc, source, &first)?;
+        let report = refused(alloc, source, &tree.root(), errors, checks)?;
         return Ok(report);
     }
     let report = check_document(alloc, &tree.root(), checks)?;

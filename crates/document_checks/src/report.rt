@@ -1,7 +1,7 @@
 // What a text is checked against, and what is found.
 ghost use Rattle.std.specs.Prelude.{◌≡◌, IfOk, true, false};
 
-use apollo_parser::Limits;
+use apollo_parser::{Error, Limits};
 use apollo_tree::SyntaxNode;
 use expansion_figures::Figures;
 use std::alloc::{AllocError, Global};
@@ -17,6 +17,8 @@ pub struct Checks<'a> {
     pub operation: Option<&'a str>,
     /// How many findings are reported at most.
     pub findings: usize,
+    /// Whether all errors of the parser are reported as it has them, or of each definition the first, in words for people.
+    pub all_errors: bool,
 }
 
 /// Something that keeps a text from passing, or the first of the places of one.
@@ -85,6 +87,16 @@ impl Finding {
             start: range.start(),
             end: range.end(),
             rule,
+            message,
+        }
+    }
+
+    /// A finding that an error of the parser is, with the byte offset at which it is shown.
+    pub(crate) fn of_error(error: &Error<Global>, start: usize, message: String) -> Finding {
+        Finding {
+            start,
+            end: start.saturating_add(error.data().len()),
+            rule: "Syntax",
             message,
         }
     }
