@@ -1,67 +1,71 @@
--- The units of UTF-16 before an offset, from the marks.
-use Rattle.std.proofs.Common.{◌⊎◌, ◌≡◌, ℕ, ◌+◌, ◌-◌, ◌*◌, ◌/◌, ◌^◌, ◌<◌, ◌≤◌, max, List, [], ◌∷◌, ◌++◌, length, take, drop, refl, sym, ap, ◌∙◌, subst, inl, inr}
+-- The sums of weights before an offset, from the marks; and the offset at which the units of UTF-16 reach a number.
+use Rattle.std.proofs.Common.{◌⊎◌, ◌≡◌, ℕ, ◌+◌, ◌-◌, ◌*◌, ◌/◌, ◌<◌, ◌≤◌, max, List, [], ◌∷◌, ◌++◌, length, take, drop, refl, ap, ◌∙◌, subst, inl, inr}
 use Rattle.std.proofs.Common.{arith, get_or, length-append, length-drop}
-use Rattle.std.specs.Prelude.{slice_index, slice_range}
+use Rattle.std.specs.Prelude.{Bool, true, false, ◌==◌, slice_index, slice_range}
+use Rattle.std.specs.List.{sum_by}
 use Rattle.std.specs.List.Sorted.{IsNonDecreasing}
 use Rattle.std.specs.Str.{IsUtf8, IsCharBoundary}
 use Rattle.std.proofs.lemmas.Str.{IsUtf8-take}
 use Rattle.std.proofs.lemmas.Bool.{cases_lt}
-use Rattle.std.proofs.lemmas.List.{get_or_append_left, get_or_read, get_or-take, get_or-drop, length-take, take-take}
-use Rattle.std.proofs.lemmas.List.Sums.{sum_by-append, sum_by-take-drop}
+use Rattle.std.proofs.lemmas.Bool.Decides.{nat_tests}
+use Rattle.std.proofs.lemmas.List.{get_or_append_left, get_or-take, get_or-drop, length-take, take-take}
+use Rattle.std.proofs.lemmas.List.Sums.{sum_by-append}
 use Rattle.std.proofs.lemmas.List.Sorted.{IsNonDecreasingBy-from_default}
 use Rattle.std.proofs.Math.Seq.{take-add, get_or-append_seam}
 use Rattle.line_index.specs.Columns.{utf16_units, utf16_len}
 use Rattle.line_index.specs.Marks.{AreMarks}
 use Rattle.line_index.proofs.ColumnLemmas.{utf16_len-le}
 
--- the units before an offset and those from there up to another
-pub units-add : (text : List ℕ) (n m k : ℕ) → k ≡ n + m → utf16_len (take k text) ≡ utf16_len (take n text) + utf16_len (take m (drop n text))
-units-add text n m k e = ap (λ (i : ℕ). utf16_len (take i text)) e ∙ ap utf16_len (take-add n m text)
-    ∙ sum_by-append utf16_units (take n text) (take m (drop n text))
+-- as the code tests for marks
+pub no-marks : (marks : List ℕ) (empty : Bool) → empty ≡ (length marks == 0) → empty ≡ true → length marks ≡ 0
+no-marks marks empty is holds = grind (arith, nat_tests)
 
-pub units-slice : (text : List ℕ) (n k : ℕ) → n ≤ k → utf16_len (take k text) ≡ utf16_len (take n text) + utf16_len (slice_range text n k)
-units-slice text n k h = units-add text n (k - n) k (omega arith)
+pub some-marks : (marks : List ℕ) (empty : Bool) → empty ≡ (length marks == 0) → empty ≡ false → 0 < length marks
+some-marks marks empty is fails = grind (arith, nat_tests)
 
-pub units-small : (text : List ℕ) (n : ℕ) → IsUtf8 text → length text < 2 ^ 64 → utf16_len (take n text) < 2 ^ 64
-units-small text n u small = omega (arith, utf16_len-le text u, sum_by-take-drop utf16_units text n)
+-- the sum before an offset and the one from there up to another
+pub sum-add : (f : ℕ → ℕ) (text : List ℕ) (n m k : ℕ) → k ≡ n + m → sum_by f (take k text) ≡ sum_by f (take n text) + sum_by f (take m (drop n text))
+sum-add f text n m k e = ap (λ (i : ℕ). sum_by f (take i text)) e ∙ ap (sum_by f) (take-add n m text)
+    ∙ sum_by-append f (take n text) (take m (drop n text))
 
-pub next-mark : (text : List ℕ) (m u n : ℕ) → u ≡ utf16_len (take (64 * m) text) → n ≡ utf16_len (take (m * 64 + 64 - m * 64) (drop (m * 64) text))
-    → u + n ≡ utf16_len (take (64 * (m + 1)) text)
-next-mark text m u n eu en =
+pub sum-slice : (f : ℕ → ℕ) (text : List ℕ) (n k : ℕ) → n ≤ k → sum_by f (take k text) ≡ sum_by f (take n text) + sum_by f (slice_range text n k)
+sum-slice f text n k h = sum-add f text n (k - n) k (omega arith)
+
+pub next-mark : (f : ℕ → ℕ) (text : List ℕ) (m u n : ℕ) → u ≡ sum_by f (take (64 * m) text) → n ≡ sum_by f (take (m * 64 + 64 - m * 64) (drop (m * 64) text))
+    → u + n ≡ sum_by f (take (64 * (m + 1)) text)
+next-mark f text m u n eu en =
     let at : 64 * m ≡ m * 64 = omega arith in
-    let eu' : u ≡ utf16_len (take (m * 64) text) = eu ∙ ap (λ (i : ℕ). utf16_len (take i text)) at in
-    omega (arith, eu', en, units-add text (m * 64) (m * 64 + 64 - m * 64) (64 * (m + 1)) (omega arith))
+    let eu' : u ≡ sum_by f (take (m * 64) text) = eu ∙ ap (λ (i : ℕ). sum_by f (take i text)) at in
+    omega (arith, eu', en, sum-add f text (m * 64) (m * 64 + 64 - m * 64) (64 * (m + 1)) (omega arith))
 
-pub one-more : (text marks : List ℕ) (u m : ℕ) → length marks ≡ m + 1 → u ≡ utf16_len (take (64 * (m + 1)) text)
-    → ((i : ℕ) → i < length marks → get_or marks i 0 ≡ utf16_len (take (64 * i) text)) → (i : ℕ) → i < length (marks ++ u ∷ [])
-    → get_or (marks ++ u ∷ []) i 0 ≡ utf16_len (take (64 * i) text)
-one-more text marks u m count is each i h = elim (cases_lt i (length marks)) [
+pub one-more : (f : ℕ → ℕ) (text marks : List ℕ) (u m : ℕ) → length marks ≡ m + 1 → u ≡ sum_by f (take (64 * (m + 1)) text)
+    → ((i : ℕ) → i < length marks → get_or marks i 0 ≡ sum_by f (take (64 * i) text)) → (i : ℕ) → i < length (marks ++ u ∷ [])
+    → get_or (marks ++ u ∷ []) i 0 ≡ sum_by f (take (64 * i) text)
+one-more f text marks u m count is each i h = elim (cases_lt i (length marks)) [
   | inl lt ↦ get_or_append_left marks (u ∷ []) 0 i lt ∙ each i lt
   | inr ge ↦
       let at : i ≡ length marks = omega (arith, length-append marks (u ∷ [])) in
       let m' : m + 1 ≡ i = omega arith in
-      ap (λ (k : ℕ). get_or (marks ++ u ∷ []) k 0) at ∙ get_or-append_seam marks u [] 0 ∙ is ∙ ap (λ (k : ℕ). utf16_len (take (64 * k) text)) m'
+      ap (λ (k : ℕ). get_or (marks ++ u ∷ []) k 0) at ∙ get_or-append_seam marks u [] 0 ∙ is ∙ ap (λ (k : ℕ). sum_by f (take (64 * k) text)) m'
 ]
 
-pub marks-ordered : (text marks : List ℕ) → AreMarks text marks → IsNonDecreasing marks
-marks-ordered text marks a = IsNonDecreasingBy-from_default (λ x. x) marks 0 up where
+pub marks-ordered : (f : ℕ → ℕ) (text marks : List ℕ) → AreMarks f text marks → IsNonDecreasing marks
+marks-ordered f text marks a = IsNonDecreasingBy-from_default (λ x. x) marks 0 up where
   up : (i j : ℕ) → i ≤ j → j < length marks → slice_index marks i ≤ slice_index marks j
-  up i j le lt = omega (arith, a.units i (omega arith), a.units j lt, units-add text (64 * i) (64 * j - 64 * i) (64 * j) (omega arith))
+  up i j le lt = omega (arith, a.sums i (omega arith), a.sums j lt, sum-add f text (64 * i) (64 * j - 64 * i) (64 * j) (omega arith))
 
 -- as the code finds it
-pub before : (inner text bytes marks : List ℕ) (offset m u : ℕ) → inner ≡ text → bytes ≡ inner → AreMarks inner marks → offset ≤ length text
-    → m ≡ get_or marks (offset / 64) m
-    → u ≡ utf16_len (take (offset - offset / 64 * 64) (drop (offset / 64 * 64) bytes)) → m + u ≡ utf16_len (take offset text)
-before inner text bytes marks offset m u view same a within read is =
-    let a' : AreMarks text marks = subst (λ (t : List ℕ). AreMarks t marks) view a in
-    let some : offset / 64 < length marks = omega (arith, a'.all) in
-    let m' = get_or_read marks (offset / 64) m some read 0 in
+pub before : (f : ℕ → ℕ) (text bytes marks : List ℕ) (offset u : ℕ) → bytes ≡ text → AreMarks f text marks → 0 < length marks → offset ≤ length text
+    → u ≡ sum_by f (take (offset - offset / 64 * 64) (drop (offset / 64 * 64) bytes))
+    → get_or marks (offset / 64) 0 + u ≡ sum_by f (take offset text)
+before f text bytes marks offset u same a have within is =
+    let some : offset / 64 < length marks = omega (arith, a.all have) in
     let at : 64 * (offset / 64) ≡ offset / 64 * 64 = omega arith in
-    let mark : slice_index marks (offset / 64) ≡ utf16_len (take (offset / 64 * 64) text) = a'.units (offset / 64) some
-    ∙ ap (λ (i : ℕ). utf16_len (take i text)) at in
-    let is' : u ≡ utf16_len (take (offset - offset / 64 * 64) (drop (offset / 64 * 64) text)) = is
-    ∙ ap (λ (t : List ℕ). utf16_len (take (offset - offset / 64 * 64) (drop (offset / 64 * 64) t))) (same ∙ view) in
-    omega (arith, m', mark, is', units-add text (offset / 64 * 64) (offset - offset / 64 * 64) offset (omega arith))
+    let mark : slice_index marks (offset / 64) ≡ sum_by f (take (offset / 64 * 64) text) = a.sums (offset / 64) some
+    ∙ ap (λ (i : ℕ). sum_by f (take i text)) at in
+    let is' : u ≡ sum_by f (take (offset - offset / 64 * 64) (drop (offset / 64 * 64) text)) = is
+    ∙ ap (λ (t : List ℕ). sum_by f (take (offset - offset / 64 * 64) (drop (offset / 64 * 64) t))) same in
+    omega (arith, mark, is', sum-add f text (offset / 64 * 64) (offset - offset / 64 * 64) offset (omega arith))
 
 -- in a part of the text
 part-index : (text : List ℕ) (from end r : ℕ) → r < length (take (end - from) (drop from text))
@@ -75,20 +79,24 @@ take-less xs r k h = ap utf16_len (take-take r k xs h)
 pub part-units : (text : List ℕ) (from end r : ℕ) → r ≤ length (take (end - from) (drop from text))
     → utf16_len (take (from + r) text) ≡ utf16_len (take from text) + utf16_len (take r (take (end - from) (drop from text)))
 part-units text from end r h =
-    omega (arith, units-add text from r (from + r) refl, take-less (drop from text) r (end - from) (omega (arith, length-take (end - from) (drop from text))))
+    omega (
+      arith,
+      sum-add utf16_units text from r (from + r) refl,
+      take-less (drop from text) r (end - from) (omega (arith, length-take (end - from) (drop from text))),
+    )
 
 -- a mark up to the units that are wanted
-pub mark-units : (inner text marks slice : List ℕ) (i : ℕ) → inner ≡ text → slice ≡ marks → AreMarks inner marks → i < length slice
-    → (slice_index slice i ≡ utf16_len (take (i * 64) text)) × (i * 64 ≤ length text)
-mark-units inner text marks slice i view items a h =
-    let a' : AreMarks text slice = subst (λ (t : List ℕ). AreMarks t slice) view (subst (λ (l : List ℕ). AreMarks inner l) (sym items) a) in
+pub mark-units : (text marks : List ℕ) (i : ℕ) → AreMarks utf16_units text marks → i < length marks
+    → (slice_index marks i ≡ utf16_len (take (i * 64) text)) × (i * 64 ≤ length text)
+mark-units text marks i a h =
     let at : 64 * i ≡ i * 64 = omega arith in
-    (a'.units i h ∙ ap (λ (k : ℕ). utf16_len (take k text)) at, omega (arith, a'.within))
+    (a.sums i h ∙ ap (λ (k : ℕ). utf16_len (take k text)) at, omega (arith, a.within))
 
 pub whole-part-fits : (text : List ℕ) (start end mark wanted column s : ℕ) → start ≤ end → end ≤ mark → utf16_len (take mark text) ≤ wanted
     → s ≡ utf16_len (take start text) → wanted ≡ s + column
     → utf16_len (slice_range text start end) ≤ column
-whole-part-fits text start end mark wanted column s le past up is want = omega (arith, units-slice text start end le, units-slice text end mark past)
+whole-part-fits text start end mark wanted column s le past up is want =
+    omega (arith, sum-slice utf16_units text start end le, sum-slice utf16_units text end mark past)
 
 -- the later of a mark and a start
 pub from-units : (text : List ℕ) (mark start from wanted : ℕ) → from ≡ max mark start → utf16_len (take mark text) ≤ wanted
@@ -125,7 +133,7 @@ room-fits text bytes start end from column s b room r h =
     omega (
       arith,
       part-units text from end r within,
-      units-slice text start (from + r) (omega (arith, h.after)),
+      sum-slice utf16_units text start (from + r) (omega (arith, h.after)),
       h.start_units,
       h.from_units,
       h.is,
@@ -152,7 +160,7 @@ room-full text bytes start end from column s b room r h less =
     omega (
       arith,
       part-units text from end r within,
-      units-slice text start (from + r) (omega (arith, h.after)),
+      sum-slice utf16_units text start (from + r) (omega (arith, h.after)),
       h.start_units,
       h.from_units,
       h.is,

@@ -2,6 +2,8 @@
 use Rattle.std.specs.Prelude.{◌≡◌, ℕ, ◌+◌, ◌<◌, ◌≤◌, List, length, slice_index}
 use Rattle.std.specs.Str.{IsUtf8}
 use Rattle.line_index.specs.Lines.{line_at, line_start}
+use Rattle.line_index.specs.Columns.{weight}
+use Rattle.line_index.specs.declared.Counted.TheVariants.{Characters, Utf16Units}
 use Rattle.line_index.specs.Marks.{AreMarks}
 
 -- These are the offsets up to `end` at which a line begins, in order.
@@ -19,7 +21,8 @@ pub record IsNextStart (text : List ℕ) (offset next : ℕ) : Type 0 where
   pub number : line_at text next ≡ line_at text offset + 1
 
 -- these are the line starts and the marks of a text in UTF-8
-pub record IsIndexed (text offsets counts : List ℕ) : Type 0 where
+pub record IsIndexed (text offsets characters units : List ℕ) : Type 0 where
   pub utf8 : ∥ IsUtf8 text ∥₁
   pub starts : AreStarts text (length text) offsets
-  pub marks : AreMarks text counts
+  pub character_marks : AreMarks (weight Characters) text characters
+  pub utf16_marks : AreMarks (weight Utf16Units) text units

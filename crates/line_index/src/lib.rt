@@ -7,11 +7,12 @@
 #![tactic(auto)]
 
 ghost use Rattle.std.specs.Prelude.{◌≡◌, ℕ, ◌+◌, ◌^◌, ◌<◌, ◌==◌, ◌&&◌, ◌≤◌, length, slice_index, slice_range, take, IfOk, MatchOption, take_while, not};
+ghost use Rattle.std.specs.List.{sum_by};
 ghost use Rattle.std.specs.Str.{IsCharBoundary};
 ghost use Rattle.lexical_grammar.specs.Characters.{is_line_terminator};
 ghost use Rattle.std.specs.List.Sorted.{IsNonDecreasing};
 ghost use Rattle.line_index.specs.Lines.{line_at, line_start, line_text};
-ghost use Rattle.line_index.specs.Columns.{char_count, utf16_len, begins_character, utf16_units};
+ghost use Rattle.line_index.specs.Columns.{char_count, utf16_len, begins_character, utf16_units, weight};
 ghost use Rattle.line_index.specs.Positions.{units, width, offset_of, IsCursor};
 ghost use Rattle.line_index.specs.LineStarts.{AreStarts, IsNextStart};
 ghost use Rattle.line_index.specs.Marks.{AreMarks};
@@ -80,13 +81,6 @@ fn begins_character(byte: u8) -> bool
     byte < 128 || byte > 191
 }
 
-// The characters of a text, or of a part of one: how many begin in it.
-fn char_count(bytes: &[u8]) -> usize
-    ensures { result ≡ char_count bytes.now }
-{
-    bytes.iter().filter(|byte| begins_character(**byte)).count()
-}
-
 fn utf16_units(byte: u8) -> usize
     ensures value { result ≡ utf16_units byte }
     ensures few { result ≤ 2 }
@@ -100,28 +94,49 @@ fn utf16_units(byte: u8) -> usize
     }
 }
 
-// The units of UTF-16 that these characters take.
-fn utf16_len(bytes: &[u8]) -> usize
-    requires { utf16_len bytes.now < 2 ^ 64 }
-    ensures { result ≡ utf16_len bytes.now }
+// What a column counts, other than bytes.
+#[derive(Clone, Copy)]
+enum Counted {
+    Characters,
+    Utf16Units,
+}
+
+// How much a byte counts: the first one of a character counts for all of it.
+fn weight(counted: Counted, byte: u8) -> usize
+    ensures value { result ≡ weight counted byte }
+    ensures few { result ≤ 2 }
 {
-    bytes.iter().map(|byte| utf16_units(*byte)).sum()
+    match counted {
+        Counted::Characters => usize::from(begins_character(byte)),
+        Counted::Utf16Units => utf16_units(byte),
+    }
+}
+
+// How much a part of a text counts.
+fn weight_of(counted: Counted, bytes: &[u8]) -> usize
+    requires { sum_by (weight counted) bytes.now < 2 ^ 64 }
+    ensures { result ≡ sum_by (weight counted) bytes.now }
+{
+    bytes.iter().map(|byte| weight(counted, *byte)).sum()
 }
 
 // How many bytes lie between two marks.
 const STEP: usize = 64;
 
-// The units of UTF-16 before each multiple of STEP.
-fn marks<A: Allocator>(alloc: A, text: &str) -> Result<Vec<usize, A>, AllocError>
-    ensures { IfOk result (λ marks. AreMarks text.now marks.items) }
+// How much the text before each multiple of STEP counts. Nothing is kept of a text in ASCII.
+fn marks<A: Allocator>(alloc: A, counted: Counted, text: &str) -> Result<Vec<usize, A>, AllocError>
+    ensures { IfOk result (λ marks. AreMarks (weight counted) text.now marks.items) }
 {
-    let bytes = text.as_bytes();
     let mut marks = Vec::new(alloc);
-    let mut units = 0;
-    marks.push(units)?;
+    if text.is_ascii() {
+        return Ok(marks);
+    }
+    let bytes = text.as_bytes();
+    let mut total = 0;
+    marks.push(total)?;
     for mark in 0..bytes.len() / STEP {
-        units += utf16_len(&bytes[mark * STEP..mark * STEP + STEP]);
-        marks.push(units)?;
+        total += weight_of(counted, &bytes[mark * STEP..mark * STEP + STEP]);
+        marks.push(total)?;
     }
     Ok(marks)
 }
@@ -170,15 +185,16 @@ pub struct Position {
 }
 
 /// The lines of a text, indexed by where they begin. GraphQL's line terminators end them: LF, CR and CR LF. What follows the last of these
-/// is a line too, even when it is empty. It takes one number of memory for each line and for every 64 bytes.
+/// is a line too, even when it is empty. It takes one number of memory for each line, and two for every 64 bytes unless the text is ASCII.
 ///
-/// The calls take a byte offset in the text, which may be the text's length, and find its line in the time of the logarithm of the number of
-/// lines. An offset between the CR and the LF of a CR LF is in the line that they end.
+/// The calls take a byte offset in the text, which may be the text's length, and find its line and column in the time of the logarithm of the
+/// number of lines. An offset between the CR and the LF of a CR LF is in the line that they end.
 #[derive(Drop)]
 pub struct LineIndex<'a, A: Allocator = Global> {
     text: &'a str,
     starts: Vec<usize, A>,
-    marks: Vec<usize, A>,
+    character_marks: Vec<usize, A>,
+    utf16_marks: Vec<usize, A>,
 }
 
 impl<'a, A: Allocator> Model for LineIndex<'a, A> {
@@ -189,7 +205,7 @@ impl<'a, A: Allocator> Model for LineIndex<'a, A> {
 
     ghost view = { λ index. index.text.now };
 
-    ghost invariant = { λ index. IsIndexed index.text.now index.starts.items index.marks.items };
+    ghost invariant = { λ index. IsIndexed index.text.now index.starts.items index.character_marks.items index.utf16_marks.items };
 }
 
 impl<'a, A: Allocator> LineIndex<'a, A> {
@@ -200,11 +216,13 @@ impl<'a, A: Allocator> LineIndex<'a, A> {
         ensures { IfOk result (λ index. index ≡ text.now) }
     {
         let starts = line_starts(alloc.clone()?, text.as_bytes())?;
-        let marks = marks(alloc, text)?;
+        let character_marks = marks(alloc.clone()?, Counted::Characters, text)?;
+        let utf16_marks = marks(alloc, Counted::Utf16Units, text)?;
         Ok(LineIndex {
             text,
             starts,
-            marks,
+            character_marks,
+            utf16_marks,
         })
     }
 
@@ -243,8 +261,7 @@ impl<'a, A: Allocator> LineIndex<'a, A> {
         requires { offset ≤ length self.now }
         ensures { result ≡ char_count (slice_range self.now (line_start self.now offset) offset) }
     {
-        let start = offset - self.line_column(offset).column;
-        char_count(&self.text.as_bytes()[start..offset])
+        self.column(Counted::Characters, offset)
     }
 
     /// The column of a byte offset in units of UTF-16: how many the characters take that begin in its line before it.
@@ -252,17 +269,46 @@ impl<'a, A: Allocator> LineIndex<'a, A> {
         requires { offset ≤ length self.now }
         ensures { result ≡ utf16_len (slice_range self.now (line_start self.now offset) offset) }
     {
-        let start = offset - self.line_column(offset).column;
-        self.units_before(offset) - self.units_before(start)
+        self.column(Counted::Utf16Units, offset)
     }
 
-    // The units of UTF-16 before a byte offset.
+    // How much counts of the line of a byte offset that is before it.
+    fn column(&self, counted: Counted, offset: usize) -> usize
+        requires { offset ≤ length self.now }
+        ensures { result ≡ sum_by (weight counted) (slice_range self.now (line_start self.now offset) offset) }
+    {
+        let start = offset - self.line_column(offset).column;
+        self.weight_before(counted, offset) - self.weight_before(counted, start)
+    }
+
+    fn marks(&self, counted: Counted) -> &[usize]
+        ensures { AreMarks (weight counted) self.now result.now }
+    {
+        match counted {
+            Counted::Characters => self.character_marks.as_slice(),
+            Counted::Utf16Units => self.utf16_marks.as_slice(),
+        }
+    }
+
+    // How much counts of the text before a byte offset.
+    fn weight_before(&self, counted: Counted, offset: usize) -> usize
+        requires { offset ≤ length self.now }
+        ensures { result ≡ sum_by (weight counted) (take offset self.now) }
+    {
+        let marks = self.marks(counted);
+        if marks.is_empty() {
+            return offset;
+        }
+        let mark = offset / STEP;
+        let rest = &self.text.as_bytes()[mark * STEP..offset];
+        marks[mark] + weight_of(counted, rest)
+    }
+
     fn units_before(&self, offset: usize) -> usize
         requires { offset ≤ length self.now }
         ensures { result ≡ utf16_len (take offset self.now) }
     {
-        let mark = offset / STEP;
-        self.marks[mark] + utf16_len(&self.text.as_bytes()[mark * STEP..offset])
+        self.weight_before(Counted::Utf16Units, offset)
     }
 
     /// The position of a byte offset, as the protocol counts columns in this encoding. The client finds the same byte by it, unless the offset is
@@ -295,9 +341,13 @@ impl<'a, A: Allocator> LineIndex<'a, A> {
         ensures fits { utf16_len (slice_range self.now start result) ≤ column }
         ensures full { result < end → column < utf16_len (slice_range self.now start result) + utf16_units (slice_index self.now result) }
     {
+        let marks = self.marks(Counted::Utf16Units);
+        if marks.is_empty() {
+            return start + column;
+        }
         let bytes = self.text.as_bytes();
         let wanted = self.units_before(start) + column;
-        let mark = last_up_to(self.marks.as_slice(), wanted) * STEP;
+        let mark = last_up_to(marks, wanted) * STEP;
         if mark >= end {
             return end;
         }
