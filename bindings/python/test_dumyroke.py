@@ -193,6 +193,12 @@ class Errors(unittest.TestCase):
         self.assertEqual((error.line, error.column, error.byte_column), error.position)
         self.assertEqual((error.range[0], error.span[0], error.data), (text.encode().index(b"]"), text.index("]"), "]"))
 
+    def test_long_line(self):
+        text = "é𝄞a" * 100
+        for error in dumyroke.check(text):
+            before = len(text.encode()[: error.range[0]].decode())
+            self.assertEqual((error.line, error.column, error.byte_column, error.span[0]), (1, before + 1, error.range[0] + 1, before))
+
     def test_limits(self):
         tree = dumyroke.parse("{a{b}}", recursion_limit=1)
         self.assertTrue(tree.errors[0].is_limit and tree.recursion_high == 2 and tree.text == "{a{b}}")
@@ -339,6 +345,20 @@ class Calls(unittest.TestCase):
             self.assertEqual("".join(item.text for item in dumyroke.lex(text)), text)
             self.assertEqual([str(error) for error in tree.errors], [str(error) for error in dumyroke.check(text)])
 
+    def test_memory(self):
+        """A token limit bounds the room for elements, and positions take little. The text has 20 million bytes, of which a copy is made."""
+        code = [
+            "import resource, dumyroke",
+            "peak = lambda: resource.getrusage(resource.RUSAGE_SELF).ru_maxrss // 1024",
+            "text = 'é,' * 6_666_666",
+            "before = peak()",
+            "print(dumyroke.parse(text, token_limit=100).errors[0].position.column, peak() - before)",
+        ]
+        environment = {**os.environ, "PYTHONPATH": str(Path(dumyroke.__file__).parent.parent)}
+        column, megabytes = map(int, subprocess.check_output([sys.executable, "-c", "\n".join(code)], env=environment).split())
+        self.assertEqual(column, 1)
+        self.assertLess(megabytes, 40)
+
     def test_threads(self):
         wrong = []
 
@@ -365,13 +385,14 @@ class Calls(unittest.TestCase):
             Path(good).write_text("{a}")
             Path(bad).write_text("{a\n!")
             Path(binary).write_bytes(b"\xff")
-            Path(escapes := f"{folder}/escapes").write_text('{a "\033[31m\u202eé"}')
+            Path(escapes := f"{folder}/escapes").write_text('{a "\033[31m\u202e\u2028é"}')
             self.assertEqual(checked("check", good), (0, ""))
             status, printed = checked("check", good, bad)
             self.assertEqual((status, printed.splitlines()[0].startswith(f"{bad}:2:1: ")), (1, True))
-            environment["PYTHONIOENCODING"] = "ascii"
-            status, printed = checked("check", escapes)
-            self.assertEqual((status, "\\x1b[31m\\u202e\\xe9" in printed, printed.isascii()), (1, True, True))
+            for encoding, shown in (("utf-8", "é"), ("ascii", "\\xe9")):
+                environment["PYTHONIOENCODING"] = encoding
+                status, printed = checked("check", escapes)
+                self.assertEqual((status, f"\\x1b[31m\\u202e\\u2028{shown}" in printed), (1, True))
             self.assertEqual([checked("check", binary)[0], checked("check", f"{folder}/none")[0], checked("check")[0], checked()[0]], [2, 2, 2, 2])
 
     def test_documentation(self):

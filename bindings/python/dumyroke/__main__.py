@@ -8,8 +8,8 @@ from . import check
 
 
 def shown(text: str) -> str:
-    """A text whose control and format characters are escapes, so that a terminal obeys none of them."""
-    return "".join(c.encode("unicode_escape").decode() if unicodedata.category(c) in ("Cc", "Cf", "Cs") else c for c in text)
+    """A text whose control and format characters and line separators are escapes, so that a terminal obeys none of them."""
+    return "".join(c.encode("unicode_escape").decode() if unicodedata.category(c) in ("Cc", "Cf", "Cs", "Zl", "Zp") else c for c in text)
 
 
 def errors_in(name: str) -> int:

@@ -149,7 +149,7 @@ def _parsed(call: Any, text: str | bytes, recursion_limit: int, token_limit: int
     source, limits = given(text, recursion_limit, token_limit)
     buffers, positions = _filled(call, source, limits, ELEMENT_SIZE), Positions(source)
     errors, counts = buffers.errors_of(source, positions), buffers.counts
-    tree: Tree[Any] = Tree(source, buffers.elements_of(), errors, counts.recursion_high, counts.token_high, positions)
+    tree: Tree[Any] = Tree(text, source, buffers.elements_of(), errors, counts.recursion_high, counts.token_high, positions)
     _give_back(buffers)
     return tree
 

@@ -3,12 +3,16 @@
 from __future__ import annotations
 
 import re
-from bisect import bisect_left, bisect_right
+from array import array
+from bisect import bisect_right
+from itertools import accumulate
 from typing import NamedTuple
 
 # The bytes of UTF-8 that do not begin a character.
-_CONTINUATION = re.compile(rb"[\x80-\xbf]")
+_CONTINUATIONS = bytes(range(0x80, 0xC0))
 _LINE_END = re.compile(rb"\r\n|\n|\r")
+# How many bytes lie between two offsets whose characters are counted ahead.
+_STEP = 64
 
 
 class Position(NamedTuple):
@@ -23,26 +27,29 @@ class Position(NamedTuple):
 class Positions:
     """The positions of a text, which is read when one is needed."""
 
-    __slots__ = ("_source", "_is_ascii", "_continuations", "_line_starts")
+    __slots__ = ("_source", "_is_ascii", "_marks", "_line_starts")
 
     def __init__(self, source: bytes):
         self._source = source
         self._is_ascii = source.isascii()
-        self._continuations: list[int] | None = None
-        self._line_starts: list[int] | None = None
+        self._marks: array[int] | None = None
+        self._line_starts: array[int] | None = None
 
     def character(self, offset: int) -> int:
         """The number of characters before a byte offset."""
         if self._is_ascii:
             return offset
-        if self._continuations is None:
-            self._continuations = [found.start() for found in _CONTINUATION.finditer(self._source)]
-        return offset - bisect_left(self._continuations, offset)
+        if self._marks is None:
+            parts = (self._source[start : start + _STEP] for start in range(0, len(self._source), _STEP))
+            self._marks = array("Q", accumulate((len(part.translate(None, _CONTINUATIONS)) for part in parts), initial=0))
+        mark = offset // _STEP
+        return self._marks[mark] + len(self._source[mark * _STEP : offset].translate(None, _CONTINUATIONS))
 
     def position(self, offset: int) -> Position:
         """The position of a byte offset."""
         if self._line_starts is None:
-            self._line_starts = [0, *(found.end() for found in _LINE_END.finditer(self._source))]
+            self._line_starts = array("Q", [0])
+            self._line_starts.extend(found.end() for found in _LINE_END.finditer(self._source))
         line = bisect_right(self._line_starts, offset)
         start = self._line_starts[line - 1]
         return Position(line, self.character(offset) - self.character(start) + 1, offset - start + 1)

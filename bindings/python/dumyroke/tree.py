@@ -226,11 +226,13 @@ class Tree(Generic[R]):
     token_high: int
     """How many tokens were counted, the end of the text among them: one above the limit where that was met."""
 
-    def __init__(self, source: bytes, elements: bytes | memoryview, errors: Errors, recursion_high: int, token_high: int, positions: Positions):
+    def __init__(
+        self, text: str | bytes, source: bytes, elements: bytes | memoryview, errors: Errors, recursion_high: int, token_high: int, positions: Positions
+    ):
         self.errors, self.recursion_high, self.token_high = errors, recursion_high, token_high
         self._source, self._positions = source, positions
-        # where offsets of bytes are those of characters
-        self._string = source.decode() if source.isascii() else None
+        # where offsets of bytes are those of characters; a subclass of str may have other slices
+        self._string = (text if type(text) is str else source.decode()) if source.isascii() else None
         # the columns of the rows (`dumyroke_element` of dumyroke.h), which a start follows; a walk reads sizes and kinds, so these are copied
         words = memoryview(elements).cast("I")
         self._starts, sizes, self._parents = (words[column :: ELEMENT_SIZE // 4] for column in range(3))
