@@ -12,6 +12,7 @@ use gqlcst_run::ending::{USAGE, ending};
 use gqlcst_run::{Limits, Mode, options, run};
 use program_words::information::{Information, information_of};
 use std::env;
+use std::io::{self, Error, ErrorKind};
 use std::process::ExitCode;
 
 #[derive(Clone, Copy)]
@@ -20,22 +21,32 @@ enum Request {
     Run(Mode, Limits),
 }
 
-// The request in the words after the program's name: nothing where they can't be had as texts, or the program is not called so.
-fn read_request(rt: &HostRuntime) -> Option<Request> {
-    let words = env::args(rt).ok()?;
-    let mut texts = Vec::new(rt.alloc());
-    for word in words {
-        texts.push(word).ok()?;
+// The request in the words after the program's name: nothing where the program is not called so.
+fn read_request(rt: &HostRuntime) -> io::Result<Option<Request>> {
+    let mut words = Vec::new(rt.alloc());
+    for word in env::args(rt)?.skip(1) {
+        words.push(word)?;
     }
     let mut views = Vec::new(rt.alloc());
-    for text in texts.iter().skip(1) {
-        views.push(text.as_str()).ok()?;
+    for word in &words {
+        views.push(word.as_str())?;
     }
     if let Some(information) = information_of(views.as_slice()) {
-        return Some(Request::Print(information));
+        return Ok(Some(Request::Print(information)));
     }
-    let (mode, limits) = options(views.as_slice())?;
-    Some(Request::Run(mode, limits))
+    match options(views.as_slice()) {
+        Some((mode, limits)) => Ok(Some(Request::Run(mode, limits))),
+        None => Ok(None),
+    }
+}
+
+// Why the words are not read.
+fn complaint_of(error: &Error) -> &'static str {
+    match error.kind() {
+        ErrorKind::OutOfMemory => "gqlcst: out of memory",
+        ErrorKind::InvalidData => "gqlcst: an argument is not UTF-8",
+        _ => "gqlcst: cannot read the arguments",
+    }
 }
 
 fn print(rt: &HostRuntime, information: Information) -> (u8, &'static str) {
@@ -51,13 +62,14 @@ fn print(rt: &HostRuntime, information: Information) -> (u8, &'static str) {
 
 fn main(rt: HostRuntime) -> ExitCode {
     let (status, complaint) = match read_request(&rt) {
-        Some(Request::Print(information)) => print(&rt, information),
-        Some(Request::Run(mode, limits)) => {
+        Ok(Some(Request::Print(information))) => print(&rt, information),
+        Ok(Some(Request::Run(mode, limits))) => {
             let mut reader = StdSource::new(rt.stdin());
             let mut writer = StdSink::new(rt.stdout());
             ending(&run(rt.alloc(), &mut reader, &mut writer, mode, limits))
         }
-        None => (2, USAGE),
+        Ok(None) => (2, USAGE),
+        Err(error) => (2, complaint_of(&error)),
     };
     if !complaint.is_empty() {
         let _ = eprintln!(rt; "{complaint}");
