@@ -212,6 +212,7 @@ local function completion(document)
 end
 
 local function layout(document)
+  vim.cmd("1,3fold | 3mark a")
   cursor(4, 0)
   after(document, function() keys("gqq") end)
   expect("the layout of a line", lines(), { "query Find($id: ID!) { # 😀", "  pet(id: $id) { ...parts }", "}", "fragment parts on Pet {", "  name", "}" })
@@ -220,6 +221,7 @@ local function layout(document)
   end)
   expect("the layout", { lines()[1], vim.list_slice(lines(), #lines() - 4, #lines()) },
     { "query Find($id: ID!) { # 😀", { "  }", "}", "fragment parts on Pet {", "  name", "}" } })
+  expect("the line of a mark, and the fold that it is in", { lines()[vim.fn.line("'a")], vim.fn.foldlevel("'a") }, { "}", 1 })
 end
 
 -- Closing a document takes its errors away, and so does the server.

@@ -5,7 +5,7 @@ import json
 import subprocess
 import sys
 
-from client import Client
+from client import Client, Text
 
 PROGRAM = sys.argv[1]
 URI = "file:///a.graphql"
@@ -45,6 +45,11 @@ def lines(start, end):
 
 def at(line, character):
     return {"position": {"line": line, "character": character}}
+
+
+def edit(line, column, new):
+    """One that puts a text at a position."""
+    return {"range": span(line, column, column), "newText": new}
 
 
 def started(*encodings):
@@ -327,16 +332,25 @@ def completion():
 
 
 def layout():
-    client = opened("{a b}\n\ntype T{a:B}\n\ntype U{a:B}")
+    text = "{a b}\n\ntype T{a:B}\n\ntype U{a:B}"
+    client = opened(text)
     wanted = "{\n  a\n  b\n}\n\ntype T {\n  a: B\n}\n\ntype U {\n  a: B\n}\n"
+    definition = [edit(2, 6, " "), edit(2, 7, "\n  "), edit(2, 9, " "), edit(2, 10, "\n")]
     found = client.ask_about(URI, "formatting", options=OPTIONS)
-    expect("layout", found, [{"range": {"start": {"line": 0, "character": 0}, "end": {"line": 4, "character": 11}}, "newText": wanted}])
-    part = [{"range": span(2, 0, 11), "newText": "type T {\n  a: B\n}"}]
+    expect("layout", found[:7], [edit(0, 1, "\n  "), edit(0, 2, "\n "), edit(0, 4, "\n"), *definition])
+    expect("the text after it", Text(text, "utf-16").changed(found), wanted)
     for what, range in [("a part", span(2, 0, 4)), ("a line", lines(2, 3)), ("a cursor", span(2, 5, 5))]:
-        expect(f"layout of {what}", client.ask_about(URI, "rangeFormatting", range=range, options=OPTIONS), part)
+        expect(f"layout of {what}", client.ask_about(URI, "rangeFormatting", range=range, options=OPTIONS), definition)
     client.change(URI, 1, [{"text": wanted}])
     expect("the same layout", client.ask_about(URI, "formatting", options=OPTIONS), [])
     expect("layout of no definition", client.ask_about(URI, "rangeFormatting", range=lines(4, 4), options=OPTIONS), None)
+    # the text of a comment or a string stays, and so do a CR LF that is whole and a wide character
+    for before, after in [("{a,,b}\n", "{\n  a\n  b\n}\n"), ("type A {\r\n  a: B\r\n}\r\n", "type A {\n  a: B\n}\n"),
+                          ('{ a(b: "😀  ,", c: 1) # 😀  ,\n}', '{\n  a(b: "😀  ,", c: 1) # 😀  ,\n}\n')]:
+        client.change(URI, 2, [{"text": before}])
+        found = client.ask_about(URI, "formatting", options=OPTIONS)
+        expect(f"the layout of {before!r}", Text(before, "utf-16").changed(found), after)
+        expect(f"small edits of {before!r}", max(len(Text(before, "utf-16").of(it["range"])) for it in found) <= 2, True)
     client.change(URI, 2, [{"text": "{"}])
     expect("layout of a text with errors", client.ask_about(URI, "formatting", options=OPTIONS), None)
     client.end()

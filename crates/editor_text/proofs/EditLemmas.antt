@@ -17,11 +17,11 @@ use Rattle.editor_text.specs.Client.{AreOffsets, replaced}
 split : (e : PositionEncoding) (text : List ℕ) (k : ℕ) → IsUtf8 text → IsCharBoundary text k → units e text ≡ units e (take k text) ++ units e (drop k text)
 split e text k u b = ap (units e) (sym (take-append-drop k text)) ∙ units-append e (take k text) (drop k text) (IsUtf8-take text k u b) (IsUtf8-drop text k u b)
 
-front : (e : PositionEncoding) (text : List ℕ) (k i : ℕ) → IsUtf8 text → IsCharBoundary text k → length (units e (take k text)) ≡ i
+pub front : (e : PositionEncoding) (text : List ℕ) (k i : ℕ) → IsUtf8 text → IsCharBoundary text k → length (units e (take k text)) ≡ i
     → take i (units e text) ≡ units e (take k text)
 front e text k i u b len = ap (λ (v : List ℕ). take i v) (split e text k u b) ∙ take_at (units e (take k text)) (units e (drop k text)) i len
 
-back : (e : PositionEncoding) (text : List ℕ) (k i : ℕ) → IsUtf8 text → IsCharBoundary text k → length (units e (take k text)) ≡ i
+pub back : (e : PositionEncoding) (text : List ℕ) (k i : ℕ) → IsUtf8 text → IsCharBoundary text k → length (units e (take k text)) ≡ i
     → drop i (units e text) ≡ units e (drop k text)
 back e text k i u b len = ap (λ (v : List ℕ). drop i v) (split e text k u b) ∙ drop_at (units e (take k text)) (units e (drop k text)) i len
 
@@ -39,7 +39,7 @@ replaced-units e text new range start end u v h =
     ∙ ap (λ (w : List ℕ). (take i (units e text) ++ units e new) ++ w) (sym (back e text end j u h.ends h.end_offset))
 
 -- a later offset has no fewer units before it
-mono : (e : PositionEncoding) (text : List ℕ) (a b : ℕ) → IsUtf8 text → a ≤ b → IsCharBoundary text a → IsCharBoundary text b
+pub mono : (e : PositionEncoding) (text : List ℕ) (a b : ℕ) → IsUtf8 text → a ≤ b → IsCharBoundary text a → IsCharBoundary text b
     → length (units e (take a text)) ≤ length (units e (take b text))
 mono e text a b u le x y =
     let to : a + (b - a) ≡ b = omega arith in

@@ -1,31 +1,21 @@
 // The layout of a document, or of some of its definitions.
-ghost use Rattle.std.specs.Prelude.{◌≡◌, [], ◌∷◌, IfOk, IfSome, MatchOption, slice_range, string_bytes, true};
+ghost use Rattle.std.specs.Prelude.{◌≡◌, IfOk, IfSome, MatchOption, string_bytes};
+ghost use Rattle.std.specs.List.{replace_range};
 ghost use Rattle.formatter.specs.Within.{IsFormattedWithin};
-ghost use Rattle.gqlls_run.specs.Layout.{IsLayout, IsLeft, IsWhole};
+ghost use Rattle.gqlls_run.specs.Layout.{IsLeft, IsPartLaidOut};
 
 use apollo_parser::{Limits, SyntaxNode};
 use editor_answers::{Span, span_of};
 use formatter::{format, stays_within};
 use std::alloc::{AllocError, Global};
 
-/// A text for a part of another.
-#[derive(Drop)]
-pub(crate) struct Replacement {
-    pub span: Span,
-    pub text: String,
-}
-
-impl Replacement {
-    /// Whether a text is the same after it.
-    pub(crate) fn leaves(&self, source: &str) -> bool
-        ensures { result ≡ true → slice_range source.now self.now.span.start self.now.span.end ≡ string_bytes self.now.text }
-    {
-        source.get(self.span.start..self.span.end) == Some(self.text.as_str())
-    }
-}
-
-// A document with the layout of `formatter`; `None` where it has errors, or would have more items than the limit allows.
-fn formatted(alloc: Global, source: &str, limits: Limits) -> Result<Option<String>, AllocError>
+/// A document with the layout of `formatter`; `None` where it has errors, or would have more items than the limit allows. It fails only where memory is
+/// refused.
+pub(crate) fn formatted(
+    alloc: Global,
+    source: &str,
+    limits: Limits,
+) -> Result<Option<String>, AllocError>
     ensures { IfOk result (λ r. MatchOption r (IsLeft limits source.now) (λ text. IsFormattedWithin limits source.now (string_bytes text))) }
 {
     let Ok(text) = format(alloc, source, limits)? else {
@@ -65,25 +55,6 @@ fn definitions_within(root: SyntaxNode<'_>, within: Span) -> Option<Span> {
     found
 }
 
-/// The whole document with the layout of `formatter`; `None` where it has errors, or would have more items than the limit allows. It fails only
-/// where memory is refused.
-pub(crate) fn format_whole(
-    alloc: Global,
-    source: &str,
-    limits: Limits,
-) -> Result<Option<Replacement>, AllocError>
-    ensures { IfOk result (λ r. MatchOption r (IsLeft limits source.now) (IsWhole limits source.now)) }
-{
-    let Some(text) = formatted(alloc, source, limits)? else {
-        return Ok(None);
-    };
-    let span = Span {
-        start: 0,
-        end: source.len(),
-    };
-    Ok(Some(Replacement { span, text }))
-}
-
 // A part of a text without the space at its end.
 fn trimmed(source: &str, span: Span) -> Span {
     let part = source.get(span.start..span.end).unwrap_or("");
@@ -93,14 +64,32 @@ fn trimmed(source: &str, span: Span) -> Span {
     }
 }
 
-// A part of a text with the layout of `formatter`, without the line end after it; `None` where it has errors, or would have too many items.
+// A text with another one between two byte offsets. There is none where these are inside characters.
+fn replaced(
+    alloc: Global,
+    source: &str,
+    span: Span,
+    new: &str,
+) -> Result<Option<String>, AllocError>
+    ensures { IfOk result (λ r. IfSome r (λ text. string_bytes text ≡ replace_range source.now span.start span.end new.now)) }
+{
+    let (Some(front), Some(rest)) = (source.get(..span.start), source.get(span.end..)) else {
+        return Ok(None);
+    };
+    let mut text = String::from_str(alloc, front)?;
+    text.push_str(new)?;
+    text.push_str(rest)?;
+    Ok(Some(text))
+}
+
+// A text with the layout of `formatter` between two byte offsets, without the line end after it; `None` where that part has errors, or would have too many items.
 fn format_at(
     alloc: Global,
     source: &str,
     span: Span,
     limits: Limits,
-) -> Result<Option<Replacement>, AllocError>
-    ensures { IfOk result (λ r. IfSome r (IsLayout limits source.now (10 ∷ []))) }
+) -> Result<Option<String>, AllocError>
+    ensures { IfOk result (λ r. IfSome r (λ text. IsPartLaidOut limits source.now (string_bytes text))) }
 {
     let Some(part) = source.get(span.start..span.end) else {
         return Ok(None);
@@ -111,11 +100,10 @@ fn format_at(
     let Some(text) = text.as_str().strip_suffix("\n") else {
         return Ok(None);
     };
-    let text = String::from_str(alloc, text)?;
-    Ok(Some(Replacement { span, text }))
+    replaced(alloc, source, span, text)
 }
 
-/// The definitions that are at least partly in a part of the text, with the layout of `formatter`; `None` where there are none, or where they
+/// A text where the definitions that are at least partly in a part of it have the layout of `formatter`; `None` where there are none, or where they
 /// have errors or would have more items than the limit allows. It fails only where memory is refused.
 pub(crate) fn format_part(
     alloc: Global,
@@ -123,8 +111,8 @@ pub(crate) fn format_part(
     root: SyntaxNode<'_>,
     within: Span,
     limits: Limits,
-) -> Result<Option<Replacement>, AllocError>
-    ensures { IfOk result (λ r. IfSome r (IsLayout limits source.now (10 ∷ []))) }
+) -> Result<Option<String>, AllocError>
+    ensures { IfOk result (λ r. IfSome r (λ text. IsPartLaidOut limits source.now (string_bytes text))) }
 {
     match definitions_within(root, within) {
         Some(span) => format_at(alloc, source, trimmed(source, span), limits),

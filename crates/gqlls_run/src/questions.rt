@@ -192,8 +192,8 @@ impl<'a> Asked<'a, '_, '_> {
             return self.refused(id);
         };
         let text = self.positions.text;
-        let change = format_part(self.alloc, text, self.root, within, self.limits)?;
-        answer_layout(self.alloc, id, self.positions, &change)
+        let new = format_part(self.alloc, text, self.root, within, self.limits)?;
+        answer_layout(self.alloc, id, self.positions, &new)
     }
 
     fn definition(self, id: &Value<'_>) -> Result<Vec<u8>, AllocError>

@@ -23,6 +23,13 @@ const errorsOf = (document) => errors.get(document.uri.toString());
 const span = ({ start, end }) => [start.line, start.character, end.line, end.character];
 const ask = (name, call, ...given) => providers[name].provider[call](...given);
 const at = (line, character) => new vscode.Position(line, character);
+// A text after edits, which all refer to it.
+const edited = (text, edits) =>
+  edits.reduceRight((after, { range, newText }) => {
+    const lines = text.split("\n");
+    const offset = ({ line, character }) => lines.slice(0, line).join("\n").length + (line && 1) + character;
+    return after.slice(0, offset(range.start)) + newText + after.slice(offset(range.end));
+  }, text);
 const OPTIONS = { tabSize: 2, insertSpaces: true };
 
 // Lets the server go on until something is true, for a hundred seconds at most.
@@ -64,10 +71,10 @@ const tests = {
 
   // the layout is that of docs/FORMAT.md
   async "layout"() {
-    const [whole] = await ask("DocumentFormattingEdit", "provideDocumentFormattingEdits", query, OPTIONS);
-    assert.equal(whole.newText, data("query.graphql").replace("{ ...parts }", "{\n    ...parts\n  }").replace("{ name }", "{\n  name\n}"));
-    const [part] = await ask("DocumentRangeFormattingEdit", "provideDocumentRangeFormattingEdits", query, new vscode.Range(3, 0, 3, 5), OPTIONS);
-    assert.deepEqual([span(part.range), part.newText], [[3, 0, 3, 30], "fragment parts on Pet {\n  name\n}"]);
+    const whole = await ask("DocumentFormattingEdit", "provideDocumentFormattingEdits", query, OPTIONS);
+    assert.equal(edited(data("query.graphql"), whole), data("query.graphql").replace("{ ...parts }", "{\n    ...parts\n  }").replace("{ name }", "{\n  name\n}"));
+    const part = await ask("DocumentRangeFormattingEdit", "provideDocumentRangeFormattingEdits", query, new vscode.Range(3, 0, 3, 5), OPTIONS);
+    assert.deepEqual(part.map(({ range, newText }) => [span(range), newText]), [[[3, 23, 3, 23], "\n "], [[3, 28, 3, 29], "\n"]]);
   },
 
   async "definition, references and hover"() {

@@ -1,0 +1,2 @@
+mod Clients
+pub mod SoFar

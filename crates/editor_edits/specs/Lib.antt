@@ -1,0 +1,3 @@
+pub mod Answered
+pub mod Edited
+pub mod Finding
