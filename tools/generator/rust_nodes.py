@@ -136,11 +136,12 @@ impl CstNode for {name} {{
 
     #[inline]
     fn cast(syntax: SyntaxNode) -> Option<Self> {{
-        if Self::can_cast(syntax.kind()) {{
-            Some(Self {{ syntax }})
-        }} else {{
-            None
-        }}
+        Self::cast_as(syntax.kind(), syntax)
+    }}
+
+    #[inline]
+    fn cast_as(kind: SyntaxKind, syntax: SyntaxNode) -> Option<Self> {{
+        Self::can_cast(kind).then(|| Self {{ syntax }})
     }}
 
     #[inline]
@@ -203,7 +204,12 @@ impl CstNode for {name} {{
 
     #[inline]
     fn cast(syntax: SyntaxNode) -> Option<Self> {{
-        Some(match syntax.kind() {{
+        Self::cast_as(syntax.kind(), syntax)
+    }}
+
+    #[inline]
+    fn cast_as(kind: SyntaxKind, syntax: SyntaxNode) -> Option<Self> {{
+        Some(match kind {{
 {casts}            _ => return None,
         }})
     }}

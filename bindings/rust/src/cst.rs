@@ -39,6 +39,16 @@ pub trait CstNode {
     where
         Self: Sized;
 
+    /// The same of a node whose kind is known, so that it is not read again.
+    #[doc(hidden)]
+    #[inline]
+    fn cast_as(_kind: SyntaxKind, syntax: SyntaxNode) -> Option<Self>
+    where
+        Self: Sized,
+    {
+        Self::cast(syntax)
+    }
+
     /// The untyped node.
     fn syntax(&self) -> &SyntaxNode;
 
@@ -89,7 +99,7 @@ impl<N: CstNode> Iterator for CstChildren<N> {
 
     #[inline]
     fn next(&mut self) -> Option<N> {
-        self.nodes.next_of(N::can_cast).and_then(N::cast)
+        self.nodes.next_of(N::can_cast).and_then(|(kind, node)| N::cast_as(kind, node))
     }
 }
 
@@ -100,7 +110,7 @@ mod support {
     /// The first child of a type.
     #[inline]
     pub(super) fn child<N: CstNode>(parent: &SyntaxNode) -> Option<N> {
-        parent.first_child_of(N::can_cast).and_then(N::cast)
+        parent.first_child_of(N::can_cast).and_then(|(kind, node)| N::cast_as(kind, node))
     }
 
     /// All children of a type.

@@ -19,11 +19,12 @@ impl CstNode for Document {
 
     #[inline]
     fn cast(syntax: SyntaxNode) -> Option<Self> {
-        if Self::can_cast(syntax.kind()) {
-            Some(Self { syntax })
-        } else {
-            None
-        }
+        Self::cast_as(syntax.kind(), syntax)
+    }
+
+    #[inline]
+    fn cast_as(kind: SyntaxKind, syntax: SyntaxNode) -> Option<Self> {
+        Self::can_cast(kind).then(|| Self { syntax })
     }
 
     #[inline]
@@ -66,11 +67,12 @@ impl CstNode for OperationDefinition {
 
     #[inline]
     fn cast(syntax: SyntaxNode) -> Option<Self> {
-        if Self::can_cast(syntax.kind()) {
-            Some(Self { syntax })
-        } else {
-            None
-        }
+        Self::cast_as(syntax.kind(), syntax)
+    }
+
+    #[inline]
+    fn cast_as(kind: SyntaxKind, syntax: SyntaxNode) -> Option<Self> {
+        Self::can_cast(kind).then(|| Self { syntax })
     }
 
     #[inline]
@@ -139,11 +141,12 @@ impl CstNode for OperationType {
 
     #[inline]
     fn cast(syntax: SyntaxNode) -> Option<Self> {
-        if Self::can_cast(syntax.kind()) {
-            Some(Self { syntax })
-        } else {
-            None
-        }
+        Self::cast_as(syntax.kind(), syntax)
+    }
+
+    #[inline]
+    fn cast_as(kind: SyntaxKind, syntax: SyntaxNode) -> Option<Self> {
+        Self::can_cast(kind).then(|| Self { syntax })
     }
 
     #[inline]
@@ -196,11 +199,12 @@ impl CstNode for SelectionSet {
 
     #[inline]
     fn cast(syntax: SyntaxNode) -> Option<Self> {
-        if Self::can_cast(syntax.kind()) {
-            Some(Self { syntax })
-        } else {
-            None
-        }
+        Self::cast_as(syntax.kind(), syntax)
+    }
+
+    #[inline]
+    fn cast_as(kind: SyntaxKind, syntax: SyntaxNode) -> Option<Self> {
+        Self::can_cast(kind).then(|| Self { syntax })
     }
 
     #[inline]
@@ -251,11 +255,12 @@ impl CstNode for Field {
 
     #[inline]
     fn cast(syntax: SyntaxNode) -> Option<Self> {
-        if Self::can_cast(syntax.kind()) {
-            Some(Self { syntax })
-        } else {
-            None
-        }
+        Self::cast_as(syntax.kind(), syntax)
+    }
+
+    #[inline]
+    fn cast_as(kind: SyntaxKind, syntax: SyntaxNode) -> Option<Self> {
+        Self::can_cast(kind).then(|| Self { syntax })
     }
 
     #[inline]
@@ -318,11 +323,12 @@ impl CstNode for Alias {
 
     #[inline]
     fn cast(syntax: SyntaxNode) -> Option<Self> {
-        if Self::can_cast(syntax.kind()) {
-            Some(Self { syntax })
-        } else {
-            None
-        }
+        Self::cast_as(syntax.kind(), syntax)
+    }
+
+    #[inline]
+    fn cast_as(kind: SyntaxKind, syntax: SyntaxNode) -> Option<Self> {
+        Self::can_cast(kind).then(|| Self { syntax })
     }
 
     #[inline]
@@ -367,11 +373,12 @@ impl CstNode for Name {
 
     #[inline]
     fn cast(syntax: SyntaxNode) -> Option<Self> {
-        if Self::can_cast(syntax.kind()) {
-            Some(Self { syntax })
-        } else {
-            None
-        }
+        Self::cast_as(syntax.kind(), syntax)
+    }
+
+    #[inline]
+    fn cast_as(kind: SyntaxKind, syntax: SyntaxNode) -> Option<Self> {
+        Self::can_cast(kind).then(|| Self { syntax })
     }
 
     #[inline]
@@ -410,11 +417,12 @@ impl CstNode for FragmentSpread {
 
     #[inline]
     fn cast(syntax: SyntaxNode) -> Option<Self> {
-        if Self::can_cast(syntax.kind()) {
-            Some(Self { syntax })
-        } else {
-            None
-        }
+        Self::cast_as(syntax.kind(), syntax)
+    }
+
+    #[inline]
+    fn cast_as(kind: SyntaxKind, syntax: SyntaxNode) -> Option<Self> {
+        Self::can_cast(kind).then(|| Self { syntax })
     }
 
     #[inline]
@@ -471,11 +479,12 @@ impl CstNode for InlineFragment {
 
     #[inline]
     fn cast(syntax: SyntaxNode) -> Option<Self> {
-        if Self::can_cast(syntax.kind()) {
-            Some(Self { syntax })
-        } else {
-            None
-        }
+        Self::cast_as(syntax.kind(), syntax)
+    }
+
+    #[inline]
+    fn cast_as(kind: SyntaxKind, syntax: SyntaxNode) -> Option<Self> {
+        Self::can_cast(kind).then(|| Self { syntax })
     }
 
     #[inline]
@@ -540,11 +549,12 @@ impl CstNode for FragmentDefinition {
 
     #[inline]
     fn cast(syntax: SyntaxNode) -> Option<Self> {
-        if Self::can_cast(syntax.kind()) {
-            Some(Self { syntax })
-        } else {
-            None
-        }
+        Self::cast_as(syntax.kind(), syntax)
+    }
+
+    #[inline]
+    fn cast_as(kind: SyntaxKind, syntax: SyntaxNode) -> Option<Self> {
+        Self::can_cast(kind).then(|| Self { syntax })
     }
 
     #[inline]
@@ -613,11 +623,12 @@ impl CstNode for FragmentName {
 
     #[inline]
     fn cast(syntax: SyntaxNode) -> Option<Self> {
-        if Self::can_cast(syntax.kind()) {
-            Some(Self { syntax })
-        } else {
-            None
-        }
+        Self::cast_as(syntax.kind(), syntax)
+    }
+
+    #[inline]
+    fn cast_as(kind: SyntaxKind, syntax: SyntaxNode) -> Option<Self> {
+        Self::can_cast(kind).then(|| Self { syntax })
     }
 
     #[inline]
@@ -656,11 +667,12 @@ impl CstNode for TypeCondition {
 
     #[inline]
     fn cast(syntax: SyntaxNode) -> Option<Self> {
-        if Self::can_cast(syntax.kind()) {
-            Some(Self { syntax })
-        } else {
-            None
-        }
+        Self::cast_as(syntax.kind(), syntax)
+    }
+
+    #[inline]
+    fn cast_as(kind: SyntaxKind, syntax: SyntaxNode) -> Option<Self> {
+        Self::can_cast(kind).then(|| Self { syntax })
     }
 
     #[inline]
@@ -705,11 +717,12 @@ impl CstNode for Arguments {
 
     #[inline]
     fn cast(syntax: SyntaxNode) -> Option<Self> {
-        if Self::can_cast(syntax.kind()) {
-            Some(Self { syntax })
-        } else {
-            None
-        }
+        Self::cast_as(syntax.kind(), syntax)
+    }
+
+    #[inline]
+    fn cast_as(kind: SyntaxKind, syntax: SyntaxNode) -> Option<Self> {
+        Self::can_cast(kind).then(|| Self { syntax })
     }
 
     #[inline]
@@ -760,11 +773,12 @@ impl CstNode for Argument {
 
     #[inline]
     fn cast(syntax: SyntaxNode) -> Option<Self> {
-        if Self::can_cast(syntax.kind()) {
-            Some(Self { syntax })
-        } else {
-            None
-        }
+        Self::cast_as(syntax.kind(), syntax)
+    }
+
+    #[inline]
+    fn cast_as(kind: SyntaxKind, syntax: SyntaxNode) -> Option<Self> {
+        Self::can_cast(kind).then(|| Self { syntax })
     }
 
     #[inline]
@@ -815,11 +829,12 @@ impl CstNode for Directives {
 
     #[inline]
     fn cast(syntax: SyntaxNode) -> Option<Self> {
-        if Self::can_cast(syntax.kind()) {
-            Some(Self { syntax })
-        } else {
-            None
-        }
+        Self::cast_as(syntax.kind(), syntax)
+    }
+
+    #[inline]
+    fn cast_as(kind: SyntaxKind, syntax: SyntaxNode) -> Option<Self> {
+        Self::can_cast(kind).then(|| Self { syntax })
     }
 
     #[inline]
@@ -858,11 +873,12 @@ impl CstNode for Directive {
 
     #[inline]
     fn cast(syntax: SyntaxNode) -> Option<Self> {
-        if Self::can_cast(syntax.kind()) {
-            Some(Self { syntax })
-        } else {
-            None
-        }
+        Self::cast_as(syntax.kind(), syntax)
+    }
+
+    #[inline]
+    fn cast_as(kind: SyntaxKind, syntax: SyntaxNode) -> Option<Self> {
+        Self::can_cast(kind).then(|| Self { syntax })
     }
 
     #[inline]
@@ -913,11 +929,12 @@ impl CstNode for VariableDefinitions {
 
     #[inline]
     fn cast(syntax: SyntaxNode) -> Option<Self> {
-        if Self::can_cast(syntax.kind()) {
-            Some(Self { syntax })
-        } else {
-            None
-        }
+        Self::cast_as(syntax.kind(), syntax)
+    }
+
+    #[inline]
+    fn cast_as(kind: SyntaxKind, syntax: SyntaxNode) -> Option<Self> {
+        Self::can_cast(kind).then(|| Self { syntax })
     }
 
     #[inline]
@@ -970,11 +987,12 @@ impl CstNode for VariableDefinition {
 
     #[inline]
     fn cast(syntax: SyntaxNode) -> Option<Self> {
-        if Self::can_cast(syntax.kind()) {
-            Some(Self { syntax })
-        } else {
-            None
-        }
+        Self::cast_as(syntax.kind(), syntax)
+    }
+
+    #[inline]
+    fn cast_as(kind: SyntaxKind, syntax: SyntaxNode) -> Option<Self> {
+        Self::can_cast(kind).then(|| Self { syntax })
     }
 
     #[inline]
@@ -1043,11 +1061,12 @@ impl CstNode for Variable {
 
     #[inline]
     fn cast(syntax: SyntaxNode) -> Option<Self> {
-        if Self::can_cast(syntax.kind()) {
-            Some(Self { syntax })
-        } else {
-            None
-        }
+        Self::cast_as(syntax.kind(), syntax)
+    }
+
+    #[inline]
+    fn cast_as(kind: SyntaxKind, syntax: SyntaxNode) -> Option<Self> {
+        Self::can_cast(kind).then(|| Self { syntax })
     }
 
     #[inline]
@@ -1092,11 +1111,12 @@ impl CstNode for DefaultValue {
 
     #[inline]
     fn cast(syntax: SyntaxNode) -> Option<Self> {
-        if Self::can_cast(syntax.kind()) {
-            Some(Self { syntax })
-        } else {
-            None
-        }
+        Self::cast_as(syntax.kind(), syntax)
+    }
+
+    #[inline]
+    fn cast_as(kind: SyntaxKind, syntax: SyntaxNode) -> Option<Self> {
+        Self::can_cast(kind).then(|| Self { syntax })
     }
 
     #[inline]
@@ -1143,11 +1163,12 @@ impl CstNode for IntValue {
 
     #[inline]
     fn cast(syntax: SyntaxNode) -> Option<Self> {
-        if Self::can_cast(syntax.kind()) {
-            Some(Self { syntax })
-        } else {
-            None
-        }
+        Self::cast_as(syntax.kind(), syntax)
+    }
+
+    #[inline]
+    fn cast_as(kind: SyntaxKind, syntax: SyntaxNode) -> Option<Self> {
+        Self::can_cast(kind).then(|| Self { syntax })
     }
 
     #[inline]
@@ -1189,11 +1210,12 @@ impl CstNode for FloatValue {
 
     #[inline]
     fn cast(syntax: SyntaxNode) -> Option<Self> {
-        if Self::can_cast(syntax.kind()) {
-            Some(Self { syntax })
-        } else {
-            None
-        }
+        Self::cast_as(syntax.kind(), syntax)
+    }
+
+    #[inline]
+    fn cast_as(kind: SyntaxKind, syntax: SyntaxNode) -> Option<Self> {
+        Self::can_cast(kind).then(|| Self { syntax })
     }
 
     #[inline]
@@ -1239,11 +1261,12 @@ impl CstNode for StringValue {
 
     #[inline]
     fn cast(syntax: SyntaxNode) -> Option<Self> {
-        if Self::can_cast(syntax.kind()) {
-            Some(Self { syntax })
-        } else {
-            None
-        }
+        Self::cast_as(syntax.kind(), syntax)
+    }
+
+    #[inline]
+    fn cast_as(kind: SyntaxKind, syntax: SyntaxNode) -> Option<Self> {
+        Self::can_cast(kind).then(|| Self { syntax })
     }
 
     #[inline]
@@ -1284,11 +1307,12 @@ impl CstNode for BooleanValue {
 
     #[inline]
     fn cast(syntax: SyntaxNode) -> Option<Self> {
-        if Self::can_cast(syntax.kind()) {
-            Some(Self { syntax })
-        } else {
-            None
-        }
+        Self::cast_as(syntax.kind(), syntax)
+    }
+
+    #[inline]
+    fn cast_as(kind: SyntaxKind, syntax: SyntaxNode) -> Option<Self> {
+        Self::can_cast(kind).then(|| Self { syntax })
     }
 
     #[inline]
@@ -1333,11 +1357,12 @@ impl CstNode for NullValue {
 
     #[inline]
     fn cast(syntax: SyntaxNode) -> Option<Self> {
-        if Self::can_cast(syntax.kind()) {
-            Some(Self { syntax })
-        } else {
-            None
-        }
+        Self::cast_as(syntax.kind(), syntax)
+    }
+
+    #[inline]
+    fn cast_as(kind: SyntaxKind, syntax: SyntaxNode) -> Option<Self> {
+        Self::can_cast(kind).then(|| Self { syntax })
     }
 
     #[inline]
@@ -1376,11 +1401,12 @@ impl CstNode for EnumValue {
 
     #[inline]
     fn cast(syntax: SyntaxNode) -> Option<Self> {
-        if Self::can_cast(syntax.kind()) {
-            Some(Self { syntax })
-        } else {
-            None
-        }
+        Self::cast_as(syntax.kind(), syntax)
+    }
+
+    #[inline]
+    fn cast_as(kind: SyntaxKind, syntax: SyntaxNode) -> Option<Self> {
+        Self::can_cast(kind).then(|| Self { syntax })
     }
 
     #[inline]
@@ -1421,11 +1447,12 @@ impl CstNode for ListValue {
 
     #[inline]
     fn cast(syntax: SyntaxNode) -> Option<Self> {
-        if Self::can_cast(syntax.kind()) {
-            Some(Self { syntax })
-        } else {
-            None
-        }
+        Self::cast_as(syntax.kind(), syntax)
+    }
+
+    #[inline]
+    fn cast_as(kind: SyntaxKind, syntax: SyntaxNode) -> Option<Self> {
+        Self::can_cast(kind).then(|| Self { syntax })
     }
 
     #[inline]
@@ -1478,11 +1505,12 @@ impl CstNode for ObjectValue {
 
     #[inline]
     fn cast(syntax: SyntaxNode) -> Option<Self> {
-        if Self::can_cast(syntax.kind()) {
-            Some(Self { syntax })
-        } else {
-            None
-        }
+        Self::cast_as(syntax.kind(), syntax)
+    }
+
+    #[inline]
+    fn cast_as(kind: SyntaxKind, syntax: SyntaxNode) -> Option<Self> {
+        Self::can_cast(kind).then(|| Self { syntax })
     }
 
     #[inline]
@@ -1533,11 +1561,12 @@ impl CstNode for ObjectField {
 
     #[inline]
     fn cast(syntax: SyntaxNode) -> Option<Self> {
-        if Self::can_cast(syntax.kind()) {
-            Some(Self { syntax })
-        } else {
-            None
-        }
+        Self::cast_as(syntax.kind(), syntax)
+    }
+
+    #[inline]
+    fn cast_as(kind: SyntaxKind, syntax: SyntaxNode) -> Option<Self> {
+        Self::can_cast(kind).then(|| Self { syntax })
     }
 
     #[inline]
@@ -1588,11 +1617,12 @@ impl CstNode for NamedType {
 
     #[inline]
     fn cast(syntax: SyntaxNode) -> Option<Self> {
-        if Self::can_cast(syntax.kind()) {
-            Some(Self { syntax })
-        } else {
-            None
-        }
+        Self::cast_as(syntax.kind(), syntax)
+    }
+
+    #[inline]
+    fn cast_as(kind: SyntaxKind, syntax: SyntaxNode) -> Option<Self> {
+        Self::can_cast(kind).then(|| Self { syntax })
     }
 
     #[inline]
@@ -1631,11 +1661,12 @@ impl CstNode for ListType {
 
     #[inline]
     fn cast(syntax: SyntaxNode) -> Option<Self> {
-        if Self::can_cast(syntax.kind()) {
-            Some(Self { syntax })
-        } else {
-            None
-        }
+        Self::cast_as(syntax.kind(), syntax)
+    }
+
+    #[inline]
+    fn cast_as(kind: SyntaxKind, syntax: SyntaxNode) -> Option<Self> {
+        Self::can_cast(kind).then(|| Self { syntax })
     }
 
     #[inline]
@@ -1688,11 +1719,12 @@ impl CstNode for NonNullType {
 
     #[inline]
     fn cast(syntax: SyntaxNode) -> Option<Self> {
-        if Self::can_cast(syntax.kind()) {
-            Some(Self { syntax })
-        } else {
-            None
-        }
+        Self::cast_as(syntax.kind(), syntax)
+    }
+
+    #[inline]
+    fn cast_as(kind: SyntaxKind, syntax: SyntaxNode) -> Option<Self> {
+        Self::can_cast(kind).then(|| Self { syntax })
     }
 
     #[inline]
@@ -1749,11 +1781,12 @@ impl CstNode for Description {
 
     #[inline]
     fn cast(syntax: SyntaxNode) -> Option<Self> {
-        if Self::can_cast(syntax.kind()) {
-            Some(Self { syntax })
-        } else {
-            None
-        }
+        Self::cast_as(syntax.kind(), syntax)
+    }
+
+    #[inline]
+    fn cast_as(kind: SyntaxKind, syntax: SyntaxNode) -> Option<Self> {
+        Self::can_cast(kind).then(|| Self { syntax })
     }
 
     #[inline]
@@ -1792,11 +1825,12 @@ impl CstNode for SchemaDefinition {
 
     #[inline]
     fn cast(syntax: SyntaxNode) -> Option<Self> {
-        if Self::can_cast(syntax.kind()) {
-            Some(Self { syntax })
-        } else {
-            None
-        }
+        Self::cast_as(syntax.kind(), syntax)
+    }
+
+    #[inline]
+    fn cast_as(kind: SyntaxKind, syntax: SyntaxNode) -> Option<Self> {
+        Self::can_cast(kind).then(|| Self { syntax })
     }
 
     #[inline]
@@ -1865,11 +1899,12 @@ impl CstNode for RootOperationTypeDefinition {
 
     #[inline]
     fn cast(syntax: SyntaxNode) -> Option<Self> {
-        if Self::can_cast(syntax.kind()) {
-            Some(Self { syntax })
-        } else {
-            None
-        }
+        Self::cast_as(syntax.kind(), syntax)
+    }
+
+    #[inline]
+    fn cast_as(kind: SyntaxKind, syntax: SyntaxNode) -> Option<Self> {
+        Self::can_cast(kind).then(|| Self { syntax })
     }
 
     #[inline]
@@ -1920,11 +1955,12 @@ impl CstNode for ScalarTypeDefinition {
 
     #[inline]
     fn cast(syntax: SyntaxNode) -> Option<Self> {
-        if Self::can_cast(syntax.kind()) {
-            Some(Self { syntax })
-        } else {
-            None
-        }
+        Self::cast_as(syntax.kind(), syntax)
+    }
+
+    #[inline]
+    fn cast_as(kind: SyntaxKind, syntax: SyntaxNode) -> Option<Self> {
+        Self::can_cast(kind).then(|| Self { syntax })
     }
 
     #[inline]
@@ -1983,11 +2019,12 @@ impl CstNode for ObjectTypeDefinition {
 
     #[inline]
     fn cast(syntax: SyntaxNode) -> Option<Self> {
-        if Self::can_cast(syntax.kind()) {
-            Some(Self { syntax })
-        } else {
-            None
-        }
+        Self::cast_as(syntax.kind(), syntax)
+    }
+
+    #[inline]
+    fn cast_as(kind: SyntaxKind, syntax: SyntaxNode) -> Option<Self> {
+        Self::can_cast(kind).then(|| Self { syntax })
     }
 
     #[inline]
@@ -2058,11 +2095,12 @@ impl CstNode for ImplementsInterfaces {
 
     #[inline]
     fn cast(syntax: SyntaxNode) -> Option<Self> {
-        if Self::can_cast(syntax.kind()) {
-            Some(Self { syntax })
-        } else {
-            None
-        }
+        Self::cast_as(syntax.kind(), syntax)
+    }
+
+    #[inline]
+    fn cast_as(kind: SyntaxKind, syntax: SyntaxNode) -> Option<Self> {
+        Self::can_cast(kind).then(|| Self { syntax })
     }
 
     #[inline]
@@ -2113,11 +2151,12 @@ impl CstNode for FieldsDefinition {
 
     #[inline]
     fn cast(syntax: SyntaxNode) -> Option<Self> {
-        if Self::can_cast(syntax.kind()) {
-            Some(Self { syntax })
-        } else {
-            None
-        }
+        Self::cast_as(syntax.kind(), syntax)
+    }
+
+    #[inline]
+    fn cast_as(kind: SyntaxKind, syntax: SyntaxNode) -> Option<Self> {
+        Self::can_cast(kind).then(|| Self { syntax })
     }
 
     #[inline]
@@ -2168,11 +2207,12 @@ impl CstNode for FieldDefinition {
 
     #[inline]
     fn cast(syntax: SyntaxNode) -> Option<Self> {
-        if Self::can_cast(syntax.kind()) {
-            Some(Self { syntax })
-        } else {
-            None
-        }
+        Self::cast_as(syntax.kind(), syntax)
+    }
+
+    #[inline]
+    fn cast_as(kind: SyntaxKind, syntax: SyntaxNode) -> Option<Self> {
+        Self::can_cast(kind).then(|| Self { syntax })
     }
 
     #[inline]
@@ -2241,11 +2281,12 @@ impl CstNode for ArgumentsDefinition {
 
     #[inline]
     fn cast(syntax: SyntaxNode) -> Option<Self> {
-        if Self::can_cast(syntax.kind()) {
-            Some(Self { syntax })
-        } else {
-            None
-        }
+        Self::cast_as(syntax.kind(), syntax)
+    }
+
+    #[inline]
+    fn cast_as(kind: SyntaxKind, syntax: SyntaxNode) -> Option<Self> {
+        Self::can_cast(kind).then(|| Self { syntax })
     }
 
     #[inline]
@@ -2296,11 +2337,12 @@ impl CstNode for InputValueDefinition {
 
     #[inline]
     fn cast(syntax: SyntaxNode) -> Option<Self> {
-        if Self::can_cast(syntax.kind()) {
-            Some(Self { syntax })
-        } else {
-            None
-        }
+        Self::cast_as(syntax.kind(), syntax)
+    }
+
+    #[inline]
+    fn cast_as(kind: SyntaxKind, syntax: SyntaxNode) -> Option<Self> {
+        Self::can_cast(kind).then(|| Self { syntax })
     }
 
     #[inline]
@@ -2371,11 +2413,12 @@ impl CstNode for InterfaceTypeDefinition {
 
     #[inline]
     fn cast(syntax: SyntaxNode) -> Option<Self> {
-        if Self::can_cast(syntax.kind()) {
-            Some(Self { syntax })
-        } else {
-            None
-        }
+        Self::cast_as(syntax.kind(), syntax)
+    }
+
+    #[inline]
+    fn cast_as(kind: SyntaxKind, syntax: SyntaxNode) -> Option<Self> {
+        Self::can_cast(kind).then(|| Self { syntax })
     }
 
     #[inline]
@@ -2444,11 +2487,12 @@ impl CstNode for UnionTypeDefinition {
 
     #[inline]
     fn cast(syntax: SyntaxNode) -> Option<Self> {
-        if Self::can_cast(syntax.kind()) {
-            Some(Self { syntax })
-        } else {
-            None
-        }
+        Self::cast_as(syntax.kind(), syntax)
+    }
+
+    #[inline]
+    fn cast_as(kind: SyntaxKind, syntax: SyntaxNode) -> Option<Self> {
+        Self::can_cast(kind).then(|| Self { syntax })
     }
 
     #[inline]
@@ -2513,11 +2557,12 @@ impl CstNode for UnionMemberTypes {
 
     #[inline]
     fn cast(syntax: SyntaxNode) -> Option<Self> {
-        if Self::can_cast(syntax.kind()) {
-            Some(Self { syntax })
-        } else {
-            None
-        }
+        Self::cast_as(syntax.kind(), syntax)
+    }
+
+    #[inline]
+    fn cast_as(kind: SyntaxKind, syntax: SyntaxNode) -> Option<Self> {
+        Self::can_cast(kind).then(|| Self { syntax })
     }
 
     #[inline]
@@ -2570,11 +2615,12 @@ impl CstNode for EnumTypeDefinition {
 
     #[inline]
     fn cast(syntax: SyntaxNode) -> Option<Self> {
-        if Self::can_cast(syntax.kind()) {
-            Some(Self { syntax })
-        } else {
-            None
-        }
+        Self::cast_as(syntax.kind(), syntax)
+    }
+
+    #[inline]
+    fn cast_as(kind: SyntaxKind, syntax: SyntaxNode) -> Option<Self> {
+        Self::can_cast(kind).then(|| Self { syntax })
     }
 
     #[inline]
@@ -2637,11 +2683,12 @@ impl CstNode for EnumValuesDefinition {
 
     #[inline]
     fn cast(syntax: SyntaxNode) -> Option<Self> {
-        if Self::can_cast(syntax.kind()) {
-            Some(Self { syntax })
-        } else {
-            None
-        }
+        Self::cast_as(syntax.kind(), syntax)
+    }
+
+    #[inline]
+    fn cast_as(kind: SyntaxKind, syntax: SyntaxNode) -> Option<Self> {
+        Self::can_cast(kind).then(|| Self { syntax })
     }
 
     #[inline]
@@ -2692,11 +2739,12 @@ impl CstNode for EnumValueDefinition {
 
     #[inline]
     fn cast(syntax: SyntaxNode) -> Option<Self> {
-        if Self::can_cast(syntax.kind()) {
-            Some(Self { syntax })
-        } else {
-            None
-        }
+        Self::cast_as(syntax.kind(), syntax)
+    }
+
+    #[inline]
+    fn cast_as(kind: SyntaxKind, syntax: SyntaxNode) -> Option<Self> {
+        Self::can_cast(kind).then(|| Self { syntax })
     }
 
     #[inline]
@@ -2749,11 +2797,12 @@ impl CstNode for InputObjectTypeDefinition {
 
     #[inline]
     fn cast(syntax: SyntaxNode) -> Option<Self> {
-        if Self::can_cast(syntax.kind()) {
-            Some(Self { syntax })
-        } else {
-            None
-        }
+        Self::cast_as(syntax.kind(), syntax)
+    }
+
+    #[inline]
+    fn cast_as(kind: SyntaxKind, syntax: SyntaxNode) -> Option<Self> {
+        Self::can_cast(kind).then(|| Self { syntax })
     }
 
     #[inline]
@@ -2816,11 +2865,12 @@ impl CstNode for InputFieldsDefinition {
 
     #[inline]
     fn cast(syntax: SyntaxNode) -> Option<Self> {
-        if Self::can_cast(syntax.kind()) {
-            Some(Self { syntax })
-        } else {
-            None
-        }
+        Self::cast_as(syntax.kind(), syntax)
+    }
+
+    #[inline]
+    fn cast_as(kind: SyntaxKind, syntax: SyntaxNode) -> Option<Self> {
+        Self::can_cast(kind).then(|| Self { syntax })
     }
 
     #[inline]
@@ -2871,11 +2921,12 @@ impl CstNode for DirectiveDefinition {
 
     #[inline]
     fn cast(syntax: SyntaxNode) -> Option<Self> {
-        if Self::can_cast(syntax.kind()) {
-            Some(Self { syntax })
-        } else {
-            None
-        }
+        Self::cast_as(syntax.kind(), syntax)
+    }
+
+    #[inline]
+    fn cast_as(kind: SyntaxKind, syntax: SyntaxNode) -> Option<Self> {
+        Self::can_cast(kind).then(|| Self { syntax })
     }
 
     #[inline]
@@ -2958,11 +3009,12 @@ impl CstNode for DirectiveLocations {
 
     #[inline]
     fn cast(syntax: SyntaxNode) -> Option<Self> {
-        if Self::can_cast(syntax.kind()) {
-            Some(Self { syntax })
-        } else {
-            None
-        }
+        Self::cast_as(syntax.kind(), syntax)
+    }
+
+    #[inline]
+    fn cast_as(kind: SyntaxKind, syntax: SyntaxNode) -> Option<Self> {
+        Self::can_cast(kind).then(|| Self { syntax })
     }
 
     #[inline]
@@ -3009,11 +3061,12 @@ impl CstNode for DirectiveLocation {
 
     #[inline]
     fn cast(syntax: SyntaxNode) -> Option<Self> {
-        if Self::can_cast(syntax.kind()) {
-            Some(Self { syntax })
-        } else {
-            None
-        }
+        Self::cast_as(syntax.kind(), syntax)
+    }
+
+    #[inline]
+    fn cast_as(kind: SyntaxKind, syntax: SyntaxNode) -> Option<Self> {
+        Self::can_cast(kind).then(|| Self { syntax })
     }
 
     #[inline]
@@ -3162,11 +3215,12 @@ impl CstNode for SchemaExtension {
 
     #[inline]
     fn cast(syntax: SyntaxNode) -> Option<Self> {
-        if Self::can_cast(syntax.kind()) {
-            Some(Self { syntax })
-        } else {
-            None
-        }
+        Self::cast_as(syntax.kind(), syntax)
+    }
+
+    #[inline]
+    fn cast_as(kind: SyntaxKind, syntax: SyntaxNode) -> Option<Self> {
+        Self::can_cast(kind).then(|| Self { syntax })
     }
 
     #[inline]
@@ -3235,11 +3289,12 @@ impl CstNode for ScalarTypeExtension {
 
     #[inline]
     fn cast(syntax: SyntaxNode) -> Option<Self> {
-        if Self::can_cast(syntax.kind()) {
-            Some(Self { syntax })
-        } else {
-            None
-        }
+        Self::cast_as(syntax.kind(), syntax)
+    }
+
+    #[inline]
+    fn cast_as(kind: SyntaxKind, syntax: SyntaxNode) -> Option<Self> {
+        Self::can_cast(kind).then(|| Self { syntax })
     }
 
     #[inline]
@@ -3299,11 +3354,12 @@ impl CstNode for ObjectTypeExtension {
 
     #[inline]
     fn cast(syntax: SyntaxNode) -> Option<Self> {
-        if Self::can_cast(syntax.kind()) {
-            Some(Self { syntax })
-        } else {
-            None
-        }
+        Self::cast_as(syntax.kind(), syntax)
+    }
+
+    #[inline]
+    fn cast_as(kind: SyntaxKind, syntax: SyntaxNode) -> Option<Self> {
+        Self::can_cast(kind).then(|| Self { syntax })
     }
 
     #[inline]
@@ -3375,11 +3431,12 @@ impl CstNode for InterfaceTypeExtension {
 
     #[inline]
     fn cast(syntax: SyntaxNode) -> Option<Self> {
-        if Self::can_cast(syntax.kind()) {
-            Some(Self { syntax })
-        } else {
-            None
-        }
+        Self::cast_as(syntax.kind(), syntax)
+    }
+
+    #[inline]
+    fn cast_as(kind: SyntaxKind, syntax: SyntaxNode) -> Option<Self> {
+        Self::can_cast(kind).then(|| Self { syntax })
     }
 
     #[inline]
@@ -3450,11 +3507,12 @@ impl CstNode for UnionTypeExtension {
 
     #[inline]
     fn cast(syntax: SyntaxNode) -> Option<Self> {
-        if Self::can_cast(syntax.kind()) {
-            Some(Self { syntax })
-        } else {
-            None
-        }
+        Self::cast_as(syntax.kind(), syntax)
+    }
+
+    #[inline]
+    fn cast_as(kind: SyntaxKind, syntax: SyntaxNode) -> Option<Self> {
+        Self::can_cast(kind).then(|| Self { syntax })
     }
 
     #[inline]
@@ -3519,11 +3577,12 @@ impl CstNode for EnumTypeExtension {
 
     #[inline]
     fn cast(syntax: SyntaxNode) -> Option<Self> {
-        if Self::can_cast(syntax.kind()) {
-            Some(Self { syntax })
-        } else {
-            None
-        }
+        Self::cast_as(syntax.kind(), syntax)
+    }
+
+    #[inline]
+    fn cast_as(kind: SyntaxKind, syntax: SyntaxNode) -> Option<Self> {
+        Self::can_cast(kind).then(|| Self { syntax })
     }
 
     #[inline]
@@ -3588,11 +3647,12 @@ impl CstNode for InputObjectTypeExtension {
 
     #[inline]
     fn cast(syntax: SyntaxNode) -> Option<Self> {
-        if Self::can_cast(syntax.kind()) {
-            Some(Self { syntax })
-        } else {
-            None
-        }
+        Self::cast_as(syntax.kind(), syntax)
+    }
+
+    #[inline]
+    fn cast_as(kind: SyntaxKind, syntax: SyntaxNode) -> Option<Self> {
+        Self::can_cast(kind).then(|| Self { syntax })
     }
 
     #[inline]
@@ -3709,7 +3769,12 @@ impl CstNode for Definition {
 
     #[inline]
     fn cast(syntax: SyntaxNode) -> Option<Self> {
-        Some(match syntax.kind() {
+        Self::cast_as(syntax.kind(), syntax)
+    }
+
+    #[inline]
+    fn cast_as(kind: SyntaxKind, syntax: SyntaxNode) -> Option<Self> {
+        Some(match kind {
             SyntaxKind::OPERATION_DEFINITION => Definition::OperationDefinition(OperationDefinition { syntax }),
             SyntaxKind::FRAGMENT_DEFINITION => Definition::FragmentDefinition(FragmentDefinition { syntax }),
             SyntaxKind::DIRECTIVE_DEFINITION => Definition::DirectiveDefinition(DirectiveDefinition { syntax }),
@@ -3917,7 +3982,12 @@ impl CstNode for Selection {
 
     #[inline]
     fn cast(syntax: SyntaxNode) -> Option<Self> {
-        Some(match syntax.kind() {
+        Self::cast_as(syntax.kind(), syntax)
+    }
+
+    #[inline]
+    fn cast_as(kind: SyntaxKind, syntax: SyntaxNode) -> Option<Self> {
+        Some(match kind {
             SyntaxKind::FIELD => Selection::Field(Field { syntax }),
             SyntaxKind::FRAGMENT_SPREAD => Selection::FragmentSpread(FragmentSpread { syntax }),
             SyntaxKind::INLINE_FRAGMENT => Selection::InlineFragment(InlineFragment { syntax }),
@@ -4012,7 +4082,12 @@ impl CstNode for Value {
 
     #[inline]
     fn cast(syntax: SyntaxNode) -> Option<Self> {
-        Some(match syntax.kind() {
+        Self::cast_as(syntax.kind(), syntax)
+    }
+
+    #[inline]
+    fn cast_as(kind: SyntaxKind, syntax: SyntaxNode) -> Option<Self> {
+        Some(match kind {
             SyntaxKind::VARIABLE => Value::Variable(Variable { syntax }),
             SyntaxKind::INT_VALUE => Value::IntValue(IntValue { syntax }),
             SyntaxKind::FLOAT_VALUE => Value::FloatValue(FloatValue { syntax }),
@@ -4131,7 +4206,12 @@ impl CstNode for Type {
 
     #[inline]
     fn cast(syntax: SyntaxNode) -> Option<Self> {
-        Some(match syntax.kind() {
+        Self::cast_as(syntax.kind(), syntax)
+    }
+
+    #[inline]
+    fn cast_as(kind: SyntaxKind, syntax: SyntaxNode) -> Option<Self> {
+        Some(match kind {
             SyntaxKind::NAMED_TYPE => Type::NamedType(NamedType { syntax }),
             SyntaxKind::LIST_TYPE => Type::ListType(ListType { syntax }),
             SyntaxKind::NON_NULL_TYPE => Type::NonNullType(NonNullType { syntax }),

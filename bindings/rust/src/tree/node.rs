@@ -183,11 +183,11 @@ impl SyntaxNode {
         self.share.children(self.index).last().map(|(child, _)| self.share.element(child))
     }
 
-    /// The first child that is a node of a kind that passes a test.
+    /// The first child that is a node of a kind that passes a test, and its kind.
     #[inline]
-    pub(crate) fn first_child_of(&self, test: impl Fn(SyntaxKind) -> bool) -> Option<SyntaxNode> {
+    pub(crate) fn first_child_of(&self, test: impl Fn(SyntaxKind) -> bool) -> Option<(SyntaxKind, SyntaxNode)> {
         let found = self.share.children(self.index).find(|(_, row)| test(row.kind()) && !row.is_token());
-        found.map(|(child, _)| self.share.node(child))
+        found.map(|(child, row)| (row.kind(), self.share.node(child)))
     }
 
     /// The first child that is a token of a kind.

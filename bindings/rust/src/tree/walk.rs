@@ -117,14 +117,14 @@ impl fmt::Debug for SyntaxElementChildren {
 pub struct SyntaxNodeChildren(pub(super) SyntaxElementChildren);
 
 impl SyntaxNodeChildren {
-    /// The next one of a kind that passes a test. It makes no node of the others.
+    /// The next one of a kind that passes a test, and its kind. It makes no node of the others.
     #[inline]
-    pub(crate) fn next_of(&mut self, test: impl Fn(SyntaxKind) -> bool) -> Option<SyntaxNode> {
+    pub(crate) fn next_of(&mut self, test: impl Fn(SyntaxKind) -> bool) -> Option<(SyntaxKind, SyntaxNode)> {
         let SyntaxElementChildren { share, next, end } = &mut self.0;
         let mut children = share.siblings(*next, *end);
         let found = children.find(|(_, row)| test(row.kind()) && !row.is_token());
         *next = children.next;
-        found.map(|(index, _)| share.node(index))
+        found.map(|(index, row)| (row.kind(), share.node(index)))
     }
 }
 
@@ -133,7 +133,7 @@ impl Iterator for SyntaxNodeChildren {
 
     #[inline]
     fn next(&mut self) -> Option<SyntaxNode> {
-        self.next_of(|_| true)
+        self.next_of(|_| true).map(|(_, node)| node)
     }
 }
 
