@@ -1,3 +1,4 @@
+mod NameLemmas
 pub mod FrameLemmas
 pub mod NumeralLemmas
 pub mod WrittenLemmas

@@ -1,5 +1,5 @@
 -- A frame: a head of fields, as HTTP has them, and a body. A field of the head gives the number of the body's bytes.
-use Rattle.std.specs.Prelude.{◌≡◌, ℕ, ◌≤◌, ◌^◌, Bool, ◌&&◌, nat_lt, if◌then◌else◌, List, [], ◌∷◌, ◌++◌, length, map, take, drop, slice_range, codes, decimal}
+use Rattle.std.specs.Prelude.{◌≡◌, ℕ, ◌<◌, ◌≤◌, ◌^◌, Bool, ◌&&◌, nat_lt, if◌then◌else◌, List, [], ◌∷◌, ◌++◌, length, map, take, drop, slice_range, codes, decimal}
 use Rattle.std.specs.Prelude.{Option, Some, None, IfSome}
 use Rattle.std.specs.Char.{to_ascii_lowercase, is_ascii_digit}
 use Rattle.std.specs.List.{list_all}
@@ -41,6 +41,22 @@ HasNoFrame bytes = (body rest : List ℕ) → BeginsWithFrame bytes body rest �
 
 abbrev pub NeverHasFrame : List ℕ → Type 0
 NeverHasFrame bytes = (more : List ℕ) → HasNoFrame (bytes ++ more)
+
+-- with none of the first bytes begins a frame, whatever follows
+abbrev pub AreGarbage : List ℕ → ℕ → Type 0
+AreGarbage bytes count = (k : ℕ) → k < count → NeverHasFrame (drop k bytes)
+
+-- The first bytes are left out, at least one where there is one. With none of the others that are left out begins a frame.
+pub record IsSkipped (old new : List ℕ) : Type 0 where
+  pub count : ℕ
+  pub some : 0 < count
+  pub left : new ≡ drop count old
+  pub garbage : (k : ℕ) → 0 < k → k < count → NeverHasFrame (drop k old)
+
+-- how many bytes to read next
+pub record IsWanted (count : ℕ) : Type 0 where
+  pub some : 0 < count
+  pub few : count ≤ 2 ^ 16
 
 -- the frame that this crate writes
 abbrev pub frame_of : List ℕ → List ℕ

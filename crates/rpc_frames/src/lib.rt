@@ -6,13 +6,16 @@
 //! `rpc_serving`, the crate above, takes bodies from a `FrameBuffer` and frames its own by `put_frame`.
 #![tactic(auto)]
 
-ghost use Rattle.std.specs.Prelude.{◌≡◌, ◌≢◌, ◌≤◌, ◌^◌, ◌==◌, ◌++◌, [], length, map, drop, All, IfOk, IfErr, IfSome, IfNone, OnOk, OnErr};
+ghost use Rattle.std.specs.Prelude.{◌≡◌, ◌≢◌, ◌<◌, ◌≤◌, ◌^◌, ◌==◌, ◌++◌, [], length, map, drop, All, IfOk, IfErr, IfSome, IfNone, OnOk, OnErr};
 ghost use Rattle.std.specs.Char.{is_ascii_digit};
 ghost use Rattle.std.specs.List.{list_all};
 ghost use Rattle.httparse.specs.Spans.{header_bytes, IsHeaderWithin};
-ghost use Rattle.rpc_frames.specs.Frames.{Agrees, BeginsWithFrame, HasNoFrame, IsBodyAt, IsFrame, IsHeadAt, NeverHasFrame, frame_of, is_length_name, length_in, numeral};
+ghost use Rattle.rpc_frames.specs.Frames.{Agrees, BeginsWithFrame, HasNoFrame, IsBodyAt, IsFrame, IsHeadAt, IsSkipped, IsWanted, NeverHasFrame, frame_of, is_length_name, length_in, numeral};
 ghost use Rattle.rpc_frames.specs.declared.FrameError.TheVariants.{Memory};
 
+mod garbage;
+
+use garbage::garbage_len;
 use httparse::Status;
 use httparse::spans::{EMPTY_HEADER_SPAN, HeaderSpan, parse_headers};
 use std::alloc::{AllocError, Global};
@@ -98,17 +101,38 @@ impl FrameBuffer {
         }
     }
 
-    /// Leaves the first byte out, where there is one: after an error a frame may begin behind it.
-    pub fn skip_byte(&mut self)
-        ensures { self.new ≡ drop 1 self.old }
+    /// How many bytes to read next, at least one and at most 2 ^ 16: the rest of the first frame where its head is there, else about as many as a head
+    /// has. So one read brings no more than one long message.
+    pub fn wanted(&self) -> usize
+        ensures { IsWanted result }
     {
-        if !self.bytes.is_empty() {
-            self.bytes.remove(0);
+        match head(self.bytes.as_slice()) {
+            Ok(Some(head)) => missing(&head, self.bytes.len()),
+            Ok(None) | Err(_) => self.bytes.len().clamp(FEW, MOST),
         }
+    }
+
+    /// Leaves out the first bytes, at least one where there is one: after an error a frame may begin behind them. No frame begins with those after the
+    /// first. It fails only where memory is refused.
+    pub fn skip(&mut self, alloc: Global) -> Result<(), AllocError>
+        ensures { OnOk result (IsSkipped self.old self.new) }
+    {
+        if self.bytes.is_empty() {
+            return Ok(());
+        }
+        let count = garbage_len(self.bytes.as_slice()).max(1);
+        let rest = Vec::from_slice(alloc, &self.bytes[count..])?;
+        self.bytes = rest;
+        Ok(())
     }
 }
 
 const HEAD_LIMIT: usize = 4096;
+
+// About how many bytes the head of a frame has.
+const FEW: usize = 32;
+
+const MOST: usize = 1 << 16;
 
 const FIELD_LIMIT: usize = 16;
 
@@ -161,6 +185,16 @@ fn body_range(bytes: &[u8]) -> Result<Option<(usize, usize)>, FrameError>
         return Ok(None);
     }
     Ok(Some((head.end, head.end + head.length)))
+}
+
+// How many bytes of the frame are missing, at least one and at most 2 ^ 16.
+fn missing(head: &FrameHead, count: usize) -> usize
+    ensures some { 0 < result }
+    ensures few { result ≤ 2 ^ 16 }
+{
+    head.length
+        .saturating_sub(count.saturating_sub(head.end))
+        .clamp(1, MOST)
 }
 
 // The length that the first field with its name gives.

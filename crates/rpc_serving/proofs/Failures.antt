@@ -1,5 +1,5 @@
 -- Runs that fail, and what they wrote.
-use Rattle.std.proofs.Common.{◌≡◌, ℕ, List, ◌++◌, Option, sym, ap, ◌∙◌, subst, inl, inr, append_assoc, length, take, arith}
+use Rattle.std.proofs.Common.{◌≡◌, ◌≤◌, ℕ, List, ◌++◌, Option, sym, ap, ◌∙◌, subst, inl, inr, append_assoc, length, take, arith}
 use Rattle.std.specs.Prelude.{Result, IfErr}
 use Rattle.std.specs.Result.{IsErrAnd}
 use Rattle.std.proofs.lemmas.Result.{err_from_is_err_and}
@@ -38,7 +38,7 @@ module _ {S : Type 0} (takes : List ℕ → S → Reply → S → Type 0) (first
   -- memory was refused after a read
   pub memory_refused : (fault : Fault) → fault ≡ Memory → (input output left buffer : List ℕ) (count : ℕ) (service : S)
       → GoesOn takes first input output service left → HasNoFrame left
-      → read_new ≡ moved read_old (input ++ take count buffer) → length buffer ≡ 65536 → write_new ≡ moved write_old output
+      → read_new ≡ moved read_old (input ++ take count buffer) → length buffer ≤ 65536 → write_new ≡ moved write_old output
       → EndsServing takes first last read_old read_new write_old write_new fault
   memory_refused fault is input output left buffer count service so none read long written =
       subst (EndsServing takes first last read_old read_new write_old write_new) (sym is)

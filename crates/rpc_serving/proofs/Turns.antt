@@ -1,9 +1,9 @@
 -- Conversations, one message after the other.
-use Rattle.std.proofs.Common.{◌≡◌, ◌==◌, Bool, false, ℕ, ◌<◌, List, [], ◌∷◌, ◌++◌, length, drop, Option, Some, None, sym, ap, ◌∙◌, subst, append_assoc, arith}
+use Rattle.std.proofs.Common.{◌≡◌, ◌==◌, Bool, false, ℕ, zero, suc, ◌<◌, List, [], ◌∷◌, ◌++◌, length, drop, Option, Some, None, sym, ap, ◌∙◌, subst, append_assoc, arith, length-drop}
 use Rattle.std.proofs.lemmas.Bool.Decides.{nat_tests}
 use Rattle.std.proofs.lemmas.List.{append-nil}
 use Rattle.json.specs.Json.{Json}
-use Rattle.rpc_frames.specs.Frames.{BeginsWithFrame, HasNoFrame, NeverHasFrame}
+use Rattle.rpc_frames.specs.Frames.{BeginsWithFrame, HasNoFrame, IsSkipped, NeverHasFrame}
 use Rattle.rpc_messages.specs.declared.reply.Reply.{Reply}
 use Rattle.rpc_messages.specs.declared.reply.Reply.TheVariants.{Nothing, Answer, Notice, Exit}
 use Rattle.rpc_messages.specs.Messages.{Asks, AsksForEnd}
@@ -29,9 +29,14 @@ never_now now never = subst HasNoFrame (append-nil now) (never [])
 pub some_left : (n : ℕ) (is_empty : Bool) → is_empty ≡ (n == 0) → is_empty ≡ false → 0 < n
 some_left n is_empty e false_is = grind (arith, nat_tests)
 
-pub one_less : (now : List ℕ) → 0 < length now → length (drop 1 now) < length now
-one_less [] some = absurd (omega (arith, some))
-one_less (byte ∷ bytes) some = omega arith
+-- the first byte, and all others that are left out
+each : (now : List ℕ) (count : ℕ) → NeverHasFrame now → ((k : ℕ) → 0 < k → k < count → NeverHasFrame (drop k now)) → (k : ℕ) → k < count
+    → NeverHasFrame (drop k now)
+each now count never garbage zero less = never
+each now count never garbage (suc k) less = garbage (suc k) (omega arith) less
+
+pub fewer : (now new : List ℕ) → 0 < length now → IsSkipped now new → length new < length now
+fewer now new some is = omega (arith, ap length is.left, length-drop is.count now, is.some, some)
 
 module _ {S : Type 0} (takes : List ℕ → S → Reply → S → Type 0) where
   -- What was said for a beginning of the bytes, and the state that the service is in now: a conversation about the others goes on from there.
@@ -65,7 +70,20 @@ module _ {S : Type 0} (takes : List ℕ → S → Reply → S → Type 0) where
   waiting first start said service now leads none = subst (λ (v : List ℕ). Exchange takes first start v now None service) (append-nil said)
       (leads [] now None service (waits none))
 
-  pub passes : (first : S) (start said : List ℕ) (service : S) (now : List ℕ) → LeadsTo first start said service now → NeverHasFrame now → 0 < length now
+  passes : (first : S) (start said : List ℕ) (service : S) (now : List ℕ) → LeadsTo first start said service now → NeverHasFrame now → 0 < length now
       → LeadsTo first start said service (drop 1 now)
   passes first start said service [] leads never some = absurd (omega (arith, some))
   passes first start said service (byte ∷ bytes) leads never some = λ later rest status last e. leads later rest status last (passed_over never e)
+
+  skips : (first : S) (start said : List ℕ) (service : S) (now : List ℕ) (count : ℕ) → LeadsTo first start said service now
+      → ((k : ℕ) → k < count → NeverHasFrame (drop k now)) → LeadsTo first start said service (drop count now)
+  skips first start said service now zero leads never = leads
+  skips first start said service [] (suc count) leads never = leads
+  skips first start said service (byte ∷ bytes) (suc count) leads never =
+      skips first start said service bytes count (passes first start said service (byte ∷ bytes) leads (never 0 (omega arith)) (omega arith))
+      (λ k less. never (suc k) (omega (arith, less)))
+
+  pub skipped : (first : S) (start said : List ℕ) (service : S) (now new : List ℕ) → LeadsTo first start said service now → NeverHasFrame now
+      → IsSkipped now new → LeadsTo first start said service new
+  skipped first start said service now new leads never is =
+      subst (LeadsTo first start said service) (sym is.left) (skips first start said service now is.count leads (each now is.count never is.garbage))

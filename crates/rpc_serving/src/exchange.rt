@@ -40,8 +40,8 @@ fn was_refused(error: FrameError) -> bool
     }
 }
 
-/// Replies to each message that has come as a whole, in their order, up to the notification `exit`, if the service ends the conversation there. A byte
-/// with which no frame can begin is passed over. It fails only where memory is refused.
+/// Replies to each message that has come as a whole, in their order, up to the notification `exit`, if the service ends the conversation there. Bytes
+/// with which no frame can begin are passed over. It fails only where memory is refused.
 pub fn take_turn<S: Service>(
     alloc: Global,
     service: &mut S,
@@ -69,7 +69,7 @@ pub fn take_turn<S: Service>(
                 if frames.is_empty() {
                     return Ok(Turn { said, status: None });
                 }
-                frames.skip_byte();
+                frames.skip(alloc)?;
             }
         }
     }

@@ -24,10 +24,11 @@ pub fn serve<S: Service, R: Source, W: Sink>(
     let mut frames = FrameBuffer::new(alloc);
     let mut buffer = [0u8; 65536];
     for _ in 0..u64::MAX {
-        match reader.read(&mut buffer) {
+        let room = &mut buffer[..frames.wanted()];
+        match reader.read(room) {
             Ok(0) => return Ok(1),
             Ok(count) => {
-                frames.extend(&buffer[..count])?;
+                frames.extend(&room[..count])?;
                 let turn = take_turn(alloc, service, &mut frames)?;
                 write_all(writer, turn.said.as_slice())?;
                 if let Some(status) = turn.status {

@@ -1,11 +1,11 @@
-use Rattle.std.proofs.Common.{◌≡◌, ◌<◌, ℕ, List, None, length, drop, sym, ap, ◌∙◌, subst, arith}
-use Rattle.rpc_frames.specs.Frames.{BeginsWithFrame, HasNoFrame, NeverHasFrame}
+use Rattle.std.proofs.Common.{◌≡◌, ◌<◌, ℕ, List, None, length, sym, ap, ◌∙◌, subst, arith}
+use Rattle.rpc_frames.specs.Frames.{BeginsWithFrame, HasNoFrame, IsSkipped, NeverHasFrame}
 use Rattle.rpc_frames.proofs.FrameLemmas.{shorter}
 use Rattle.rpc_messages.specs.Messages.{AsksForEnd}
 use Rattle.rpc_messages.specs.Replies.{EndsOnlyIf}
 use Rattle.rpc_messages.specs.Steps.{Takes}
 use Rattle.rpc_serving.specs.Exchange.{Exchange}
-use Rattle.rpc_serving.proofs.Turns.{IsReplyTo, LeadsTo, begun, goes_on, finished, waiting, never_now, passes, some_left, one_less}
+use Rattle.rpc_serving.proofs.Turns.{IsReplyTo, LeadsTo, begun, goes_on, finished, fewer, never_now, skipped, some_left, waiting}
 use Rattle.rpc_serving.proofs.exchange.take_turn.Goals as goal
 
 pub loop-body-init : goal.loop-body-init
@@ -57,12 +57,10 @@ returns-then-is_empty g c =
 pub loop-body-smaller : goal.loop-body-smaller
 loop-body-smaller g c =
     let some : 0 < length c.next_body.new.self = some_left _ _ c.is_empty.ensures c.if-is_empty.false in
-    omega (arith, one_less c.next_body.new.self some, ap length c.skip_byte.ensures, ap length c.in-Err.ensures.err)
+    omega (arith, fewer _ _ some c.in_ok-skip-in-Err.ensures, ap length c.in-Err.ensures.err)
 
 pub loop-body-preserved : goal.loop-body-preserved
 loop-body-preserved g c =
     let never : NeverHasFrame c.loop-body.frames = c.in-Err.ensures.never (c.was_refused.ensures c.if-was_refused.false) in
-    let some : 0 < length c.next_body.new.self = some_left _ _ c.is_empty.ensures c.if-is_empty.false in
-    let more : 0 < length c.loop-body.frames = omega (arith, some, ap length c.in-Err.ensures.err) in
-    subst (LeadsTo (Takes g.S.Service.steps) c.args.service.now c.args.frames.now c.loop-body.said.items c.loop-body.service)
-    (ap (drop 1) (sym c.in-Err.ensures.err) ∙ sym c.skip_byte.ensures) (passes (Takes g.S.Service.steps) _ _ _ _ _ c.loop-body.invariant never more)
+    skipped (Takes g.S.Service.steps) _ _ _ _ _ _ c.loop-body.invariant never
+    (subst (λ (now : List ℕ). IsSkipped now c.skip.new.self) c.in-Err.ensures.err c.in_ok-skip-in-Err.ensures)
