@@ -24,9 +24,6 @@ pub item_read : (items : List Mention) (n : ℕ) (m : Mention) → n < length it
 item_read items n m below is =
     get_or_default (map as_named items) n no_item (as_named m) (rw length-map below) ∙ get_or-map as_named items n m ∙ ap as_named (sym is)
 
-pub item_at_index : (items : List Mention) (n : ℕ) (m : Mention) → n < length items → item_at (map as_named items) n ≡ as_named (get_or items n m)
-item_at_index items n m below = item_read items n (get_or items n m) below (get_or_default items n m (get_or items n m) below)
-
 -- ---- names that have to be known
 abbrev pub UnknownAt : Rule → Option Place → (Name → Type 0) → List Named → ℕ → Breach → Type 0
 UnknownAt rule other IsKnown items k b = (¬ IsKnown (item_at items k).name) × (b ≡ breach rule (item_at items k).place other)
