@@ -1,7 +1,7 @@
 #!/usr/bin/env python3
-"""Runs `gqlcst check` on hostile texts of some bytes, of twice as many, and so on, and prints a table: at each size the program's own seconds and those that the
-kernel takes for it, how many times the program's own are those of the size before, and the peak memory at the last. The kernel's go with the memory: it hands
-out and clears each page.
+"""Runs `--program`, which is `gqlcst check` unless given, or `gqlfmt` or `gqlcheck`, on hostile texts of some bytes, of twice as many, and so on, and prints a
+table: at each size the program's own seconds and those that the kernel takes for it, how many times the program's own are those of the size before, and the
+peak memory at the last. The kernel's go with the memory: it hands out and clears each page.
 
 There are `--sizes` sizes from `--bytes` on, and `--rounds` runs of each in turn, more where they are short. A run counts only on a processor at rest (calm.py).
 A size that would take more than `--gigabytes`, by the memory of the size before, is left out. `--text` is the only text that is run. Ends with status 1 where twice
@@ -32,8 +32,12 @@ TEXTS = {
     "#": lambda n: "#" * n,
     "# on each line": lambda n: "#\n" * (n // 2),
     "-": lambda n: "-" * n,
+    "operations in one line": lambda n: "".join(f"query Q{number:07}{{a}}" for number in range(n // 16)),
+    "errors in one line": lambda n: "# é\n" + "query é{!}" * (n // 12),
     "wrapped types": lambda n: ("query(" + "$a:" + "[" * 400 + "T" + "]!" * 400 + "){a}\n") * (n // 1220),
 }
+# The words of each program. `gqlcheck` puts a line and a column in front of each operation's figures.
+PROGRAMS = {"gqlcst": ["check"], "gqlfmt": [], "gqlcheck": ["--figures"]}
 # Runs of a text are made for this number of seconds, and one that does not count is made again this number of times.
 SHORT = 12
 TRIES = 3
@@ -82,7 +86,8 @@ def written(folder, make, sizes):
 
 
 def main():
-    given, program = arguments(__doc__, bytes=6_250_000, sizes=4, rounds=5, gigabytes=10, text=None), built("gqlcst")
+    given = arguments(__doc__, bytes=6_250_000, sizes=4, rounds=5, gigabytes=10, text=None, program="gqlcst")
+    program = [built(given.program), *PROGRAMS[given.program]]
     sizes = [given.bytes * 2**i for i in range(given.sizes)]
     print("| | " + " | ".join(f"{size / 1e6:g} MB" for size in sizes) + " | times | memory |\n|" + "---|" * (len(sizes) + 3))
     slow, processors = False, Processors()
@@ -90,7 +95,7 @@ def main():
         for name, make in (TEXTS | NESTED_TEXTS).items():
             if given.text not in (None, name):
                 continue
-            command = [program, "check", *(["--recursion", str(DEPTH)] if name in NESTED_TEXTS else [])]
+            command = [*program, *(["--recursion", str(DEPTH)] if name in NESTED_TEXTS else [])]
             took, memory = measured(processors, command, written(folder, make, sizes), given.rounds, given.gigabytes)
             times = [after / max(before, 0.001) for (before, _), (after, _) in zip(took, took[1:])]
             slow |= any(ratio > 2.2 and before >= LEAST for ratio, (before, _) in zip(times, took))
