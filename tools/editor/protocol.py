@@ -78,7 +78,7 @@ def states():
     client.notify("textDocument/didOpen", textDocument={**DOCUMENT, "languageId": "graphql", "version": 0, "text": "{"})
     client.initialize()
     expect("a second initialize", code(client.ask("initialize", capabilities={})), -32600)
-    for method in ["workspace/symbol", "textDocument/codeAction", "$/other", ""]:
+    for method in ["workspace/executeCommand", "textDocument/codeAction", "$/other", ""]:
         expect(f"the method {method}", code(client.ask(method)), -32601)
     for feature in FEATURES:
         expect(f"{feature} of an unknown document", code(client.ask(f"textDocument/{feature}", textDocument=DOCUMENT, **at(0, 0))), -32602)
@@ -150,7 +150,7 @@ def capabilities():
     expect("all tokens and some", (tokens["full"], tokens["range"]), (True, True))
     names = {"semanticTokens/full": "semanticTokens", "semanticTokens/range": "semanticTokens", "formatting": "documentFormatting", "rangeFormatting": "documentRangeFormatting"}
     providers = {names.get(feature, feature) + "Provider" for feature in FEATURES}
-    expect("the features", {name for name in found if name.endswith("Provider")}, providers)
+    expect("the features", {name for name in found if name.endswith("Provider")}, providers | {"workspaceSymbolProvider"})
 
 
 # ---- changes and errors
@@ -289,6 +289,66 @@ def parts(encoding, far):
     expect("the end", client.end(), 0)
 
 
+# The types of the query below, in another document.
+TYPES = """schema { query: Root }
+type Root {
+  "A hero."
+  hero(episode: Episode, like: Like): Hero
+  search: [Thing!]!
+}
+type Hero { name: String friends: [Hero] }
+union Thing = Hero
+enum Episode { "Four." HOPE JEDI }
+input Like { episode: Episode, other: Like }
+extend type Hero { height: Int }
+directive @d(at: Episode) on FIELD
+"""
+# Names that have their meaning by the types of their places, and where TYPES defines them.
+QUERY = """query Q($e: Episode = JEDI) {
+  hero(episode: HOPE, like: { other: { episode: JEDI } }) @d(at: HOPE) { friends { name } ...F }
+  search { ... on Hero { height } }
+}
+fragment F on Hero { nick: name __typename unknown }
+"""
+PLACES = [("JEDI) {", (8, 28)), ("hero(", (3, 2)), ("episode: H", (3, 7)), ("HOPE, ", (8, 23)), ("like", (3, 25)), ("other", (9, 31)), ("episode: J", (9, 13)), ("JEDI }", (8, 28)),
+          ("at: ", (11, 13)), ("HOPE)", (8, 23)), ("friends", (6, 25)), ("name }", (6, 12)), ("search", (4, 2)), ("height", (10, 19)), ("name __", (6, 12)),
+          ("nick", None), ("__typename", None), ("unknown", None)]
+
+
+def members():
+    """Fields, arguments, input fields and values, by the types of another document."""
+    def place(text, name):
+        before = text[:text.index(name)].split("\n")
+        return at(len(before) - 1, len(before[-1]) + 1)
+
+    client = started()
+    client.open("file:///types", TYPES)
+    client.open(URI, QUERY)
+    for name, wanted in PLACES:
+        found = client.ask_about(URI, "definition", **place(QUERY, name))
+        found = found and (found["uri"], *found["range"]["start"].values())
+        expect(f"the definition of {name}", found, wanted and ("file:///types", *wanted))
+    for name, heading in [("hero(", "hero(episode: Episode, like: Like): Hero\n```\n\nA hero."), ("HOPE, ", "HOPE\n```\n\nFour."), ("at: ", "at: Episode\n```\n\n")]:
+        expect(f"hover on {name}", client.ask_about(URI, "hover", **place(QUERY, name))["contents"]["value"], f"```graphql\n{heading}")
+    expect("hover on an unknown field", client.ask_about(URI, "hover", **place(QUERY, "unknown")), None)
+
+    def words(text):
+        client.change(URI, 1, [{"text": text}])
+        lines = text.split("\n")
+        return [it["label"] for it in client.ask_about(URI, "completion", **at(len(lines) - 1, len(lines[-1]))) if it["kind"] != 14]
+
+    for text, wanted in [("{ ", ["hero", "search"]), ("{ hero { na", ["name", "friends", "height"]), ("{ hero(", ["episode", "like"]), ("{ hero(episode: ", ["HOPE", "JEDI"]),
+                         ("{ hero(like: {other: {", ["episode", "other"]), ("{ hero(like: {episode: ", ["HOPE", "JEDI"]), ("query ($e: Episode = ", ["HOPE", "JEDI"]),
+                         ("{ hero @d(", ["at"]), ("{ hero @d(at: ", ["HOPE", "JEDI"]), ("fragment F on Hero { friends { ", ["name", "friends", "height"]),
+                         ("{ search { ... on Hero { ", ["name", "friends", "height"]), ("{ search { ... { ", []), ("{ other { ", []), ("mutation { ", [])]:
+        expect(f"members after {text}", words(text), wanted)
+    found = client.ask("workspace/symbol", query="HER")["result"]
+    expect("symbols of all documents", [(it["name"], it["kind"], it["location"]) for it in found],
+           [("Hero", 5, {"uri": "file:///types", "range": span(6, 5, 9)}), ("Hero", 5, {"uri": "file:///types", "range": span(10, 12, 16)})])
+    expect("all symbols", len(client.ask("workspace/symbol", query="")["result"]), 9)
+    client.end()
+
+
 def names_of_symbols():
     client = started()
     for text in ["fragment on X { a }", "type { a: B }", "scalar", "enum { A }", "{ a: }", "extend type { a: B }", "directive @ on FIELD"]:
@@ -383,7 +443,7 @@ def refused_words():
         expect(f"the words {words}", (ended.returncode, ended.stdout, ended.stderr), (2, b"", usage))
 
 
-TESTS = [states, statuses_without_shutdown, faulty_messages, pieces_of_input, capabilities, changes, diagnostics, violations, lambda: names("utf-16", 0), lambda: names("utf-8", 2), other_documents,
+TESTS = [states, statuses_without_shutdown, faulty_messages, pieces_of_input, capabilities, changes, diagnostics, violations, lambda: names("utf-16", 0), lambda: names("utf-8", 2), other_documents, members,
          lambda: parts("utf-16", 0), lambda: parts("utf-8", 2), names_of_symbols, more_folds, completion, layout, limits, refused_words]
 for test in TESTS:
     test()

@@ -14,7 +14,7 @@ FAULTY = "{ hero(id) { name }"
 TEXT = 'type A { # 😀\n  "😀" b: C }\n'
 TYPES = ["comment", "keyword", "string", "number", "operator", "variable", "type", "property", "parameter", "enumMember", "function", "decorator"]
 SERVED = ["documentSymbolProvider", "foldingRangeProvider", "selectionRangeProvider", "documentFormattingProvider", "documentRangeFormattingProvider",
-          "definitionProvider", "referencesProvider", "documentHighlightProvider", "renameProvider", "hoverProvider"]
+          "definitionProvider", "referencesProvider", "documentHighlightProvider", "renameProvider", "hoverProvider", "workspaceSymbolProvider"]
 # Two folds of brackets, and one of a description.
 FOLDED = '{ a(\n b: 1\n )\n}\n"""\nd\n"""\nscalar S\n'
 # The keywords with which a definition begins.
@@ -128,7 +128,9 @@ CONVERSATION = [
     (request(15, "textDocument/definition", textDocument=DOCUMENT, position=at(0, 2)), result(15, None)),
     (frame(b'{"jsonrpc":"2.0","id":16,'), error(None, -32700, "not JSON")),
     (b"Content-Length: two\r\n\r\n", b""),
-    (request(17, "workspace/symbol", query=""), error(17, -32601, "method not found")),
+    (request(17, "workspace/executeCommand"), error(17, -32601, "method not found")),
+    (request("search", "workspace/symbol", query="s"),
+     result("search", [{"name": "S", "kind": 26, "location": {"uri": URI, "range": span(7, 7, 8)}}])),
     (notification("textDocument/didClose", textDocument=DOCUMENT), published(None)),
     (request(18, "textDocument/hover", textDocument=DOCUMENT, position=at(0, 0)), error(18, -32602, "no such document is open")),
     (request(19, "shutdown"), result(19, None)),

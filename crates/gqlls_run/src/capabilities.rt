@@ -15,7 +15,7 @@ use rpc_messages::{Piece, answer};
 use std::alloc::{AllocError, Global};
 
 // What is served, up to the types of tokens.
-const SERVED: [Piece<'static>; 54] = [
+const SERVED: [Piece<'static>; 56] = [
     Piece::Key("documentSymbolProvider"),
     Piece::Flag(true),
     Piece::Key("foldingRangeProvider"),
@@ -35,6 +35,8 @@ const SERVED: [Piece<'static>; 54] = [
     Piece::Key("renameProvider"),
     Piece::Flag(true),
     Piece::Key("hoverProvider"),
+    Piece::Flag(true),
+    Piece::Key("workspaceSymbolProvider"),
     Piece::Flag(true),
     Piece::Key("textDocumentSync"),
     Piece::Object,

@@ -5,6 +5,7 @@ use apollo_parser::{
 use editor_answers::{BUILT_INS, NameKind, meaning_of, span_of};
 use editor_diagnostics::Positions;
 use rpc_messages::Piece;
+use schema_members::{Member, Schema, members_at};
 use std::alloc::{AllocError, Global};
 use std::collections::BTreeSet;
 
@@ -120,6 +121,17 @@ impl Front<'_> {
         Ok(taken_at(&tree, front.len()))
     }
 
+    // The fields, arguments and values that may come after the text, by the types of some documents.
+    fn members<'t>(self, roots: &[SyntaxNode<'t>]) -> Result<Vec<Member<'t>>, AllocError> {
+        let front = self.text;
+        let text = format!(in self.alloc; "{front}x")?;
+        let tree = Parser::within(text.as_str(), self.limits).parse(self.alloc)?;
+        match leaf_from(&tree, front.len()) {
+            Some(leaf) => members_at(self.alloc, Schema { roots }, leaf),
+            None => Ok(Vec::new(self.alloc)),
+        }
+    }
+
     // Whether the grammar takes a keyword after the text, which the words begin with.
     fn takes_keyword(self, words: &str) -> Result<bool, AllocError> {
         match self.taken(words)? {
@@ -186,19 +198,21 @@ fn push_names<'t>(
     Ok(())
 }
 
-// Adds the names of a kind that some documents define, each once. Those of variables are the first document's alone.
+// Adds the names of a kind that a document defines, and then those that others do, each once. Those of variables are the first document's alone.
 fn push_all_names<'t>(
     alloc: Global,
-    roots: &[SyntaxNode<'t>],
+    root: SyntaxNode<'t>,
+    others: &[SyntaxNode<'t>],
     kind: NameKind,
     found: &mut Vec<Candidate<'t>>,
 ) -> Result<(), AllocError> {
     let mut known = BTreeSet::new(alloc);
-    for root in roots {
+    push_names(root, kind, &mut known, found)?;
+    if kind == NameKind::Variable {
+        return Ok(());
+    }
+    for root in others {
         push_names(*root, kind, &mut known, found)?;
-        if kind == NameKind::Variable {
-            break;
-        }
     }
     Ok(())
 }
@@ -210,6 +224,36 @@ fn push_built_in<'t>(kind: NameKind, found: &mut Vec<Candidate<'t>>) -> Result<(
             found.push(Candidate {
                 label: built_in.name,
                 number: name_number(kind),
+            })?;
+        }
+    }
+    Ok(())
+}
+
+// The protocol's number of the sort of thing that a member is.
+fn member_number(member: Member<'_>) -> usize {
+    let kind = member.node.kind();
+    if kind.is(SyntaxKind::FIELD_DEFINITION) {
+        5
+    } else if kind.is(SyntaxKind::ENUM_VALUE_DEFINITION) {
+        20
+    } else {
+        10
+    }
+}
+
+// Adds the names of members, each once.
+fn push_members<'t>(
+    alloc: Global,
+    members: &[Member<'t>],
+    found: &mut Vec<Candidate<'t>>,
+) -> Result<(), AllocError> {
+    let mut known = BTreeSet::new(alloc);
+    for member in members {
+        if known.insert(member.name())? {
+            found.push(Candidate {
+                label: member.name(),
+                number: member_number(*member),
             })?;
         }
     }
@@ -238,6 +282,7 @@ fn last_front(
 fn completions<'t>(
     alloc: Global,
     before: &str,
+    root: SyntaxNode<'t>,
     roots: &[SyntaxNode<'t>],
     limits: Limits,
 ) -> Result<Vec<Candidate<'t>>, AllocError> {
@@ -245,9 +290,11 @@ fn completions<'t>(
     let Some(front) = last_front(alloc, before, limits)? else {
         return Ok(found);
     };
+    let members = front.members(roots)?;
+    push_members(alloc, members.as_slice(), &mut found)?;
     push_keywords(front, &mut found)?;
     if let Some(kind) = front.name()? {
-        push_all_names(alloc, roots, kind, &mut found)?;
+        push_all_names(alloc, root, roots, kind, &mut found)?;
         push_built_in(kind, &mut found)?;
     }
     Ok(found)
@@ -285,18 +332,19 @@ fn push_candidates<'p>(
     pieces.extend_from_slice(&[Piece::EndArray])
 }
 
-/// Adds the result of completion at a byte offset: the words that may be there instead of the one that ends there. The roots are those of the document
-/// and then of others, whose names may be there too.
+/// Adds the result of completion at a byte offset: the words that may be there instead of the one that ends there. The root is the document's, and
+/// the roots are those of all, whose names may be there too.
 pub(crate) fn push_completions<'p>(
     alloc: Global,
     pieces: &mut Vec<Piece<'p>>,
+    root: SyntaxNode<'p>,
     roots: &[SyntaxNode<'p>],
     positions: &Positions<'_>,
     offset: usize,
     limits: Limits,
 ) -> Result<(), AllocError> {
     let before = front_of(positions.text, offset);
-    let found = completions(alloc, before, roots, limits)?;
+    let found = completions(alloc, before, root, roots, limits)?;
     let range = positions.range(before.len(), offset);
     push_candidates(pieces, &range, found.as_slice())
 }

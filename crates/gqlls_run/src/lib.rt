@@ -13,6 +13,7 @@ mod layout;
 mod parameters;
 mod questions;
 mod running;
+mod searching;
 mod server;
 
 pub use apollo_parser::Limits;

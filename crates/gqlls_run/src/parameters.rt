@@ -185,6 +185,14 @@ pub(crate) fn changes_of<'a>(
     }
 }
 
+/// The text that the names of symbols are to have; empty for all.
+pub(crate) fn query_of<'a>(params: &Value<'a>) -> &'a str {
+    match params.get("query") {
+        Some(query) => query.as_str().unwrap_or(""),
+        None => "",
+    }
+}
+
 fn include_declaration(params: &Value<'_>) -> Option<bool> {
     params.get("context")?.get("includeDeclaration")?.as_bool()
 }

@@ -9,7 +9,7 @@ use crate::documents::Document;
 use crate::formatting::answer_layout;
 use crate::layout::format_part;
 use crate::parameters::{asks_for_definition, new_name_of, offset_of, offsets_of, span_of};
-use apollo_parser::{Limits, SyntaxNode};
+use apollo_parser::{Limits, SyntaxKind, SyntaxNode, SyntaxToken, TokenAtOffset};
 use editor_answers::{
     Elsewhere, Span, answer_hover, answer_symbols, answer_tokens, definition, definition_elsewhere,
     push_folds, push_highlights, push_location, push_references, push_rename, push_selections,
@@ -17,6 +17,7 @@ use editor_answers::{
 use editor_diagnostics::Positions;
 use json::Value;
 use rpc_messages::{Piece, answer, code, refusal};
+use schema_members::{Schema, member_at};
 use std::alloc::{AllocError, Global};
 use std::collections::BTreeMap;
 
@@ -84,6 +85,22 @@ struct Definer<'a> {
     span: Span,
 }
 
+// The name at a byte offset, or that ends there.
+fn name_at<'a>(root: SyntaxNode<'a>, offset: usize) -> Option<SyntaxToken<'a>> {
+    let leaf = match root.token_at_offset(offset) {
+        TokenAtOffset::None => return None,
+        TokenAtOffset::Single(leaf) => leaf,
+        TokenAtOffset::Between(left, right) => {
+            if left.kind().is(SyntaxKind::IDENT) {
+                left
+            } else {
+                right
+            }
+        }
+    };
+    Some(leaf)
+}
+
 impl<'a> Asked<'a, '_, '_> {
     // The first open document that defines the name at a byte offset, which this one doesn't define.
     fn definer(self, offset: usize) -> Option<Definer<'a>> {
@@ -99,12 +116,44 @@ impl<'a> Asked<'a, '_, '_> {
         None
     }
 
+    // The open document that defines the field, the argument or the value at a byte offset, by the types of all.
+    fn definer_of_member(self, offset: usize) -> Result<Option<Definer<'a>>, AllocError> {
+        let roots = self.roots()?;
+        let schema = Schema {
+            roots: roots.as_slice(),
+        };
+        let Some(leaf) = name_at(self.root, offset) else {
+            return Ok(None);
+        };
+        let Some(member) = member_at(self.alloc, schema, leaf)? else {
+            return Ok(None);
+        };
+        let Some((uri, document)) = self.documents.iter().nth(member.document) else {
+            return Ok(None);
+        };
+        let start = member.offset();
+        let end = start.saturating_add(member.name().len());
+        Ok(Some(Definer {
+            uri: uri.as_str(),
+            document,
+            span: Span { start, end },
+        }))
+    }
+
+    // The document that defines the name at a byte offset, which this one doesn't define by the name alone.
+    fn any_definer(self, offset: usize) -> Result<Option<Definer<'a>>, AllocError> {
+        match self.definer(offset) {
+            Some(definer) => Ok(Some(definer)),
+            None => self.definer_of_member(offset),
+        }
+    }
+
     // Adds the result of definition: the location of the definition of the name at a byte offset, in this document or another, or null.
     fn push_definition(self, pieces: &mut Vec<Piece<'a>>, offset: usize) -> Result<(), AllocError> {
         if let Some(span) = definition(self.root, offset) {
             return push_location(pieces, self.positions, self.uri, span);
         }
-        match self.definer(offset) {
+        match self.any_definer(offset)? {
             Some(definer) => {
                 let positions = definer.document.positions(self.alloc)?;
                 push_location(pieces, &positions, definer.uri, definer.span)
@@ -113,23 +162,24 @@ impl<'a> Asked<'a, '_, '_> {
         }
     }
 
-    // The document that defines the name at a byte offset, where it is another one.
-    fn elsewhere(self, offset: usize) -> Option<Elsewhere<'a>> {
+    // Where a document defines the name at a byte offset, if this one doesn't by the name alone.
+    fn elsewhere(self, offset: usize) -> Result<Option<Elsewhere<'a>>, AllocError> {
         if definition(self.root, offset).is_some() {
-            return None;
+            return Ok(None);
         }
-        let definer = self.definer(offset)?;
-        Some(Elsewhere {
+        let Some(definer) = self.any_definer(offset)? else {
+            return Ok(None);
+        };
+        Ok(Some(Elsewhere {
             source: definer.document.content.text(),
             root: definer.document.tree.root(),
             offset: definer.span.start,
-        })
+        }))
     }
 
-    // The roots of the trees of this document, and then of all.
+    // The roots of the trees of all documents, in the order of their names.
     fn roots(self) -> Result<Vec<SyntaxNode<'a>>, AllocError> {
         let mut roots = Vec::new(self.alloc);
-        roots.push(self.root)?;
         for document in self.documents.values() {
             roots.push(document.tree.root())?;
         }
@@ -267,17 +317,11 @@ impl<'a> Asked<'a, '_, '_> {
         requires { HasNumbers (value_view id.now) }
         ensures { IfOk result (λ body. IsAnswer (value_view id.now) body.items) }
     {
-        match offset_of(self.positions, self.params) {
-            Some(offset) => answer_hover(
-                self.alloc,
-                id,
-                self.root,
-                self.positions,
-                offset,
-                self.elsewhere(offset),
-            ),
-            None => self.refused(id),
-        }
+        let Some(offset) = offset_of(self.positions, self.params) else {
+            return self.refused(id);
+        };
+        let elsewhere = self.elsewhere(offset)?;
+        answer_hover(self.alloc, id, self.root, self.positions, offset, elsewhere)
     }
 
     fn completion(self, id: &Value<'_>) -> Result<Vec<u8>, AllocError>
@@ -292,6 +336,7 @@ impl<'a> Asked<'a, '_, '_> {
         push_completions(
             self.alloc,
             &mut pieces,
+            self.root,
             roots.as_slice(),
             self.positions,
             offset,

@@ -13,8 +13,9 @@ ghost use Rattle.gqlls_run.specs.State.{StepsOf, dialogue_of};
 use crate::capabilities::answer_initialize;
 use crate::documents::{Document, insert};
 use crate::formatting::answer_formatting;
-use crate::parameters::{changes_of, encoding_of, text_of, uri_of, version_of};
+use crate::parameters::{changes_of, encoding_of, query_of, text_of, uri_of, version_of};
 use crate::questions::{answer_question, question_of};
+use crate::searching::answer_search;
 use apollo_parser::Limits;
 use editor_diagnostics::withdrawal;
 use json::Value;
@@ -93,6 +94,9 @@ impl Server {
         }
         if method == "textDocument/formatting" {
             return self.layout(alloc, id, params);
+        }
+        if method == "workspace/symbol" {
+            return answer_search(alloc, id, &self.documents, query_of(params));
         }
         let Some(question) = question_of(method) else {
             return refused(alloc, id, code::METHOD_NOT_FOUND, "method not found");

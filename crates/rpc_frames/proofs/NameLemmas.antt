@@ -51,8 +51,9 @@ named_by : (bytes frame body rest : List ℕ) (fields : List Field) (last : Line
 named_by bytes frame body rest [] last n reads says short eq = absurd (no-length n says)
 named_by bytes frame body rest (field ∷ fields) last n reads says short eq =
     let tail : List ℕ = field.raw ++ (print_end field.end ++ (flat_map print_field fields ++ print_end last)) in
+    let section = reads.1 ∙ ap (λ (x : List ℕ). x ++ body) (front field fields last) in
     let is : bytes ≡ (field.name ++ 58 ∷ tail) ++ (body ++ rest) =
-    eq ∙ ap (λ (x : List ℕ). x ++ rest) (reads.1 ∙ ap (λ (x : List ℕ). x ++ body) (front field fields last)) ∙ append_assoc (field.name ++ 58 ∷ tail) body rest in
+    eq ∙ ap (λ (x : List ℕ). x ++ rest) section ∙ append_assoc (field.name ++ 58 ∷ tail) body rest in
     let checked : IsField field = reads.0 0 field (omega arith) in (
       length field.name,
       named bytes field.name tail (body ++ rest) is checked.name.0 (subst (λ (x : List ℕ). length x ≤ 4096) (front field fields last) short)

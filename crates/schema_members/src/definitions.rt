@@ -1,0 +1,227 @@
+// The definitions of some documents.
+use apollo_cst_core::{CstNode, child};
+use apollo_cst_executable::{EnumValue, Name, NamedType};
+use apollo_tree::{SyntaxKind, SyntaxNode};
+use std::alloc::{AllocError, Global};
+
+/// The roots of the trees of some documents, in which types and directives are looked for. The first that defines a name counts.
+#[derive(Clone, Copy)]
+pub struct Schema<'s, 't> {
+    pub roots: &'s [SyntaxNode<'t>],
+}
+
+/// A field, an argument, an input field or a value, where it is defined, and the index of the root that this is below.
+#[derive(Clone, Copy)]
+pub struct Member<'t> {
+    pub document: usize,
+    pub node: SyntaxNode<'t>,
+}
+
+const TYPES: [SyntaxKind; 10] = [
+    SyntaxKind::OBJECT_TYPE_DEFINITION,
+    SyntaxKind::INTERFACE_TYPE_DEFINITION,
+    SyntaxKind::UNION_TYPE_DEFINITION,
+    SyntaxKind::ENUM_TYPE_DEFINITION,
+    SyntaxKind::INPUT_OBJECT_TYPE_DEFINITION,
+    SyntaxKind::OBJECT_TYPE_EXTENSION,
+    SyntaxKind::INTERFACE_TYPE_EXTENSION,
+    SyntaxKind::UNION_TYPE_EXTENSION,
+    SyntaxKind::ENUM_TYPE_EXTENSION,
+    SyntaxKind::INPUT_OBJECT_TYPE_EXTENSION,
+];
+
+const DIRECTIVES: [SyntaxKind; 1] = [SyntaxKind::DIRECTIVE_DEFINITION];
+
+const SCHEMAS: [SyntaxKind; 2] = [SyntaxKind::SCHEMA_DEFINITION, SyntaxKind::SCHEMA_EXTENSION];
+
+const MEMBERS: [SyntaxKind; 3] = [
+    SyntaxKind::FIELD_DEFINITION,
+    SyntaxKind::INPUT_VALUE_DEFINITION,
+    SyntaxKind::ENUM_VALUE_DEFINITION,
+];
+
+fn is_one_of(kind: SyntaxKind, kinds: &[SyntaxKind]) -> bool {
+    kinds.iter().any(|one| kind.is(*one))
+}
+
+/// The name in a node; empty where there is none.
+pub(crate) fn name_in<'t>(node: SyntaxNode<'t>) -> &'t str {
+    match child::<Name<'t>>(&node) {
+        Some(name) => name.text().as_str(),
+        None => "",
+    }
+}
+
+impl<'t> Member<'t> {
+    // The node of its name.
+    fn name_node(self) -> Option<SyntaxNode<'t>> {
+        if let Some(value) = child::<EnumValue<'t>>(&self.node) {
+            return Some(*value.syntax());
+        }
+        let name = child::<Name<'t>>(&self.node)?;
+        Some(*name.syntax())
+    }
+
+    /// Its name; empty where that is missing.
+    pub fn name(self) -> &'t str {
+        match self.name_node() {
+            Some(name) => name.text(),
+            None => "",
+        }
+    }
+
+    /// The byte offset at which its name begins.
+    pub fn offset(self) -> usize {
+        match self.name_node() {
+            Some(name) => name.text_range().start(),
+            None => self.node.text_range().start(),
+        }
+    }
+
+    /// The name of its type, whatever lists it is in; empty for a value.
+    pub(crate) fn type_name(self) -> &'t str {
+        type_in(self.node)
+    }
+}
+
+/// The name of the type that a node gives; empty where it gives none.
+pub(crate) fn type_in<'t>(node: SyntaxNode<'t>) -> &'t str {
+    for part in node.children() {
+        if is_one_of(
+            part.kind(),
+            &[
+                SyntaxKind::NAMED_TYPE,
+                SyntaxKind::LIST_TYPE,
+                SyntaxKind::NON_NULL_TYPE,
+                SyntaxKind::TYPE_CONDITION,
+            ],
+        ) {
+            return named_type(part);
+        }
+    }
+    ""
+}
+
+// The name of the first type in a node.
+fn named_type<'t>(node: SyntaxNode<'t>) -> &'t str {
+    for part in node.descendants() {
+        if part.kind().is(SyntaxKind::NAMED_TYPE) {
+            return name_in(part);
+        }
+    }
+    ""
+}
+
+// Adds the members in a block of a definition.
+fn push_block<'t>(
+    document: usize,
+    block: SyntaxNode<'t>,
+    found: &mut Vec<Member<'t>>,
+) -> Result<(), AllocError> {
+    for node in block.children() {
+        if is_one_of(node.kind(), &MEMBERS) {
+            found.push(Member { document, node })?;
+        }
+    }
+    Ok(())
+}
+
+/// Adds the members of a definition: the fields or values of a type, the arguments of a field or of a directive.
+pub(crate) fn push_members<'t>(
+    document: usize,
+    definition: SyntaxNode<'t>,
+    found: &mut Vec<Member<'t>>,
+) -> Result<(), AllocError> {
+    for block in definition.children() {
+        push_block(document, block, found)?;
+    }
+    Ok(())
+}
+
+// Adds the members of the definitions of some kinds that have a name, in one document.
+fn push_named<'t>(
+    document: usize,
+    root: SyntaxNode<'t>,
+    kinds: &[SyntaxKind],
+    name: &str,
+    found: &mut Vec<Member<'t>>,
+) -> Result<(), AllocError> {
+    for definition in root.children() {
+        if is_one_of(definition.kind(), kinds) && name_in(definition) == name {
+            push_members(document, definition, found)?;
+        }
+    }
+    Ok(())
+}
+
+// The type of an operation in a definition of the schema.
+fn root_type_in<'t>(definition: SyntaxNode<'t>, operation: &str) -> Option<&'t str> {
+    for part in definition.children() {
+        if part.kind().is(SyntaxKind::ROOT_OPERATION_TYPE_DEFINITION)
+            && part.text().starts_with(operation)
+        {
+            return Some(type_in(part));
+        }
+    }
+    None
+}
+
+// The type of an operation in a document.
+fn root_type_of<'t>(root: SyntaxNode<'t>, operation: &str) -> Option<&'t str> {
+    for definition in root.children() {
+        if is_one_of(definition.kind(), &SCHEMAS)
+            && let Some(name) = root_type_in(definition, operation)
+        {
+            return Some(name);
+        }
+    }
+    None
+}
+
+impl<'t> Schema<'_, 't> {
+    // The members of all definitions of some kinds that have a name.
+    fn members_named(
+        self,
+        alloc: Global,
+        kinds: &[SyntaxKind],
+        name: &str,
+    ) -> Result<Vec<Member<'t>>, AllocError> {
+        let mut found = Vec::new(alloc);
+        for (document, root) in self.roots.iter().enumerate() {
+            push_named(document, *root, kinds, name, &mut found)?;
+        }
+        Ok(found)
+    }
+
+    /// The members of a type, and of its extensions, by its name.
+    pub(crate) fn members_of_type(
+        self,
+        alloc: Global,
+        name: &str,
+    ) -> Result<Vec<Member<'t>>, AllocError> {
+        self.members_named(alloc, &TYPES, name)
+    }
+
+    /// The arguments of a directive, by its name.
+    pub(crate) fn arguments_of_directive(
+        self,
+        alloc: Global,
+        name: &str,
+    ) -> Result<Vec<Member<'t>>, AllocError> {
+        self.members_named(alloc, &DIRECTIVES, name)
+    }
+
+    /// The name of the type in which an operation begins: `query`, `mutation` or `subscription` (GraphQL, October 2021, section 3.3.1).
+    pub(crate) fn root_type(self, operation: &str) -> &'t str {
+        for root in self.roots {
+            if let Some(name) = root_type_of(*root, operation) {
+                return name;
+            }
+        }
+        match operation {
+            "mutation" => "Mutation",
+            "subscription" => "Subscription",
+            _ => "Query",
+        }
+    }
+}

@@ -1,0 +1,13 @@
+//! What the names of fields, arguments, input fields and values mean, by the types of some documents.
+//!
+//! These names have no definition by their text alone: `name` may be a field of many types. So the types of the places around a name are found first, from
+//! the operation, the fragment or the argument that it is in. Where the documents lack a type, there is no answer.
+//!
+//! `gqlls_run` calls `members_at` for completions, and `member_at` for a definition.
+#![tactic(auto)]
+
+mod definitions;
+mod places;
+
+pub use definitions::{Member, Schema};
+pub use places::{member_at, members_at};

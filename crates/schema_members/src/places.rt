@@ -1,0 +1,194 @@
+// The types of the places in a document.
+use crate::definitions::{Member, Schema, name_in, push_members, type_in};
+use apollo_cst_core::{CstNode, child};
+use apollo_cst_executable::OperationType;
+use apollo_tree::{SyntaxKind, SyntaxNode, SyntaxToken};
+use std::alloc::{AllocError, Global};
+
+// The member that has a name.
+fn named<'t>(members: &[Member<'t>], name: &str) -> Option<Member<'t>> {
+    for member in members {
+        if member.name() == name {
+            return Some(*member);
+        }
+    }
+    None
+}
+
+// The nodes of a kind that a node is or is in, the innermost first, up to a node of another list, and that node.
+#[derive(Drop)]
+struct Path<'t> {
+    nodes: Vec<SyntaxNode<'t>>,
+    end: Option<SyntaxNode<'t>>,
+}
+
+// Where the type of a selection set is said, or of a value.
+fn says_type(node: SyntaxNode<'_>) -> bool {
+    let kind = node.kind();
+    if kind.is(SyntaxKind::INLINE_FRAGMENT) {
+        return !type_in(node).is_empty();
+    }
+    kind.is(SyntaxKind::OPERATION_DEFINITION)
+        || kind.is(SyntaxKind::FRAGMENT_DEFINITION)
+        || kind.is(SyntaxKind::ARGUMENT)
+        || kind.is(SyntaxKind::VARIABLE_DEFINITION)
+        || kind.is(SyntaxKind::INPUT_VALUE_DEFINITION)
+}
+
+// The path from a node to where a type is said.
+fn path_from<'t>(
+    alloc: Global,
+    from: SyntaxNode<'t>,
+    step: SyntaxKind,
+) -> Result<Path<'t>, AllocError> {
+    let mut nodes = Vec::new(alloc);
+    for node in from.ancestors() {
+        if says_type(node) {
+            return Ok(Path {
+                nodes,
+                end: Some(node),
+            });
+        }
+        if node.kind().is(step) {
+            nodes.push(node)?;
+        }
+    }
+    Ok(Path { nodes, end: None })
+}
+
+// What a search needs: memory, and the documents with the types.
+#[derive(Clone, Copy)]
+struct Search<'s, 't> {
+    alloc: Global,
+    schema: Schema<'s, 't>,
+}
+
+impl<'t> Search<'_, 't> {
+    // The members of the type that is reached from another by its members of some names, the last of them first.
+    fn members_below(
+        self,
+        start: &str,
+        nodes: &[SyntaxNode<'_>],
+    ) -> Result<Vec<Member<'t>>, AllocError> {
+        let mut members = self.schema.members_of_type(self.alloc, start)?;
+        for node in nodes.iter().rev() {
+            let Some(member) = named(members.as_slice(), name_in(*node)) else {
+                return Ok(Vec::new(self.alloc));
+            };
+            members = self.schema.members_of_type(self.alloc, member.type_name())?;
+        }
+        Ok(members)
+    }
+
+    // The fields that may be in a selection set.
+    fn selected(self, set: SyntaxNode<'_>) -> Result<Vec<Member<'t>>, AllocError> {
+        let path = path_from(self.alloc, set, SyntaxKind::FIELD)?;
+        let Some(end) = path.end else {
+            return Ok(Vec::new(self.alloc));
+        };
+        if end.kind().is(SyntaxKind::OPERATION_DEFINITION) {
+            let root = self.schema.root_type(operation_word(end));
+            return self.members_below(root, path.nodes.as_slice());
+        }
+        self.members_below(type_in(end), path.nodes.as_slice())
+    }
+
+    // The arguments of a field.
+    fn arguments_of_field(self, field: SyntaxNode<'_>) -> Result<Vec<Member<'t>>, AllocError> {
+        let mut found = Vec::new(self.alloc);
+        let Some(set) = field.parent() else {
+            return Ok(found);
+        };
+        let fields = self.selected(set)?;
+        if let Some(member) = named(fields.as_slice(), name_in(field)) {
+            push_members(member.document, member.node, &mut found)?;
+        }
+        Ok(found)
+    }
+
+    // The arguments that may be where an argument is: of its field or of its directive.
+    fn arguments(self, argument: SyntaxNode<'_>) -> Result<Vec<Member<'t>>, AllocError> {
+        match owner_of(argument) {
+            Some(owner) if owner.kind().is(SyntaxKind::FIELD) => self.arguments_of_field(owner),
+            Some(owner) => self
+                .schema
+                .arguments_of_directive(self.alloc, name_in(owner)),
+            None => Ok(Vec::new(self.alloc)),
+        }
+    }
+
+    // The members of the type of a value: the values of an enum, or the fields of an input object.
+    fn members_of_value(self, value: SyntaxNode<'_>) -> Result<Vec<Member<'t>>, AllocError> {
+        let path = path_from(self.alloc, value, SyntaxKind::OBJECT_FIELD)?;
+        let Some(end) = path.end else {
+            return Ok(Vec::new(self.alloc));
+        };
+        if !end.kind().is(SyntaxKind::ARGUMENT) {
+            return self.members_below(type_in(end), path.nodes.as_slice());
+        }
+        let arguments = self.arguments(end)?;
+        match named(arguments.as_slice(), name_in(end)) {
+            Some(argument) => self.members_below(argument.type_name(), path.nodes.as_slice()),
+            None => Ok(Vec::new(self.alloc)),
+        }
+    }
+
+    // The members that may be what a node names.
+    fn members_for(self, node: SyntaxNode<'_>) -> Result<Vec<Member<'t>>, AllocError> {
+        let Some(parent) = node.parent() else {
+            return Ok(Vec::new(self.alloc));
+        };
+        let kind = node.kind();
+        if kind.is(SyntaxKind::FIELD) {
+            self.selected(parent)
+        } else if kind.is(SyntaxKind::ARGUMENT) {
+            self.arguments(node)
+        } else if kind.is(SyntaxKind::OBJECT_FIELD) {
+            self.members_of_value(parent)
+        } else if kind.is(SyntaxKind::ENUM_VALUE) {
+            self.members_of_value(node)
+        } else {
+            Ok(Vec::new(self.alloc))
+        }
+    }
+}
+
+// The word with which an operation begins, `query` where there is none.
+fn operation_word<'p>(operation: SyntaxNode<'p>) -> &'p str {
+    match child::<OperationType<'p>>(&operation) {
+        Some(word) => word.syntax().text(),
+        None => "query",
+    }
+}
+
+// The field or the directive that an argument is for.
+fn owner_of<'p>(argument: SyntaxNode<'p>) -> Option<SyntaxNode<'p>> {
+    argument.parent()?.parent()
+}
+
+/// The members that may be at the place of a name, a leaf of any tree: the fields of the type that it selects from, the arguments of its field or its
+/// directive, the fields of its input object, or the values of its enum. They are in the order of the documents. There are none at another place, or where
+/// the documents lack a type. It fails only where memory is refused.
+pub fn members_at<'t>(
+    alloc: Global,
+    schema: Schema<'_, 't>,
+    leaf: SyntaxToken<'_>,
+) -> Result<Vec<Member<'t>>, AllocError> {
+    let Some(name) = leaf.parent() else {
+        return Ok(Vec::new(alloc));
+    };
+    match name.parent() {
+        Some(node) => Search { alloc, schema }.members_for(node),
+        None => Ok(Vec::new(alloc)),
+    }
+}
+
+/// The member that is at the place of a name and has this name: its definition. It fails only where memory is refused.
+pub fn member_at<'t>(
+    alloc: Global,
+    schema: Schema<'_, 't>,
+    leaf: SyntaxToken<'_>,
+) -> Result<Option<Member<'t>>, AllocError> {
+    let members = members_at(alloc, schema, leaf)?;
+    Ok(named(members.as_slice(), leaf.text()))
+}
