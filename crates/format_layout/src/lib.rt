@@ -19,4 +19,5 @@ mod walk;
 mod writing;
 
 pub use elements::Elements;
+pub use format_strings::WriteError;
 pub use writing::{format_document, format_text};

@@ -13,10 +13,10 @@ use crate::elements::Elements;
 use crate::gaps::{Gaps, column_after};
 use crate::size::{QUOTES, columns, has_lines};
 use apollo_lexer::{Lexer, Token};
-use format_strings::spelled;
+use format_strings::{WriteError, spelled};
 use format_tokens::{Gap, Layout, is_kept};
 use lexical_grammar::TokenKind;
-use std::alloc::{AllocError, Allocator};
+use std::alloc::Allocator;
 
 // Writes the tokens of a text.
 #[derive(Drop)]
@@ -24,6 +24,8 @@ struct Writer<A: Allocator> {
     alloc: A,
     layout: Layout<A>,
     gaps: Gaps<A>,
+    // how many bytes it may write
+    most: usize,
     // how many spaces the line begins with
     indent: u16,
     // the column in which the last token ends
@@ -32,7 +34,7 @@ struct Writer<A: Allocator> {
 
 impl<A: Allocator + Copy> Writer<A> {
     // Writes a significant token or a comment as it is, or, where it need not stay so, another block string with the same value.
-    fn spell(&mut self, kind: TokenKind, text: &str, stays: bool) -> Result<(), AllocError>
+    fn spell(&mut self, kind: TokenKind, text: &str, stays: bool) -> Result<(), WriteError>
         requires token { Tok kind text.now }
         requires kept { is_kept_kind kind ≡ true }
         ensures { OnOk result (AddsSame (string_bytes self.old.layout.text) self.old.layout.edge (record { kind = kind; text = text.now }) (string_bytes self.new.layout.text) self.new.layout.edge) }
@@ -40,6 +42,7 @@ impl<A: Allocator + Copy> Writer<A> {
         if kind == TokenKind::StringValue && !stays && has_lines(text) {
             let style = Indented {
                 spaces: usize::from(self.indent),
+                most: self.most,
             };
             if let Some(other) = spelled(self.alloc, text, &style)? {
                 self.layout.token(TokenKind::StringValue, other.as_str())?;
@@ -51,7 +54,7 @@ impl<A: Allocator + Copy> Writer<A> {
     }
 
     // Writes white space or a comma where these stay as they are in the source.
-    fn write_ignored(&mut self, kind: TokenKind, text: &str) -> Result<(), AllocError>
+    fn write_ignored(&mut self, kind: TokenKind, text: &str) -> Result<(), WriteError>
         requires token { IsTokenText kind text.now }
         requires ignored { is_kept_kind kind ≡ false }
         ensures { OnOk result (Keeps (string_bytes self.old.layout.text) self.old.layout.edge (string_bytes self.new.layout.text) self.new.layout.edge) }
@@ -59,7 +62,8 @@ impl<A: Allocator + Copy> Writer<A> {
         if kind == TokenKind::Eof || !self.gaps.keeps_blanks() {
             return Ok(());
         }
-        self.layout.ignored(kind, text)
+        self.layout.ignored(kind, text)?;
+        Ok(())
     }
 
     // The column in which a token ends that begins in a column.
@@ -76,18 +80,19 @@ impl<A: Allocator + Copy> Writer<A> {
 
     // Writes the gap before a token.
     #[inline(always)]
-    fn write_gap(&mut self, gap: Gap) -> Result<(), AllocError>
+    fn write_gap(&mut self, gap: Gap) -> Result<(), WriteError>
         ensures { OnOk result (Keeps (string_bytes self.old.layout.text) self.old.layout.edge (string_bytes self.new.layout.text) self.new.layout.edge) }
     {
         if gap.lines > 0 {
             self.indent = gap.spaces;
         }
         self.column = column_after(gap, self.column);
-        self.layout.gap(gap)
+        self.layout.gap(gap)?;
+        Ok(())
     }
 
     // Writes a token with the gap before it, unless it is white space, a comma or the end.
-    fn write(&mut self, token: Token<'_>) -> Result<(), AllocError>
+    fn write(&mut self, token: Token<'_>) -> Result<(), WriteError>
         requires { IsTokenText token.kind token.text.now }
         ensures { OnOk result (AddsSame (string_bytes self.old.layout.text) self.old.layout.edge (record { kind = token.entry.kind; text = token.entry.text.now }) (string_bytes self.new.layout.text) self.new.layout.edge) }
     {
@@ -104,23 +109,34 @@ impl<A: Allocator + Copy> Writer<A> {
         Ok(())
     }
 
+    // Fails where too many bytes are written.
+    fn check_length(&self) -> Result<(), WriteError> {
+        if self.layout.len() > self.most {
+            return Err(WriteError::TooLong);
+        }
+        Ok(())
+    }
+
     // Ends the last line, if there is one.
-    fn finish(&mut self) -> Result<(), AllocError>
+    fn finish(&mut self) -> Result<(), WriteError>
         ensures { OnOk result (Keeps (string_bytes self.old.layout.text) self.old.layout.edge (string_bytes self.new.layout.text) self.new.layout.edge) }
     {
         if self.gaps.is_empty() {
             return Ok(());
         }
-        self.layout.line()
+        self.layout.line()?;
+        Ok(())
     }
 }
 
-// Writes the tokens and the comments of a text with these gaps before them, whatever these are.
+// Writes the tokens and the comments of a text with these gaps before them, whatever these are. It stops after the token with which there are too many
+// bytes.
 fn write<A: Allocator + Copy>(
     alloc: A,
     source: &str,
     gaps: Gaps<A>,
-) -> Result<String<A>, AllocError>
+    most: usize,
+) -> Result<String<A>, WriteError>
     requires { length (items_of source.now) ≤ usize_max }
     ensures { IfOk result (λ text. HoldsSame (string_bytes text) (Kept (items_of source.now))) }
 {
@@ -128,41 +144,51 @@ fn write<A: Allocator + Copy>(
         alloc,
         layout: Layout::with_capacity(alloc, source.len())?,
         gaps,
+        most,
         indent: 0,
         column: 0,
     };
     for item in Lexer::new(source) {
         if let Ok(token) = item {
             writer.write(token)?;
+            writer.check_length()?;
         }
     }
     writer.finish()?;
     Ok(writer.layout.finish())
 }
 
-/// The significant tokens and the comments of a text with another layout. Its tree has these elements. It fails only where memory is refused.
+/// The significant tokens and the comments of a text with another layout, of at most `most` bytes. Its tree has these elements. It fails where memory is
+/// refused, or the other layout has more bytes: then it has stopped after at most twice as many, a token and a gap.
 pub fn format_text<E: Elements, A: Allocator + Copy>(
     alloc: A,
     source: &str,
     elements: &E,
-) -> Result<String<A>, AllocError>
+    most: usize,
+) -> Result<String<A>, WriteError>
     requires { length (items_of source.now) ≤ usize_max }
-    ensures { IfOk result (λ text. HoldsSame (string_bytes text) (Kept (items_of source.now))) }
+    ensures same { IfOk result (λ text. HoldsSame (string_bytes text) (Kept (items_of source.now))) }
+    ensures most { IfOk result (λ text. length (string_bytes text) ≤ most) }
 {
     let gaps = Gaps::of(alloc, source, elements)?;
-    let text = write(alloc, source, gaps)?;
+    let text = write(alloc, source, gaps, most)?;
+    if text.len() > most {
+        return Err(WriteError::TooLong);
+    }
     Ok(text)
 }
 
-/// The document with another layout. Its tree has these elements. It fails only where memory is refused.
+/// The document with another layout, of at most `most` bytes, as `format_text` has it.
 pub fn format_document<E: Elements, A: Allocator + Copy>(
     alloc: A,
     source: &str,
     elements: &E,
-) -> Result<String<A>, AllocError>
+    most: usize,
+) -> Result<String<A>, WriteError>
     requires { IsSentence source.now }
-    ensures { IfOk result (λ text. Formatted source.now (string_bytes text)) }
+    ensures formatted { IfOk result (λ text. Formatted source.now (string_bytes text)) }
+    ensures most { IfOk result (λ text. length (string_bytes text) ≤ most) }
 {
-    let text = format_text(alloc, source, elements)?;
+    let text = format_text(alloc, source, elements, most)?;
     Ok(text)
 }

@@ -9,4 +9,4 @@ mod spelling;
 mod style;
 
 pub use spelling::{is_string, spelled};
-pub use style::BlockStyle;
+pub use style::{BlockStyle, WriteError};

@@ -5,7 +5,7 @@ ghost use Rattle.lexical_grammar.specs.Tokens.{IsString};
 ghost use Rattle.apollo_cst_core.specs.StringValues.{IsStringValue};
 ghost use Rattle.format_strings.specs.Respelled.{SameBlock};
 
-use crate::style::BlockStyle;
+use crate::style::{BlockStyle, WriteError};
 use apollo_cst_core::string_value;
 use apollo_lexer::{Lexer, answers_are_items};
 use lexical_grammar::TokenKind;
@@ -46,12 +46,12 @@ fn is_block_of<A: Allocator + Copy>(alloc: A, text: &str, value: &str) -> Result
 }
 
 /// The string spelled in a style, if it is a block string. `None` where it is to stay: a quoted string always, and a block string that is spelled
-/// so already. It fails only where memory is refused, or the style fails.
+/// so already. It fails where memory is refused, or the style fails.
 pub fn spelled<A: Allocator + Copy, S: BlockStyle>(
     alloc: A,
     text: &str,
     style: &S,
-) -> Result<Option<String<A>>, AllocError>
+) -> Result<Option<String<A>>, WriteError>
     requires { IsString text.now }
     ensures string { IfOk result (λ o. IfSome o (λ other. IsString (string_bytes other))) }
     // both are block strings, with one value

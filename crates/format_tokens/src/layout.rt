@@ -36,6 +36,14 @@ impl<A: Allocator> Layout<A> {
         })
     }
 
+    /// How many bytes it has written.
+    #[inline(always)]
+    pub fn len(&self) -> usize
+        ensures { result ≡ length (string_bytes self.now.text) }
+    {
+        self.text.len()
+    }
+
     // Whether this line feed or space may follow: white space goes on, and other tokens it has to follow directly.
     #[inline(always)]
     fn takes_blank(&self, byte: u8) -> bool

@@ -164,10 +164,14 @@ same-words (a ∷ more) (b ∷ bs) h s =
     let q = and_parts _ _ h in
     ap (λ l. b ∷ l) (same-words more bs q.1 s.1) ∙ ap (λ w. w ∷ more) (same-word a b q.0 s.0)
 
+abbrev pub no-definitions : (source : List ℕ) → IsUtf8 source → are_tokens (items_of source) ≡ true → Significant (items_of source) ≡ []
+    → HasNoDefinitions source
+no-definitions source u tokens none = record { items = items_of source; cut = is-cut source u; tokens = tokens; none = none }
+
 pub laid-out : (source text : List ℕ) → IsUtf8 source → are_tokens (items_of source) ≡ true → Significant (items_of source) ≡ []
     → HoldsSame text (Kept (items_of source)) → HasSameComments source text
 laid-out source text u tokens none h = record {
-  only = record { items = items_of source; cut = is-cut source u; tokens = tokens; none = none };
+  only = no-definitions source u tokens none;
   same = subst (Holds text) (same-words (Kept (items_of source)) h.others
       (comments-kept (items_of source) (ignored-of (items_of source) tokens none)) h.same) h.holds;
 }

@@ -1,5 +1,6 @@
 -- What follows from a parse with errors, and from one without.
 use Rattle.std.proofs.Common.{◌≡◌, ℕ, ◌≤◌, true, false, List, [], ◌∷◌, length, refl, sym, ap, ◌∙◌, eqb, arith}
+use Rattle.std.specs.Prelude.{Result, Ok, Err, IfErr}
 use Rattle.std.proofs.lemmas.Bool.Decides.{nat_tests}
 use Rattle.lexical_grammar.specs.Answers.{usize_max}
 use Rattle.apollo_lexer.specs.Diagnostics.{Diagnostic}
@@ -33,9 +34,17 @@ refused source r k t errors e some p = record {
 pub sentence-of : (source : List ℕ) (r k : ℕ) (t : Parsed) → k ≤ usize_max → t.errors ≡ [] → Promise source r k t → IsSentence source
 sentence-of source r k t le clean p = record { tree = bare (tree_of t.tree); sentence = (p.sound clean).0; within = (r, k, le, (p.sound clean).1) }
 
+pub is-document : (source : List ℕ) (r k : ℕ) (t : Parsed) → t.errors ≡ [] → Promise source r k t → IsDocument source r k
+is-document source r k t clean p = record { tree = bare (tree_of t.tree); sentence = (p.sound clean).0; within = (p.sound clean).1 }
+
+-- something that holds, of whatever error there is
+pub whatever-error : {T E P : Type 0} (r : Result T E) (x : E) → P → IfErr r (λ e. e ≡ x → P)
+whatever-error (Ok value) x p = tt
+whatever-error (Err e) x p = λ same. p
+
 pub formatted-by : (source text : List ℕ) (r k : ℕ) (t : Parsed) → t.errors ≡ [] → Promise source r k t → Formatted source text → IsFormatted source r k text
 formatted-by source text r k t clean p f = record {
-  document = record { tree = bare (tree_of t.tree); sentence = (p.sound clean).0; within = (p.sound clean).1 };
+  document = is-document source r k t clean p;
   formatted = f;
 }
 

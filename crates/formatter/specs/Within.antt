@@ -1,7 +1,8 @@
 -- Formatting within limits on the source and on its formatted text.
-use Rattle.std.specs.Prelude.{◌<◌, ℕ, List, length}
+use Rattle.std.specs.Prelude.{◌<◌, ◌≤◌, ℕ, List, length}
 use Rattle.apollo_lexer.specs.declared.limits.Limits.{Limits}
 use Rattle.lexical_grammar.specs.Reads.{items_of}
+use Rattle.formatter.specs.Comments.{HasNoDefinitions, HasSameComments}
 use Rattle.formatter.specs.Formatted.{IsDocument, IsFormatted}
 
 -- The source is a document within both limits, and this is its formatted text, which is within them too: it is not refused when it is formatted
@@ -14,4 +15,22 @@ pub record IsFormattedWithin (limits : Limits) (source text : List ℕ) : Type 0
 pub record IsOutgrown (limits : Limits) (source : List ℕ) : Type 0 where
   pub text : List ℕ
   pub formatted : IsFormatted source limits.recursion limits.tokens text
+  pub more : limits.tokens < length (items_of text)
+
+-- The source has no definitions, and no more items than are allowed.
+pub record HasCommentsAlone (limits : Limits) (source : List ℕ) : Type 0 where
+  pub none : HasNoDefinitions source
+  pub few : length (items_of source) ≤ limits.tokens
+
+-- It is such a source, and this is its formatted text, which has no more items than are allowed either.
+pub record AreCommentsWithin (limits : Limits) (source text : List ℕ) : Type 0 where
+  pub comments : HasSameComments source text
+  pub few : length (items_of source) ≤ limits.tokens
+  pub again : length (items_of text) ≤ limits.tokens
+
+-- It is such a source, but its formatted text has more items.
+pub record AreCommentsOutgrown (limits : Limits) (source : List ℕ) : Type 0 where
+  pub text : List ℕ
+  pub comments : HasSameComments source text
+  pub few : length (items_of source) ≤ limits.tokens
   pub more : limits.tokens < length (items_of text)

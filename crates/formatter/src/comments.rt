@@ -1,14 +1,16 @@
 // Texts without definitions.
-ghost use Rattle.std.specs.Prelude.{◌≡◌, ◌≤◌, true, false, not, [], None, length, IfOk, IfSome, string_bytes};
+ghost use Rattle.std.specs.Prelude.{◌≡◌, ◌≤◌, true, false, not, [], None, length, IfErr, IfOk, IfSome, string_bytes};
 ghost use Rattle.lexical_grammar.specs.Answers.{usize_max};
 ghost use Rattle.lexical_grammar.specs.Cut.{Significant, are_tokens, is_significant_kind};
 ghost use Rattle.lexical_grammar.specs.Reads.{items_of};
+ghost use Rattle.format_strings.specs.declared.style.WriteError.TheVariants.{TooLong};
 ghost use Rattle.formatter.specs.Comments.{HasNoDefinitions, HasSameComments};
 
 use crate::TreeElements;
 use apollo_parser::{Lexer, Parser, TokenKind};
 use format_layout::format_text;
-use std::alloc::{AllocError, Allocator};
+use format_strings::WriteError;
+use std::alloc::Allocator;
 
 fn is_ignored(kind: TokenKind) -> bool
     ensures { result ≡ not (is_significant_kind kind) }
@@ -37,21 +39,24 @@ fn has_no_definitions(source: &str) -> bool
     true
 }
 
-/// A text without definitions with the layout of this crate: one that is empty, or has comments alone. `None` where the text has a significant token or bad
-/// text. It fails only where memory is refused.
+/// A text without definitions with the layout of this crate, of at most `most` bytes: one that is empty, or has comments alone. `None` where the text has a
+/// significant token or bad text. It fails where memory is refused, or the formatted text has more bytes.
 ///
 /// Such a text is no document by the standard, so `format` refuses it; but people have such files, and want them formatted too.
 pub fn format_comments<A: Allocator + Copy>(
     alloc: A,
     source: &str,
-) -> Result<Option<String<A>>, AllocError>
+    most: usize,
+) -> Result<Option<String<A>>, WriteError>
     ensures same { IfOk result (λ o. IfSome o (λ text. HasSameComments source.now (string_bytes text))) }
+    ensures short { IfOk result (λ o. IfSome o (λ text. length (string_bytes text) ≤ most)) }
     ensures other { IfOk result (λ o. o ≡ None → ¬ HasNoDefinitions source.now) }
+    ensures long { IfErr result (λ error. error ≡ TooLong → HasNoDefinitions source.now) }
 {
     if !has_no_definitions(source) {
         return Ok(None);
     }
     let tree = Parser::new(source).parse(alloc)?;
-    let text = format_text(alloc, source, &TreeElements { tree: &tree })?;
+    let text = format_text(alloc, source, &TreeElements { tree: &tree }, most)?;
     Ok(Some(text))
 }

@@ -1,12 +1,13 @@
 //! Formats a GraphQL document: the same document with another layout, or the errors of a text that is no document.
 //!
 //! `format` parses the text and writes it anew. It keeps significant tokens and comments, in their order; only block strings may be spelled
-//! anew, with the same value. `format_comments` is for texts without definitions. `gqlls_run` and `dumyroke_flat` call `format`. `gqlfmt_run` has both
-//! through the trait `DocumentFormatter`, so that it is proved without the code of the parser.
+//! anew, with the same value. `format_within` has a bound on the formatted text, and `format_comments` is for texts without definitions. `gqlls_run` and
+//! `dumyroke_flat` call `format`. `gqlfmt_run` has the others through the trait `DocumentFormatter`, so that it is proved without the code of the parser.
 #![tactic(auto)]
 
-ghost use Rattle.std.specs.Prelude.{◌≡◌, ◌<◌, ℕ, true, false, List, None, length, IfErr, IfOk, IfSome, string_bytes};
+ghost use Rattle.std.specs.Prelude.{◌≡◌, ◌<◌, ◌≤◌, ℕ, true, false, List, None, length, IfErr, IfOk, IfSome, string_bytes};
 ghost use Rattle.lexical_grammar.specs.Reads.{items_of};
+ghost use Rattle.format_strings.specs.declared.style.WriteError.TheVariants.{TooLong};
 ghost use Rattle.formatter.specs.Comments.{HasNoDefinitions, HasSameComments};
 ghost use Rattle.formatter.specs.Formatted.{IsDocument, IsFormatted, IsRefused};
 
@@ -15,6 +16,7 @@ mod comments;
 use apollo_parser::{DocumentRoot, Error, IndexedElement, Lexer, Limits, Parser, SyntaxTree};
 pub use comments::format_comments;
 use format_layout::{Elements, format_document};
+pub use format_strings::WriteError;
 use std::alloc::{AllocError, Allocator};
 
 // A tree, as the layout reads it.
@@ -47,13 +49,35 @@ fn errors_of<A: Allocator + Copy>(
     Ok(errors)
 }
 
-/// The document with the layout of this crate, or the errors of `Parser::parse`, at least one, where the text is no document within both limits.
-/// It fails only where memory is refused.
+/// The document with the layout of this crate, of at most `most` bytes; or the errors of `Parser::parse`, at least one, where the text is no document
+/// within both limits. It fails where memory is refused, or the formatted text has more bytes, which is found before it is built: after at most some
+/// two times `most` bytes.
 ///
 /// The token limit is one on the text, and none on the formatted text (`stays_within`).
 ///
 /// The layout alone changes: the significant tokens and the comments are those of the text, in their order, but that a block string may be
 /// spelled anew with the same value, for the indent of its line.
+pub fn format_within<A: Allocator + Copy>(
+    alloc: A,
+    source: &str,
+    limits: Limits,
+    most: usize,
+) -> Result<Result<String<A>, Vec<Error<A>, A>>, WriteError>
+    ensures formatted { IfOk result (λ r. IfOk r (λ text. IsFormatted source.now limits.recursion limits.tokens (string_bytes text))) }
+    ensures short { IfOk result (λ r. IfOk r (λ text. length (string_bytes text) ≤ most)) }
+    ensures refused { IfOk result (λ r. IfErr r (λ errors. IsRefused source.now limits.recursion limits.tokens errors.items)) }
+    ensures long { IfErr result (λ error. error ≡ TooLong → IsDocument source.now limits.recursion limits.tokens) }
+{
+    let tree = Parser::within(source, limits).parse(alloc)?;
+    let errors = errors_of(alloc, &tree)?;
+    if !errors.as_slice().is_empty() {
+        return Ok(Err(errors));
+    }
+    let text = format_document(alloc, source, &TreeElements { tree: &tree }, most)?;
+    Ok(Ok(text))
+}
+
+/// The same for a formatted text of any length. It fails only where memory is refused.
 pub fn format<A: Allocator + Copy>(
     alloc: A,
     source: &str,
@@ -62,19 +86,18 @@ pub fn format<A: Allocator + Copy>(
     ensures formatted { IfOk result (λ r. IfOk r (λ text. IsFormatted source.now limits.recursion limits.tokens (string_bytes text))) }
     ensures refused { IfOk result (λ r. IfErr r (λ errors. IsRefused source.now limits.recursion limits.tokens errors.items)) }
 {
-    let tree = Parser::within(source, limits).parse(alloc)?;
-    let errors = errors_of(alloc, &tree)?;
-    if !errors.as_slice().is_empty() {
-        return Ok(Err(errors));
+    match format_within(alloc, source, limits, usize::MAX) {
+        Ok(formatted) => Ok(formatted),
+        // no memory has more bytes
+        Err(_) => Err(AllocError),
     }
-    let text = format_document(alloc, source, &TreeElements { tree: &tree })?;
-    Ok(Ok(text))
 }
 
 /// Whether a formatted text has at most as many items as the limit, ignored ones and the end among them. It can then be formatted again within
 /// the limits of its source. It may have more items than its source has, since the layout parts tokens by white space.
 pub fn stays_within(text: &str, token_limit: usize) -> bool
     ensures yes { result ≡ true → (source : List ℕ) (r : ℕ) → IsFormatted source r token_limit text.now → IsDocument text.now r token_limit }
+    ensures few { result ≡ true → length (items_of text.now) ≤ token_limit }
     ensures no { result ≡ false → token_limit < length (items_of text.now) }
 {
     // each item but the end has a byte
@@ -83,45 +106,53 @@ pub fn stays_within(text: &str, token_limit: usize) -> bool
 
 /// What formats documents.
 pub trait DocumentFormatter {
-    /// The document with another layout, or the errors of a text that is no document within both limits, as the function `format` has it.
-    fn format<A: Allocator + Copy>(
+    /// The document with another layout, or the errors of a text that is no document within both limits, as the function `format_within` has it.
+    fn format_within<A: Allocator + Copy>(
         &self,
         alloc: A,
         source: &str,
         limits: Limits,
-    ) -> Result<Result<String<A>, Vec<Error<A>, A>>, AllocError>
+        most: usize,
+    ) -> Result<Result<String<A>, Vec<Error<A>, A>>, WriteError>
         ensures formatted { IfOk result (λ r. IfOk r (λ text. IsFormatted source.now limits.recursion limits.tokens (string_bytes text))) }
-        ensures refused { IfOk result (λ r. IfErr r (λ errors. IsRefused source.now limits.recursion limits.tokens errors.items)) };
+        ensures short { IfOk result (λ r. IfOk r (λ text. length (string_bytes text) ≤ most)) }
+        ensures refused { IfOk result (λ r. IfErr r (λ errors. IsRefused source.now limits.recursion limits.tokens errors.items)) }
+        ensures long { IfErr result (λ error. error ≡ TooLong → IsDocument source.now limits.recursion limits.tokens) };
 
     /// A text without definitions with another layout, or `None`, as the function `format_comments` has it.
     fn format_comments<A: Allocator + Copy>(
         &self,
         alloc: A,
         source: &str,
-    ) -> Result<Option<String<A>>, AllocError>
+        most: usize,
+    ) -> Result<Option<String<A>>, WriteError>
         ensures same { IfOk result (λ o. IfSome o (λ text. HasSameComments source.now (string_bytes text))) }
-        ensures other { IfOk result (λ o. o ≡ None → ¬ HasNoDefinitions source.now) };
+        ensures short { IfOk result (λ o. IfSome o (λ text. length (string_bytes text) ≤ most)) }
+        ensures other { IfOk result (λ o. o ≡ None → ¬ HasNoDefinitions source.now) }
+        ensures long { IfErr result (λ error. error ≡ TooLong → HasNoDefinitions source.now) };
 }
 
-/// The function `format`.
+/// The functions `format_within` and `format_comments`.
 #[derive(Clone, Copy)]
 pub struct Formatter;
 
 impl DocumentFormatter for Formatter {
-    fn format<A: Allocator + Copy>(
+    fn format_within<A: Allocator + Copy>(
         &self,
         alloc: A,
         source: &str,
         limits: Limits,
-    ) -> Result<Result<String<A>, Vec<Error<A>, A>>, AllocError> {
-        format(alloc, source, limits)
+        most: usize,
+    ) -> Result<Result<String<A>, Vec<Error<A>, A>>, WriteError> {
+        format_within(alloc, source, limits, most)
     }
 
     fn format_comments<A: Allocator + Copy>(
         &self,
         alloc: A,
         source: &str,
-    ) -> Result<Option<String<A>>, AllocError> {
-        format_comments(alloc, source)
+        most: usize,
+    ) -> Result<Option<String<A>>, WriteError> {
+        format_comments(alloc, source, most)
     }
 }

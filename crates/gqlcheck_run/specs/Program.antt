@@ -1,5 +1,5 @@
 -- What a run of the program does, by the request in its words.
-use Rattle.std.specs.Prelude.{◌≡◌, ◌⊎◌, ℕ, max, Bool, true, false, List, [], ◌∷◌, Option, Some, None, Result, Ok, Err, ⊤}
+use Rattle.std.specs.Prelude.{◌≡◌, ◌⊎◌, ℕ, max, Bool, true, false, List, [], ◌∷◌, ◌++◌, Option, Some, None, Result, Ok, Err, ⊤}
 use Rattle.byte_devices.specs.Devices.{Account, moved}
 use Rattle.byte_devices.specs.Runs.{Reads}
 use Rattle.byte_devices.specs.Writing.{EndsWriting}
@@ -117,12 +117,13 @@ module _ {S : Type 0} (reads : S → List ℕ → Option (List ℕ) → S → Ty
   ChecksTexts asked figures [] status old new = ChecksInput asked figures status (streams old) (streams new) × (new.files ≡ old.files)
   ChecksTexts asked figures (path ∷ paths) status old new = ChecksFiles asked figures (path ∷ paths) status (desk old) (desk new) × (new.input ≡ old.input)
 
-  -- What a run does for a request. Where there is none, it says on standard error how the program is called, and nothing else.
+  -- What a run does for a request. Where there is none, it says on standard error what is wrong and how the program is called, and nothing
+  -- else. The words about a mistake are not stated.
   abbrev pub Does : Option (Request Run) → ℕ → State S → State S → Type 0
   Does (Some (Print page)) status old new =
       IsPrinted (information_text page) status old.output new.output × (new.complaints ≡ old.complaints) × (new.input ≡ old.input) × (new.files ≡ old.files)
   Does (Some (Process run)) status old new = ChecksTexts (asked_by run) run.figures run.files status old new
-  Does None status old new = OnlySays USAGE.now status old new
+  Does None status old new = (wrong : List ℕ) × OnlySays (wrong ++ USAGE.now) status old new
 
   -- What a run does: that, or it says that memory was refused before the last of its words was read, and nothing else.
   abbrev pub Runs : Option (Request Run) → ℕ → State S → State S → Type 0

@@ -13,8 +13,9 @@ pub const NO_MEMORY: &str = "gqlcheck: out of memory\n";
 pub const HELP: &str = "usage: gqlcheck [OPTION..] [FILE..]
 
 Checks GraphQL documents before they run: that each is a document, keeps the
-rules that need no schema, and has operations within limits. Without FILE it
-reads standard input. It prints what it finds and changes no file.
+rules that need no schema, and has operations within limits. Without FILE, or
+where FILE is -, it reads standard input. It prints what it finds and changes
+no file.
 
   --max-depth N       fields in one another
   --max-fields N      fields, with each fragment counted where it is spread

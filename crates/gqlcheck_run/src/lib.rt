@@ -8,6 +8,7 @@ mod command;
 mod ending;
 mod job;
 mod json_lines;
+mod misuse;
 mod program;
 mod rendering;
 mod telling;

@@ -5,15 +5,17 @@ ghost use Rattle.program_words.specs.Gqlcheck.{request_of};
 ghost use Rattle.program_words.specs.Gqlfmt.{texts};
 ghost use Rattle.gqlcheck_run.specs.Program.{ChecksTexts, IsPrinted, Runs, information_text};
 
-use crate::command::{HELP, NO_MEMORY, USAGE, VERSION};
+use crate::command::{HELP, NO_MEMORY, VERSION};
 use crate::job::Job;
+use crate::misuse::explain;
 use crate::telling::say;
 use byte_devices::{Sink, Source, write_all};
 use document_checks::{Checks, DocumentChecker};
 use gqlfmt_files::Files;
 use program_words::gqlcheck::{Plan, options};
-use program_words::gqlfmt::{Request, WordsError};
+use program_words::gqlfmt::Request;
 use program_words::information::Information;
+use program_words::misuse::WordsError;
 use std::alloc::Allocator;
 
 // How many findings of a text are printed at most.
@@ -106,8 +108,8 @@ pub fn run<A: Allocator + Copy, C: DocumentChecker, R: Source, W: Sink, E: Sink,
             let job = Job::of(alloc, checker, &plan);
             job.check(reader, writer, complaints, files, plan.files.as_slice())
         }
-        Err(WordsError::Usage) => {
-            say(complaints, USAGE);
+        Err(WordsError::Usage(misuse)) => {
+            explain(alloc, complaints, misuse);
             2
         }
         Err(WordsError::Memory) => {

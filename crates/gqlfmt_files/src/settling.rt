@@ -14,6 +14,8 @@ pub enum Mode {
     Check,
     /// Its changes are shown.
     Diff,
+    /// Its layout is printed, also where formatting changes nothing.
+    Print,
 }
 
 /// What the formatter makes of a text.
@@ -53,7 +55,7 @@ pub fn settle<F: Files, A: Allocator, E>(
                 files.replace(path, text.as_str())?;
                 Ok(Settled::Done)
             }
-            Mode::Check | Mode::Diff => Ok(Settled::Found),
+            Mode::Check | Mode::Diff | Mode::Print => Ok(Settled::Found),
         },
     }
 }

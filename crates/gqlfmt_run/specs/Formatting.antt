@@ -1,40 +1,61 @@
 -- What formatting makes of a text, and what is shown of that.
-use Rattle.std.specs.Prelude.{◌≡◌, ◌≢◌, ◌⊎◌, ℕ, List, [], ◌∷◌, ◌++◌, codes, string_bytes}
+use Rattle.std.specs.Prelude.{◌≡◌, ◌≢◌, ◌≤◌, ◌⊎◌, ◌*◌, ◌-◌, ◌^◌, ℕ, min, max, List, [], ◌∷◌, ◌++◌, length, codes, string_bytes, Option, Some, None}
 use Rattle.formatter.specs.Formatted as format
-use Rattle.formatter.specs.Within.{IsFormattedWithin, IsOutgrown}
+use Rattle.formatter.specs.Within.{IsFormattedWithin, IsOutgrown, HasCommentsAlone, AreCommentsWithin, AreCommentsOutgrown}
 use Rattle.apollo_parser.specs.Diagnostics.{Diagnostic}
 use Rattle.apollo_parser.specs.declared.Limits.{Limits}
+use Rattle.gqlfmt_run.specs.declared.job.Bounds.{Bounds}
 use Rattle.gqlfmt_run.specs.declared.formatting.Refusal.{Refusal}
-use Rattle.gqlfmt_run.specs.declared.formatting.Refusal.TheVariants.{Errors, Outgrown}
+use Rattle.gqlfmt_run.specs.declared.formatting.Refusal.TheVariants.{Errors, Outgrown, TooLong}
 use Rattle.gqlfmt_files.specs.declared.settling.Mode.{Mode}
-use Rattle.gqlfmt_files.specs.declared.settling.Mode.TheVariants.{Write, Check, Diff}
+use Rattle.gqlfmt_files.specs.declared.settling.Mode.TheVariants.{Write, Check, Diff, Print}
 use Rattle.gqlfmt_files.specs.declared.settling.Revised.{Revised}
 use Rattle.gqlfmt_files.specs.declared.settling.Revised.TheVariants.{Same, Changed, Refused}
 
--- the source is no document within both limits
+-- How many bytes a formatted text may have: as many as are said, or else 64 MiB, or 16 for each byte of the source if these are more.
+abbrev pub most_of : Option ℕ → List ℕ → ℕ
+most_of (Some most) source = most
+most_of None source = max (min (16 * length source) (2 ^ 64 - 1)) 67108864
+
+-- This is the formatted text of the source, a document or comments alone, within the limits, and no longer than is allowed.
+pub record IsLaidOut (bounds : Bounds) (source text : List ℕ) : Type 0 where
+  pub within : IsFormattedWithin bounds.limits source text ⊎ AreCommentsWithin bounds.limits source text
+  pub short : length text ≤ most_of bounds.most_output source
+
+-- the source is no document within both limits, and no text of comments alone within them
 pub record HasErrors (limits : Limits) (source : List ℕ) : Type 0 where
   pub errors : List Diagnostic
   pub refused : format.IsRefused source limits.recursion limits.tokens errors
+  pub definitions : ¬ HasCommentsAlone limits source
 
--- the source is left as it is
-abbrev pub IsRefused : Limits → List ℕ → Type 0
-IsRefused limits source = HasErrors limits source ⊎ IsOutgrown limits source
+-- It is one, but its formatted text has more items than are allowed.
+abbrev pub HasOutgrown : Limits → List ℕ → Type 0
+HasOutgrown limits source = IsOutgrown limits source ⊎ AreCommentsOutgrown limits source
 
--- this is its formatted text, and another text than the source
-pub record IsChanged (limits : Limits) (source text : List ℕ) : Type 0 where
-  pub formatted : IsFormattedWithin limits source text
-  pub other : text ≢ source
+-- It is one, but its formatted text is said to have more bytes than are allowed. The text is not built, so no clause is about its length.
+abbrev pub IsTooLong : Limits → List ℕ → Type 0
+IsTooLong limits source = format.IsDocument source limits.recursion limits.tokens ⊎ HasCommentsAlone limits source
 
 -- why a source is left as it is
-abbrev pub IsRefusedFor : Limits → List ℕ → Refusal → Type 0
-IsRefusedFor limits source Errors = HasErrors limits source
-IsRefusedFor limits source Outgrown = IsOutgrown limits source
+abbrev pub IsRefusedFor : Bounds → List ℕ → Refusal → Type 0
+IsRefusedFor bounds source Errors = HasErrors bounds.limits source
+IsRefusedFor bounds source Outgrown = HasOutgrown bounds.limits source
+IsRefusedFor bounds source TooLong = IsTooLong bounds.limits source
+
+-- the source is left as it is
+abbrev pub IsRefused : Bounds → List ℕ → Type 0
+IsRefused bounds source = (refusal : Refusal) × IsRefusedFor bounds source refusal
+
+-- this is its formatted text, and another text than the source
+pub record IsChanged (bounds : Bounds) (source text : List ℕ) : Type 0 where
+  pub formatted : IsLaidOut bounds source text
+  pub other : text ≢ source
 
 -- what formatting makes of a source
-abbrev pub IsRevised : {A : Type 0} → Limits → List ℕ → Revised A Refusal → Type 0
-IsRevised limits source Same = IsFormattedWithin limits source source
-IsRevised limits source (Changed text) = IsChanged limits source (string_bytes text)
-IsRevised limits source (Refused refusal) = IsRefusedFor limits source refusal
+abbrev pub IsRevised : {A : Type 0} → Bounds → List ℕ → Revised A Refusal → Type 0
+IsRevised bounds source Same = IsLaidOut bounds source source
+IsRevised bounds source (Changed text) = IsChanged bounds source (string_bytes text)
+IsRevised bounds source (Refused refusal) = IsRefusedFor bounds source refusal
 
 -- a unified diff of two texts that have this name: both names at its head, and hunks
 abbrev pub IsDiff : List ℕ → List ℕ → Type 0
@@ -46,10 +67,11 @@ abbrev pub IsShown : Mode → List ℕ → List ℕ → List ℕ → Type 0
 IsShown Write name text output = output ≡ text
 IsShown Check name text output = output ≡ name ++ 10 ∷ []
 IsShown Diff name text output = IsDiff name output
+IsShown Print name text output = output ≡ text
 
--- In a mode that changes nothing, the source has another layout, and this is shown of that.
-pub record IsListed (mode : Mode) (limits : Limits) (name source output : List ℕ) : Type 0 where
+-- In a mode that looks for another layout, the source has one, and this is shown of that.
+pub record IsListed (mode : Mode) (bounds : Bounds) (name source output : List ℕ) : Type 0 where
   pub looks : mode ≢ Write
   pub text : List ℕ
-  pub changed : IsChanged limits source text
+  pub changed : IsChanged bounds source text
   pub shown : IsShown mode name text output

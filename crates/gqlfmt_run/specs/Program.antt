@@ -3,7 +3,6 @@ use Rattle.std.specs.Prelude.{◌≡◌, ◌⊎◌, ℕ, Bool, List, [], ◌∷�
 use Rattle.byte_devices.specs.Devices.{Account, moved}
 use Rattle.byte_devices.specs.Writing.{IsBroken}
 use Rattle.byte_devices.specs.Runs.{Reads, Writes}
-use Rattle.apollo_parser.specs.declared.Limits.{Limits}
 use Rattle.byte_devices.specs.declared.fault.Fault.{Fault}
 use Rattle.program_words.specs.Gqlfmt.{Run}
 use Rattle.gqlfmt_files.specs.declared.settling.Mode.{Mode}
@@ -12,10 +11,11 @@ use Rattle.program_words.specs.declared.information.Information.{Information}
 use Rattle.program_words.specs.declared.information.Information.TheVariants.{Help, Version}
 use Rattle.program_words.specs.declared.gqlfmt.Request.{Request}
 use Rattle.program_words.specs.declared.gqlfmt.Request.TheVariants.{Print, Process}
+use Rattle.gqlfmt_run.specs.declared.job.Bounds.{Bounds}
 use Rattle.gqlfmt_run.specs.declared.command.TheConstants.{USAGE, HELP, VERSION, NO_MEMORY}
 use Rattle.gqlfmt_run.specs.Status.{status_of}
 use Rattle.gqlfmt_run.specs.Complaints.{IsWritten, Says}
-use Rattle.gqlfmt_run.specs.Input.{input_name, IsOutput}
+use Rattle.gqlfmt_run.specs.Input.{IsOutput}
 use Rattle.gqlfmt_run.specs.Paths.{Desk, HandlesAll}
 
 abbrev pub information_text : Information → List ℕ
@@ -45,13 +45,17 @@ desk state = record { files = state.files; output = state.output; complaints = s
 abbrev pub IsPrinted : List ℕ → ℕ → Account → Account → Type 0
 IsPrinted text status old new = ((status ≡ 0) × (new ≡ moved old text)) ⊎ ((status ≡ 2) × IsBroken text old new)
 
--- Standard input is read, what comes of it is written, and why it was not formatted is said.
-pub record FormatsInput (mode : Mode) (limits : Limits) (status : ℕ) (old new : Streams) : Type 0 where
+-- what a run keeps to
+abbrev pub bounds_of : Run → Bounds
+bounds_of run = record { limits = run.limits; most_output = run.most_output }
+
+-- Standard input is read, what comes of it is written, and why it was not formatted is said, under this name.
+pub record FormatsInput (mode : Mode) (bounds : Bounds) (name : List ℕ) (status : ℕ) (old new : Streams) : Type 0 where
   pub ended : Result Settled Fault
   pub input : List ℕ
   pub reads : Reads ended input old.input new.input
-  pub writes : Writes (IsOutput mode limits) ended input old.output new.output
-  pub says : Says input_name ended old.complaints new.complaints
+  pub writes : Writes (IsOutput mode bounds name) ended input old.output new.output
+  pub says : Says name ended old.complaints new.complaints
   pub counted : status ≡ status_of ended
 
 -- A text alone is said on standard error, and nothing else is done.
@@ -62,17 +66,18 @@ OnlySays text status old new =
 -- the files, as a trait tells what its two calls do
 module _ {S : Type 0} (reads : S → List ℕ → Option (List ℕ) → S → Type 0) (replaces : S → List ℕ → List ℕ → Bool → S → Type 0) where
   -- the files at these paths are handled, or standard input where there are none
-  abbrev pub Formats : Mode → Limits → List (List ℕ) → ℕ → State S → State S → Type 0
-  Formats mode limits [] status old new = FormatsInput mode limits status (streams old) (streams new) × (new.files ≡ old.files)
-  Formats mode limits (path ∷ paths) status old new = HandlesAll reads replaces mode limits (path ∷ paths) status (desk old) (desk new)
+  abbrev pub Formats : Mode → Bounds → List ℕ → List (List ℕ) → ℕ → State S → State S → Type 0
+  Formats mode bounds name [] status old new = FormatsInput mode bounds name status (streams old) (streams new) × (new.files ≡ old.files)
+  Formats mode bounds name (path ∷ paths) status old new = HandlesAll reads replaces mode bounds (path ∷ paths) status (desk old) (desk new)
       × (new.input ≡ old.input)
 
-  -- What a run does for a request. Where there is none, it says on standard error how the program is called, and nothing else.
+  -- What a run does for a request. Where there is none, it says on standard error what is wrong and how the program is called, and nothing else. The words
+  -- about a mistake are not stated.
   abbrev pub Does : Option (Request Run) → ℕ → State S → State S → Type 0
   Does (Some (Print page)) status old new =
       IsPrinted (information_text page) status old.output new.output × (new.complaints ≡ old.complaints) × (new.input ≡ old.input) × (new.files ≡ old.files)
-  Does (Some (Process run)) status old new = Formats run.mode run.limits run.files status old new
-  Does None status old new = OnlySays USAGE.now status old new
+  Does (Some (Process run)) status old new = Formats run.mode (bounds_of run) run.name run.files status old new
+  Does None status old new = (wrong : List ℕ) × OnlySays (wrong ++ USAGE.now) status old new
 
   -- What a run does: that, or it says that memory was refused before the last of its words was read, and nothing else.
   abbrev pub Runs : Option (Request Run) → ℕ → State S → State S → Type 0

@@ -4,28 +4,35 @@
 pub const VERSION: &str = "gqlfmt 0.1.0\n";
 
 /// How the program is called.
-pub const USAGE: &str = "usage: gqlfmt [--check | --diff] [--recursion N] [--tokens N] [FILE..]\n";
+pub const USAGE: &str = "usage: gqlfmt [--check | --diff | --print] [OPTION..] [FILE..]\n";
 
 /// What is said where there is no memory for more.
 pub const NO_MEMORY: &str = "gqlfmt: out of memory\n";
 
 /// What it does.
 pub const HELP: &str = "
-Puts GraphQL documents into one layout. Without FILE it reads standard input
-and writes to standard output; otherwise each FILE that changes is replaced.
+Puts GraphQL documents into one layout. Without FILE, or where FILE is -, it
+reads standard input and writes to standard output; otherwise each FILE that
+changes is replaced.
 
   --check        change nothing; list the files that would change
   --diff         change nothing; show what would change, as a unified diff
+  --print        change nothing; print the formatted text of each file
   --recursion N  how deep a document may nest (500 if not given)
   --tokens N     how many tokens it may have, with white space, commas and
                  comments, before and after (no limit if not given)
+  --max-output N how many bytes a formatted text may have (64 MiB if not given,
+                 or 16 for each byte of its source)
+  --stdin-filepath NAME
+                 what messages call standard input
   --help         print this text
   --version      print the version
 
 Each option may be given once, before FILE or after. After -- all words are
 files.
 
-A document that has errors, or more than N tokens when formatted, is left as
-it is. The status is 0 when all is done, 1 when a document is left so or --check
-or --diff found a change, and 2 when something could not be read or written.
+A document that has errors, or more tokens or bytes than allowed when formatted,
+is left as it is. The status is 0 when all is done, 1 when a document is left so
+or --check or --diff found a change, and 2 when something could not be read or
+written.
 ";

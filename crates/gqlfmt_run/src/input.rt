@@ -1,6 +1,7 @@
 // Formatting standard input.
-ghost use Rattle.std.specs.Prelude.{◌≡◌, ◌⊎◌, ℕ, List, [], IfOk, MatchResult, string_bytes};
+ghost use Rattle.std.specs.Prelude.{◌≡◌, ◌≢◌, ◌⊎◌, ℕ, List, [], IfErr, IfOk, MatchResult, string_bytes};
 ghost use Rattle.byte_devices.specs.Runs.{Reads, Writes};
+ghost use Rattle.byte_devices.specs.declared.fault.Fault.TheVariants.{Read};
 ghost use Rattle.gqlfmt_files.specs.declared.settling.Settled.TheVariants.{Found};
 ghost use Rattle.gqlfmt_run.specs.Complaints.{IsSilent};
 ghost use Rattle.gqlfmt_run.specs.Input.{IsOutput, kept, settled_of};
@@ -13,15 +14,12 @@ use formatter::DocumentFormatter;
 use gqlfmt_files::{Mode, Revised, Settled};
 use std::alloc::{AllocError, Allocator};
 
-/// The name of standard input in messages.
-pub const INPUT: &str = "<stdin>";
-
 // What is written of a text that has the layout.
 fn kept<A: Allocator>(alloc: A, mode: Mode, source: &str) -> Result<String<A>, AllocError>
     ensures { IfOk result (λ output. string_bytes output ≡ kept mode source.now) }
 {
     match mode {
-        Mode::Write => String::from_str(alloc, source),
+        Mode::Write | Mode::Print => String::from_str(alloc, source),
         Mode::Check | Mode::Diff => Ok(String::new(alloc)),
     }
 }
@@ -31,20 +29,21 @@ fn settled_of(mode: Mode) -> Settled
     ensures { result ≡ settled_of mode }
 {
     match mode {
-        Mode::Write => Settled::Done,
+        Mode::Write | Mode::Print => Settled::Done,
         Mode::Check | Mode::Diff => Settled::Found,
     }
 }
 
 impl<A: Allocator + Copy, L: DocumentFormatter + ErrorFinder> Job<'_, A, L> {
-    // What is written of a text, and what came of it: nothing where it is refused, and `complaints` have why.
+    // What is written of a text of this name, and what came of it: nothing where it is refused, and `complaints` have why.
     #[tactic(auto, using(crate::proofs::Outputs::of_same, crate::proofs::Outputs::of_changed, crate::proofs::Outputs::of_refused))]
     fn output_of<E: Sink>(
         &self,
         complaints: &mut E,
+        name: &str,
         source: &str,
     ) -> Result<(Settled, String<A>), AllocError>
-        ensures output { IfOk result (λ it. IsOutput self.now.mode self.now.limits source.now it.0 (string_bytes it.1)) }
+        ensures output { IfOk result (λ it. IsOutput self.now.mode self.now.bounds name.now source.now it.0 (string_bytes it.1)) }
         ensures silent { MatchResult result
             (λ it. (E.account complaints.new ≡ E.account complaints.old) ⊎ ((it.0 ≡ Found) × (string_bytes it.1 ≡ [])))
             (λ error. E.account complaints.new ≡ E.account complaints.old) }
@@ -52,34 +51,49 @@ impl<A: Allocator + Copy, L: DocumentFormatter + ErrorFinder> Job<'_, A, L> {
         match self.revise(source)? {
             Revised::Same => Ok((Settled::Done, kept(self.alloc, self.mode, source)?)),
             Revised::Changed(text) => {
-                let output = shown(self.alloc, self.mode, INPUT, source, text)?;
+                let output = shown(self.alloc, self.mode, name, source, text)?;
                 Ok((settled_of(self.mode), output))
             }
             Revised::Refused(refusal) => {
-                self.complain(complaints, INPUT, source, refusal)?;
+                self.complain(complaints, name, source, refusal)?;
                 Ok((Settled::Found, String::new(self.alloc)))
             }
         }
     }
 
-    /// Reads to the end, formats the whole text in memory, and then writes what the mode shows of it. `complaints` have why a text is
-    /// refused, and nothing else.
+    /// Formats the text of these bytes in memory, and then writes what the mode shows of it. `complaints` have why it is refused, and nothing else.
+    pub fn write_layout<W: Sink, E: Sink>(
+        &self,
+        writer: &mut W,
+        complaints: &mut E,
+        name: &str,
+        bytes: &[u8],
+    ) -> Result<Settled, Fault>
+        ensures output { Writes (IsOutput self.now.mode self.now.bounds name.now) result bytes.now (W.account writer.old) (W.account writer.new) }
+        ensures silent { IsSilent result (E.account complaints.old) (E.account complaints.new) }
+        ensures reads { IfErr result (λ fault. fault ≢ Read) }
+    {
+        let Ok(source) = str::from_utf8(bytes) else {
+            return Err(Fault::Utf8);
+        };
+        let (settled, output) = self.output_of(complaints, name, source)?;
+        write_all(writer, output.as_bytes())?;
+        Ok(settled)
+    }
+
+    /// Reads to the end, and does that with the whole text.
     pub fn format_input<R: Source, W: Sink, E: Sink>(
         &self,
         reader: &mut R,
         writer: &mut W,
         complaints: &mut E,
+        name: &str,
     ) -> Result<Settled, Fault>
         ensures output { (input : List ℕ) × Reads result input (R.account reader.old) (R.account reader.new)
-            × Writes (IsOutput self.now.mode self.now.limits) result input (W.account writer.old) (W.account writer.new) }
+            × Writes (IsOutput self.now.mode self.now.bounds name.now) result input (W.account writer.old) (W.account writer.new) }
         ensures silent { IsSilent result (E.account complaints.old) (E.account complaints.new) }
     {
         let bytes = read_to_end(self.alloc, reader)?;
-        let Ok(source) = str::from_utf8(bytes.as_slice()) else {
-            return Err(Fault::Utf8);
-        };
-        let (settled, output) = self.output_of(complaints, source)?;
-        write_all(writer, output.as_bytes())?;
-        Ok(settled)
+        self.write_layout(writer, complaints, name, bytes.as_slice())
     }
 }

@@ -1,13 +1,40 @@
 // What a run does with each text.
+ghost use Rattle.std.specs.Prelude.{◌≡◌};
+ghost use Rattle.gqlfmt_run.specs.Formatting.{most_of};
+
 use apollo_parser::Limits;
 use gqlfmt_files::Mode;
 use std::alloc::Allocator;
 
-/// How texts are formatted: in memory of the allocator, by the formatter, within the limits; and what is done with one that this changes.
+// How many bytes a formatted text may have where no number is said, in all or for each byte of its source, whichever is more.
+const MOST_OUTPUT: usize = 64 * 1024 * 1024;
+
+const MOST_RATIO: usize = 16;
+
+/// What texts and formatted texts keep to: the parser's limits, and how many bytes a formatted text may have, if a number is said.
+#[derive(Clone, Copy)]
+pub struct Bounds {
+    pub limits: Limits,
+    pub most_output: Option<usize>,
+}
+
+impl Bounds {
+    /// How many bytes the formatted text of a source may have.
+    pub fn most_of(self, source: &str) -> usize
+        ensures { result ≡ most_of self.most_output source.now }
+    {
+        match self.most_output {
+            Some(most) => most,
+            None => source.len().saturating_mul(MOST_RATIO).max(MOST_OUTPUT),
+        }
+    }
+}
+
+/// How texts are formatted: in memory of the allocator, by the formatter, within the bounds; and what is done with one that this changes.
 #[derive(Drop)]
 pub struct Job<'f, A: Allocator, L> {
     pub alloc: A,
     pub formatter: &'f L,
     pub mode: Mode,
-    pub limits: Limits,
+    pub bounds: Bounds,
 }

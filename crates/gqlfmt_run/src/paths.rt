@@ -2,7 +2,8 @@
 ghost use Rattle.std.specs.Prelude.{◌≡◌, OnErr};
 ghost use Rattle.program_words.specs.Gqlfmt.{texts};
 ghost use Rattle.gqlfmt_run.specs.Complaints.{IsSilent};
-ghost use Rattle.gqlfmt_run.specs.Paths.{Handles, HandlesAll};
+ghost use Rattle.gqlfmt_run.specs.Paths.{Handles, HandlesAll, HandlesFile, Prints};
+ghost use Rattle.gqlfmt_files.specs.declared.settling.Mode.TheVariants.{Print};
 ghost use Rattle.gqlfmt_run.specs.Showing.{Shows};
 
 use crate::fault::FileFault;
@@ -14,7 +15,7 @@ use crate::status::status_of;
 use byte_devices::{Fault, Sink, write_all};
 use error_finder::ErrorFinder;
 use formatter::DocumentFormatter;
-use gqlfmt_files::{Files, Revised, Settled, settle};
+use gqlfmt_files::{Files, Mode, Revised, Settled, settle};
 use std::alloc::Allocator;
 
 impl<A: Allocator + Copy, L: DocumentFormatter + ErrorFinder> Job<'_, A, L> {
@@ -43,16 +44,37 @@ impl<A: Allocator + Copy, L: DocumentFormatter + ErrorFinder> Job<'_, A, L> {
         }
     }
 
-    /// Formats the file at a path: replaces it, or writes what the mode shows of the change. `complaints` have why its text is refused,
-    /// and nothing else.
-    pub fn format_file<F: Files, W: Sink, E: Sink>(
+    // Prints the formatted text of the file at a path. `complaints` have why it is refused, and nothing else.
+    fn print_file<F: Files, W: Sink, E: Sink>(
         &self,
         files: &mut F,
         writer: &mut W,
         complaints: &mut E,
         path: &str,
     ) -> Result<Settled, FileFault>
-        ensures handles { Handles F.reads F.replaces self.now.mode self.now.limits path.now result files.old (W.account writer.old) files.new (W.account writer.new) }
+        requires { self.now.mode ≡ Print }
+        ensures prints { Prints F.reads F.replaces self.now.bounds path.now result files.old (W.account writer.old) files.new (W.account writer.new) }
+        ensures silent { IsSilent result (E.account complaints.old) (E.account complaints.new) }
+    {
+        match files.read(self.alloc, path) {
+            Ok(bytes) => {
+                let settled = self.write_layout(writer, complaints, path, bytes.as_slice())?;
+                Ok(settled)
+            }
+            Err(error) => Err(FileFault::NotRead(error)),
+        }
+    }
+
+    // Formats the file at a path: replaces it, or writes what a mode that changes nothing shows of the change. `complaints` have why its text is refused,
+    // and nothing else.
+    fn revise_file<F: Files, W: Sink, E: Sink>(
+        &self,
+        files: &mut F,
+        writer: &mut W,
+        complaints: &mut E,
+        path: &str,
+    ) -> Result<Settled, FileFault>
+        ensures handles { Handles F.reads F.replaces self.now.mode self.now.bounds path.now result files.old (W.account writer.old) files.new (W.account writer.new) }
         ensures silent { IsSilent result (E.account complaints.old) (E.account complaints.new) }
     {
         let bytes = match files.read(self.alloc, path) {
@@ -73,6 +95,25 @@ impl<A: Allocator + Copy, L: DocumentFormatter + ErrorFinder> Job<'_, A, L> {
         }
     }
 
+    /// Formats the file at a path: replaces it, or writes what the mode shows of it. `complaints` have why its text is refused, and nothing else.
+    pub fn format_file<F: Files, W: Sink, E: Sink>(
+        &self,
+        files: &mut F,
+        writer: &mut W,
+        complaints: &mut E,
+        path: &str,
+    ) -> Result<Settled, FileFault>
+        ensures handles { HandlesFile F.reads F.replaces self.now.mode self.now.bounds path.now result files.old (W.account writer.old) files.new (W.account writer.new) }
+        ensures silent { IsSilent result (E.account complaints.old) (E.account complaints.new) }
+    {
+        match self.mode {
+            Mode::Print => self.print_file(files, writer, complaints, path),
+            Mode::Write | Mode::Check | Mode::Diff => {
+                self.revise_file(files, writer, complaints, path)
+            }
+        }
+    }
+
     /// Formats the files at these paths in order, also after one that fails, and gives the greatest of their statuses. `complaints` have why a
     /// text is refused or was not formatted.
     pub fn format_files<F: Files, W: Sink, E: Sink>(
@@ -82,7 +123,7 @@ impl<A: Allocator + Copy, L: DocumentFormatter + ErrorFinder> Job<'_, A, L> {
         complaints: &mut E,
         paths: &[&str],
     ) -> u8
-        ensures { HandlesAll F.reads F.replaces self.now.mode self.now.limits (texts paths.now) result
+        ensures { HandlesAll F.reads F.replaces self.now.mode self.now.bounds (texts paths.now) result
             (record { files = files.old; output = W.account writer.old; complaints = E.account complaints.old })
             (record { files = files.new; output = W.account writer.new; complaints = E.account complaints.new }) }
     {

@@ -6,16 +6,17 @@ ghost use Rattle.program_words.specs.Gqlfmt.{texts, request_of};
 ghost use Rattle.gqlfmt_run.specs.Program.{information_text, IsPrinted, FormatsInput, Formats, Runs};
 
 use crate::command::{HELP, NO_MEMORY, USAGE, VERSION};
-use crate::input::INPUT;
-use crate::job::Job;
+use crate::job::{Bounds, Job};
+use crate::misuse::explain;
 use crate::report::{say, tell};
 use crate::status::status_of;
 use byte_devices::{Fault, Sink, Source, write_all};
 use error_finder::ErrorFinder;
 use formatter::DocumentFormatter;
 use gqlfmt_files::Files;
-use program_words::gqlfmt::{Request, WordsError, options};
+use program_words::gqlfmt::{Request, options};
 use program_words::information::Information;
+use program_words::misuse::WordsError;
 use std::alloc::Allocator;
 
 fn write_information<W: Sink>(writer: &mut W, page: Information) -> Result<(), Fault>
@@ -48,33 +49,35 @@ impl<A: Allocator + Copy, L: DocumentFormatter + ErrorFinder> Job<'_, A, L> {
         reader: &mut R,
         writer: &mut W,
         complaints: &mut E,
+        name: &str,
     ) -> u8
-        ensures { FormatsInput self.now.mode self.now.limits result
+        ensures { FormatsInput self.now.mode self.now.bounds name.now result
             (record { input = R.account reader.old; output = W.account writer.old; complaints = E.account complaints.old })
             (record { input = R.account reader.new; output = W.account writer.new; complaints = E.account complaints.new }) }
     {
-        let ended = self.format_input(reader, writer, complaints);
+        let ended = self.format_input(reader, writer, complaints, name);
         if let Err(fault) = ended {
-            tell(self.alloc, complaints, INPUT, fault);
+            tell(self.alloc, complaints, name, fault);
         }
         status_of(&ended)
     }
 
-    // Formats the files at these paths, or standard input where there are none, and gives the status.
+    // Formats the files at these paths, or standard input, which has this name, where there are none, and gives the status.
     fn format<R: Source, W: Sink, E: Sink, F: Files>(
         &self,
         reader: &mut R,
         writer: &mut W,
         complaints: &mut E,
         files: &mut F,
+        name: &str,
         paths: &[&str],
     ) -> u8
-        ensures { Formats F.reads F.replaces self.now.mode self.now.limits (texts paths.now) result
+        ensures { Formats F.reads F.replaces self.now.mode self.now.bounds name.now (texts paths.now) result
             (record { input = R.account reader.old; output = W.account writer.old; complaints = E.account complaints.old; files = files.old })
             (record { input = R.account reader.new; output = W.account writer.new; complaints = E.account complaints.new; files = files.new }) }
     {
         match paths {
-            [] => self.format_standard_input(reader, writer, complaints),
+            [] => self.format_standard_input(reader, writer, complaints, name),
             _ => self.format_files(files, writer, complaints, paths),
         }
     }
@@ -109,12 +112,22 @@ pub fn run<
                 alloc,
                 formatter,
                 mode: plan.mode,
-                limits: plan.limits,
+                bounds: Bounds {
+                    limits: plan.limits,
+                    most_output: plan.most_output,
+                },
             };
-            job.format(reader, writer, complaints, files, plan.files.as_slice())
+            job.format(
+                reader,
+                writer,
+                complaints,
+                files,
+                plan.name,
+                plan.files.as_slice(),
+            )
         }
-        Err(WordsError::Usage) => {
-            say(complaints, USAGE);
+        Err(WordsError::Usage(misuse)) => {
+            explain(alloc, complaints, misuse);
             2
         }
         Err(WordsError::Memory) => {

@@ -55,11 +55,14 @@ impl<A: Allocator + Copy, L: ErrorFinder> Job<'_, A, L> {
             Refusal::Errors => {
                 let first = self
                     .formatter
-                    .first_errors(self.alloc, source, self.limits, SHOWN)?;
+                    .first_errors(self.alloc, source, self.bounds.limits, SHOWN)?;
                 render_report(self.alloc, name, source, &first)
             }
             Refusal::Outgrown => format!(in self.alloc;
                 "gqlfmt: {name}: it would have more tokens than allowed when formatted\n"
+            ),
+            Refusal::TooLong => format!(in self.alloc;
+                "gqlfmt: {name}: it would have more bytes than --max-output allows when formatted\n"
             ),
         }
     }

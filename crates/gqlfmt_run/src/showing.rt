@@ -17,7 +17,7 @@ pub fn shown<A: Allocator + Copy>(
     ensures { IfOk result (λ output. string_bytes text ≢ source.now → IsShown mode name.now (string_bytes text) (string_bytes output)) }
 {
     match mode {
-        Mode::Write => Ok(text),
+        Mode::Write | Mode::Print => Ok(text),
         Mode::Check => {
             let mut line = String::from_str(alloc, name)?;
             line.push_str("\n")?;

@@ -1,15 +1,12 @@
--- Reading the words of `gqlcheck`, one after the other.
-use Rattle.std.specs.Prelude.{◌≡◌, ℕ, List, ◌∷◌, drop, option_map, None, Result, Ok, Err}
+-- What the code of `gqlcheck` has read, with texts as they are.
+use Rattle.std.specs.Prelude.{ℕ, List, option_map}
 use denote.Ref.{Bor}
 use Rattle.program_words.specs.Gqlcheck as gqlcheck
-use Rattle.program_words.specs.Gqlcheck.{Run, run_from}
+use Rattle.program_words.specs.Gqlcheck.{Run}
 use Rattle.program_words.specs.Gqlfmt.{texts}
 use Rattle.program_words.specs.declared.gqlcheck.Plan.{Plan}
 use Rattle.program_words.specs.declared.gqlcheck.Settings.{Settings}
-use Rattle.program_words.specs.declared.gqlfmt.WordsError.{WordsError}
-use Rattle.program_words.specs.declared.gqlfmt.WordsError.TheVariants.{Usage, Memory}
 
--- settings and plans, with texts as they are
 abbrev pub as_settings : Settings → gqlcheck.Settings
 as_settings set = record {
   limits = set.limits;
@@ -17,6 +14,7 @@ as_settings set = record {
   operation = option_map (λ (name : Bor (List ℕ)). name.now) set.operation;
   figures = set.figures;
   json = set.json;
+  input = set.input;
 }
 
 abbrev pub as_plan : {A : Type 0} → Plan A → Run
@@ -28,10 +26,3 @@ as_plan plan = record {
   json = plan.json;
   files = texts plan.files.items;
 }
-
--- Settings and files with a word before some others, of which as many as are answered go with it; or that the program is not called so.
-abbrev pub IsTakenFrom : List ℕ → List (Bor (List ℕ)) → gqlcheck.Settings → List (List ℕ) → gqlcheck.Settings → List (List ℕ) → Result ℕ WordsError → Type 0
-IsTakenFrom word more set files set' files' (Ok count) =
-    run_from set files (word ∷ texts more) ≡ run_from set' files' (texts (drop count more))
-IsTakenFrom word more set files set' files' (Err Usage) = run_from set files (word ∷ texts more) ≡ None
-IsTakenFrom word more set files set' files' (Err Memory) = Unit {0}

@@ -1,93 +1,117 @@
 -- The words of `gqlfmt`: options and files in any order, each option at most once; or a page of the program.
-use Rattle.std.specs.Prelude.{◌≡◌, ℕ, Bool, false, ◌==◌, ◌||◌, List, [], ◌∷◌, codes, bytes_eq, map, if◌then◌else◌, Option, Some, None, option_and_then}
-use Rattle.std.specs.Prelude.{option_map, Result, Ok, Err}
+use Rattle.std.specs.Prelude.{◌≡◌, ℕ, Bool, true, false, ◌==◌, ◌&&◌, nat_lt, List, [], ◌∷◌, ◌++◌, length, codes, bytes_eq, map, if◌then◌else◌}
+use Rattle.std.specs.Prelude.{Option, Some, None, option_and_then, option_map, unwrap_or, is_some, Result, Ok, Err}
 use denote.Ref.{Bor}
 use Rattle.apollo_lexer.specs.declared.limits.Limits.{Limits}
 use Rattle.gqlfmt_files.specs.declared.settling.Mode.{Mode}
-use Rattle.gqlfmt_files.specs.declared.settling.Mode.TheVariants.{Write, Check, Diff}
-use Rattle.program_words.specs.LimitOptions.{GivenLimits, no_limits, with_option, at_most_once, limits_given}
+use Rattle.gqlfmt_files.specs.declared.settling.Mode.TheVariants.{Write, Check, Diff, Print as PrintText}
+use Rattle.program_words.specs.Numbers.{number_of}
+use Rattle.program_words.specs.SetLimits.{limits_set, with_limit}
 use Rattle.program_words.specs.declared.information.Information.{Information}
 use Rattle.program_words.specs.Information.{information_of}
 use Rattle.program_words.specs.declared.gqlfmt.Request.{Request}
 use Rattle.program_words.specs.declared.gqlfmt.Request.TheVariants.{Print, Process}
-use Rattle.program_words.specs.declared.gqlfmt.WordsError.{WordsError}
-use Rattle.program_words.specs.declared.gqlfmt.WordsError.TheVariants.{Usage, Memory}
+use Rattle.program_words.specs.declared.limits.SetLimits.{SetLimits}
+use Rattle.program_words.specs.declared.misuse.WordsError.{WordsError}
+use Rattle.program_words.specs.declared.misuse.WordsError.TheVariants.{Usage, Memory}
 
 -- the words as they are
 abbrev pub texts : List (Bor (List ℕ)) → List (List ℕ)
 texts words = map (λ word. word.now) words
 
--- What each option is given, and the files, all in their order.
-pub record Given : Type 0 where
-  pub modes : List Mode
-  pub limits : GivenLimits
-  pub files : List (List ℕ)
+-- an option is a dash with more; a dash alone is standard input
+abbrev pub is_option : List ℕ → Bool
+is_option [] = false
+is_option (b ∷ []) = false
+is_option (b ∷ c ∷ bytes) = b == 45
 
--- nothing but files
-abbrev pub files_alone : List (List ℕ) → Given
-files_alone files = record { modes = []; limits = no_limits; files = files }
+abbrev pub is_input : List ℕ → Bool
+is_input word = bytes_eq word (codes "-")
 
--- One option or one file, before all that the other words give.
-abbrev pub with_mode : Mode → Given → Option Given
-with_mode mode given = Some (record given { modes = mode ∷ given.modes })
+-- What options have set.
+pub record Settings : Type 0 where
+  pub mode : Option Mode
+  pub limits : SetLimits
+  pub most_output : Option ℕ
+  pub name : Option (List ℕ)
+  pub input : Bool
 
-abbrev pub with_limit : List ℕ → List ℕ → Given → Option Given
-with_limit name value given = option_map (λ limits. record given { limits = limits }) (with_option name value given.limits)
+-- before the first option
+abbrev pub no_settings : Settings
+no_settings = record { mode = None; limits = record { recursion = None; tokens = None }; most_output = None; name = None; input = false }
 
-abbrev pub with_file : List ℕ → Given → Option Given
-with_file path given = Some (record given { files = path ∷ given.files })
-
--- the options that no number follows
+-- the options that need no other word, of which one is taken
 abbrev pub mode_of : List ℕ → Option Mode
 mode_of word =
     if bytes_eq word (codes "--check") then Some Check
     else (if bytes_eq word (codes "--diff") then Some Diff
-    else None)
+    else (if bytes_eq word (codes "--print") then Some PrintText
+    else None))
 
--- those that a number follows
-abbrev pub takes_number : List ℕ → Bool
-takes_number word = bytes_eq word (codes "--recursion") || bytes_eq word (codes "--tokens")
+abbrev pub with_mode : Settings → Mode → Option Settings
+with_mode set mode = if is_some set.mode then None else Some (record set { mode = Some mode })
 
--- a dash is in front of an option
-abbrev pub is_option : List ℕ → Bool
-is_option [] = false
-is_option (b ∷ bytes) = b == 45
+-- standard input, named by a dash
+abbrev pub with_input : Settings → Option Settings
+with_input set = if set.input then None else Some (record set { input = true })
 
-abbrev pub with_mode_or_file : Option Mode → List ℕ → Given → Option Given
-with_mode_or_file (Some mode) word given = with_mode mode given
-with_mode_or_file None word given = if is_option word then None else with_file word given
+-- the options that a value follows
+abbrev pub with_most_output : Settings → ℕ → Option Settings
+with_most_output set n = if is_some set.most_output then None else Some (record set { most_output = Some n })
 
-abbrev pub with_word : List ℕ → Given → Option Given
-with_word word given = with_mode_or_file (mode_of word) word given
+abbrev pub with_name : List ℕ → Settings → Option Settings
+with_name name set = if is_some set.name then None else Some (record set { name = Some name })
 
-abbrev mutual
-  -- What the words give. After `--` all of them are files.
-  pub given_by : List (List ℕ) → Option Given
-  given_by [] = Some (files_alone [])
-  given_by (word ∷ more) =
-      if bytes_eq word (codes "--") then Some (files_alone more)
-      else (if takes_number word then given_after word more
-      else option_and_then (with_word word) (given_by more))
+abbrev pub with_value : List ℕ → List ℕ → Settings → Option Settings
+with_value name value set =
+    if bytes_eq name (codes "--max-output") then option_and_then (with_most_output set) (number_of value)
+    else (if bytes_eq name (codes "--stdin-filepath") then with_name value set
+    else option_map (λ limits. record set { limits = limits }) (with_limit name value set.limits))
 
-  -- the same after an option that takes a number
-  pub given_after : List ℕ → List (List ℕ) → Option Given
-  given_after name [] = None
-  given_after name (value ∷ more) = option_and_then (with_limit name value) (given_by more)
-
--- a run over files, or over standard input where there are none
+-- A run over files, or over standard input where there are none: what is done with a text that formatting changes, the parser's limits, the greatest
+-- number of bytes of a formatted text if one is given, and what standard input is called.
 pub record Run : Type 0 where
   pub mode : Mode
   pub limits : Limits
+  pub most_output : Option ℕ
+  pub name : List ℕ
   pub files : List (List ℕ)
 
-abbrev pub run_given : Given → Option Run
-run_given given =
-    option_and_then (λ mode. option_map (λ limits. record { mode = mode; limits = limits; files = given.files }) (limits_given given.limits))
-    (at_most_once Write given.modes)
+abbrev pub input_name : List ℕ
+input_name = codes "<stdin>"
+
+abbrev pub run_set : Settings → List (List ℕ) → Run
+run_set set files = record {
+  mode = unwrap_or set.mode Write;
+  limits = limits_set set.limits;
+  most_output = set.most_output;
+  name = unwrap_or set.name input_name;
+  files = files;
+}
+
+-- It is over standard input or over files, not both.
+abbrev pub run_unless : Settings → List (List ℕ) → Option Run
+run_unless set files = if set.input && nat_lt 0 (length files) then None else Some (run_set set files)
+
+abbrev mutual
+  -- The run of words after others that gave these settings and files. After `--` all words are files.
+  pub run_from : Settings → List (List ℕ) → List (List ℕ) → Option Run
+  run_from set files [] = run_unless set files
+  run_from set files (word ∷ more) =
+      if bytes_eq word (codes "--") then run_unless set (files ++ more)
+      else (if is_input word then option_and_then (λ set. run_from set files more) (with_input set)
+      else (if is_some (mode_of word) then option_and_then (λ set. run_from set files more) (option_and_then (with_mode set) (mode_of word))
+      else (if is_option word then run_after set files word more
+      else run_from set (files ++ word ∷ []) more)))
+
+  -- the same after an option that a value follows
+  pub run_after : Settings → List (List ℕ) → List ℕ → List (List ℕ) → Option Run
+  run_after set files name [] = None
+  run_after set files name (value ∷ more) = option_and_then (λ set. run_from set files more) (with_value name value set)
 
 -- The run of the words.
 abbrev pub run_of : List (List ℕ) → Option Run
-run_of words = option_and_then run_given (given_by words)
+run_of words = run_from no_settings [] words
 
 abbrev pub information_or_run : {R : Type 0} → Option Information → Option R → Option (Request R)
 information_or_run (Some page) run = Some (Print page)
@@ -106,5 +130,5 @@ request_map run (Process plan) = Process (run plan)
 module _ {T P : Type 0} (seen : P → T) where
   abbrev pub IsRead : Option T → Result P WordsError → Type 0
   IsRead wanted (Ok value) = wanted ≡ Some (seen value)
-  IsRead wanted (Err Usage) = wanted ≡ None
+  IsRead wanted (Err (Usage misuse)) = wanted ≡ None
   IsRead wanted (Err Memory) = Unit {0}

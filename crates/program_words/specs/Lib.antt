@@ -1,5 +1,6 @@
 pub mod Numbers
 pub mod LimitOptions
+pub mod SetLimits
 pub mod Information
 pub mod Gqlcst
 pub mod Gqlfmt
@@ -7,3 +8,4 @@ pub mod Gqlls
 pub mod Reading
 pub mod Gqlcheck
 pub mod CheckReading
+pub mod FormatReading

@@ -2,12 +2,14 @@
 ghost use Rattle.std.specs.Prelude.{◌≡◌, ◌≤◌, [], length, IfOk, option_map};
 ghost use Rattle.program_words.specs.Gqlfmt.{texts, request_map, IsRead};
 ghost use Rattle.program_words.specs.Gqlcheck.{figure_set, figures_set, is_flag, limit_named, no_settings, put_figure, request_of, run_from, sets_limit};
-ghost use Rattle.program_words.specs.Gqlcheck.{with_figure, with_flag, with_operation, with_value};
-ghost use Rattle.program_words.specs.CheckReading.{as_plan, as_settings, IsTakenFrom};
+ghost use Rattle.program_words.specs.Reading.{IsTakenFrom};
+ghost use Rattle.program_words.specs.Gqlcheck.{run_unless, with_input, with_figure, with_flag, with_operation, with_value};
+ghost use Rattle.program_words.specs.CheckReading.{as_plan, as_settings};
 
-use crate::gqlfmt::{Request, WordsError, is_option};
+use crate::gqlfmt::{Request, is_input, is_option};
 use crate::information::information_of;
 use crate::limits::SetLimits;
+use crate::misuse::{Mistake, WordsError};
 use crate::numbers::number_of;
 use apollo_lexer::Limits;
 use expansion_figures::{Figures, Limit};
@@ -157,6 +159,8 @@ struct Settings<'a> {
     operation: Option<&'a str>,
     figures: bool,
     json: bool,
+    // whether standard input is named by a dash
+    input: bool,
 }
 
 fn is_flag(word: &str) -> bool
@@ -182,6 +186,7 @@ impl<'a> Settings<'a> {
             operation: None,
             figures: false,
             json: false,
+            input: false,
         }
     }
 
@@ -197,6 +202,19 @@ impl<'a> Settings<'a> {
             "--json" if !self.json => Some(Settings { json: true, ..self }),
             _ => None,
         }
+    }
+
+    // The settings with standard input, or nothing where they have it.
+    fn with_input(self) -> Option<Settings<'a>>
+        ensures { option_map as_settings result ≡ with_input (as_settings self.entry) }
+    {
+        if self.input {
+            return None;
+        }
+        Some(Settings {
+            input: true,
+            ..self
+        })
     }
 
     // The settings with the name of an operation, or nothing where they have one.
@@ -235,13 +253,36 @@ struct Read<'a, A: Allocator> {
     files: Vec<&'a str, A>,
 }
 
+// What is wrong with an option and its value that give no settings.
+fn mistake_of(name: &str, value: &str) -> Mistake {
+    if name == "--operation" {
+        return Mistake::Again;
+    }
+    if !sets_limit(name) && limit_named(name).is_none() {
+        return Mistake::Unknown;
+    }
+    match number_of(value) {
+        Some(_) => Mistake::Again,
+        None => Mistake::NoNumber,
+    }
+}
+
+// What is wrong with an option that no word follows.
+fn mistake_at_end(name: &str) -> Mistake {
+    if name == "--operation" || sets_limit(name) || limit_named(name).is_some() {
+        Mistake::NoValue
+    } else {
+        Mistake::Unknown
+    }
+}
+
 // Takes a word, and gives how many of the words after it go with it.
 fn take_first<'a, A: Allocator>(
     read: &mut Read<'a, A>,
     word: &'a str,
     more: &[&'a str],
-) -> Result<usize, WordsError>
-    ensures taken { IsTakenFrom word.now more.now (as_settings read.old.settings) (texts read.old.files.items)
+) -> Result<usize, WordsError<'a>>
+    ensures taken { IsTakenFrom run_from word.now more.now (as_settings read.old.settings) (texts read.old.files.items)
         (as_settings read.new.settings) (texts read.new.files.items) result }
     ensures within { IfOk result (λ count. count ≤ length more.now) }
 {
@@ -249,24 +290,48 @@ fn take_first<'a, A: Allocator>(
         read.files.extend_from_slice(more)?;
         return Ok(more.len());
     }
+    if is_input(word) {
+        let settings = read.settings.with_input();
+        read.settings = settings.ok_or(WordsError::of(word, Mistake::Again))?;
+        return Ok(0);
+    }
     if is_flag(word) {
-        read.settings = read.settings.with_flag(word).ok_or(WordsError::Usage)?;
+        let settings = read.settings.with_flag(word);
+        read.settings = settings.ok_or(WordsError::of(word, Mistake::Again))?;
         return Ok(0);
     }
     if is_option(word) {
-        let value = more.first().ok_or(WordsError::Usage)?;
-        read.settings = read
-            .settings
-            .with_value(word, value)
-            .ok_or(WordsError::Usage)?;
+        let value = more
+            .first()
+            .ok_or(WordsError::of(word, mistake_at_end(word)))?;
+        let settings = read.settings.with_value(word, value);
+        read.settings = settings.ok_or(WordsError::of(word, mistake_of(word, value)))?;
         return Ok(1);
     }
     read.files.extend_from_slice(&[word])?;
     Ok(0)
 }
 
+// The run of these settings and files.
+fn finished<'a, A: Allocator>(read: Read<'a, A>) -> Result<Plan<'a, A>, WordsError<'a>>
+    ensures { IsRead as_plan (run_unless (as_settings read.entry.settings) (texts read.entry.files.items)) result }
+{
+    let settings = read.settings;
+    if settings.input && read.files.len() > 0 {
+        return Err(WordsError::of("-", Mistake::BesideFiles));
+    }
+    Ok(Plan {
+        limits: settings.limits.limits(),
+        most: settings.most.figures(),
+        operation: settings.operation,
+        figures: settings.figures,
+        json: settings.json,
+        files: read.files,
+    })
+}
+
 // The run of the words.
-fn plan_of<'a, A: Allocator>(alloc: A, words: &[&'a str]) -> Result<Plan<'a, A>, WordsError>
+fn plan_of<'a, A: Allocator>(alloc: A, words: &[&'a str]) -> Result<Plan<'a, A>, WordsError<'a>>
     ensures { IsRead as_plan (run_from no_settings [] (texts words.now)) result }
 {
     let mut read = Read {
@@ -278,21 +343,7 @@ fn plan_of<'a, A: Allocator>(alloc: A, words: &[&'a str]) -> Result<Plan<'a, A>,
         let taken = take_first(&mut read, words[index], &words[index + 1..])?;
         index += 1 + taken;
     }
-    let Settings {
-        limits,
-        most,
-        operation,
-        figures,
-        json,
-    } = read.settings;
-    Ok(Plan {
-        limits: limits.limits(),
-        most: most.figures(),
-        operation,
-        figures,
-        json,
-        files: read.files,
-    })
+    finished(read)
 }
 
 /// The request in the words after the program's name. `--help` and `--version` come before all else, wherever they are. Options and files
@@ -300,7 +351,7 @@ fn plan_of<'a, A: Allocator>(alloc: A, words: &[&'a str]) -> Result<Plan<'a, A>,
 pub fn options<'a, A: Allocator>(
     alloc: A,
     words: &[&'a str],
-) -> Result<Request<Plan<'a, A>>, WordsError>
+) -> Result<Request<Plan<'a, A>>, WordsError<'a>>
     ensures { IsRead (request_map as_plan) (request_of (texts words.now)) result }
 {
     if let Some(page) = information_of(words) {

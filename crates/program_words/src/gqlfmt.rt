@@ -1,15 +1,20 @@
 // The words of `gqlfmt`.
-ghost use Rattle.std.specs.Prelude.{◌≡◌, ◌≤◌, length, IfOk};
-ghost use Rattle.program_words.specs.declared.gqlfmt.WordsError.TheVariants.{Memory};
-ghost use Rattle.program_words.specs.Gqlfmt.{texts, is_option, takes_number, mode_of, with_mode, with_limit, with_word};
-ghost use Rattle.program_words.specs.Gqlfmt.{run_of, request_of, request_map, IsRead};
-ghost use Rattle.program_words.specs.Reading.{IsSet, IsTaken, IsTakenFrom};
+ghost use Rattle.std.specs.Prelude.{◌≡◌, ◌≤◌, [], length, IfOk, option_map};
+ghost use Rattle.program_words.specs.FormatReading.{as_plan, as_settings};
+ghost use Rattle.program_words.specs.Gqlfmt.{IsRead, is_input, is_option, mode_of, no_settings, request_map, request_of, run_from, run_unless, texts};
+ghost use Rattle.program_words.specs.Gqlfmt.{with_input, with_mode, with_most_output, with_name, with_value};
+ghost use Rattle.program_words.specs.Reading.{IsTakenFrom};
 
 use crate::information::{Information, information_of};
 use crate::limits::SetLimits;
+use crate::misuse::{Mistake, WordsError};
+use crate::numbers::number_of;
 use apollo_lexer::Limits;
 use gqlfmt_files::Mode;
-use std::alloc::{AllocError, Allocator};
+use std::alloc::Allocator;
+
+/// The name of standard input in messages, where no other is given.
+pub const INPUT: &str = "<stdin>";
 
 /// A run over files, or over standard input where there are none.
 #[derive(Drop)]
@@ -17,6 +22,10 @@ pub struct Plan<'a, A: Allocator> {
     /// What is done with a text that formatting changes.
     pub mode: Mode,
     pub limits: Limits,
+    /// How many bytes a formatted text may have, if a number is given.
+    pub most_output: Option<usize>,
+    /// What standard input is called in messages.
+    pub name: &'a str,
     pub files: Vec<&'a str, A>,
 }
 
@@ -27,40 +36,77 @@ pub enum Request<P> {
     Process(P),
 }
 
-/// Why words have no request.
+// What options have set.
 #[derive(Clone, Copy)]
-pub enum WordsError {
-    /// The program is not called so.
-    Usage,
-    /// Memory was refused.
-    Memory,
+struct Settings<'a> {
+    mode: Option<Mode>,
+    limits: SetLimits,
+    most_output: Option<usize>,
+    name: Option<&'a str>,
+    // whether standard input is named by a dash
+    input: bool,
 }
 
-impl From<AllocError> for WordsError {
-    ghost from_gives = { λ _ error. error ≡ Memory };
+pub(crate) fn is_option(word: &str) -> bool
+    ensures { result ≡ is_option word.now }
+{
+    matches!(word.as_bytes(), [b'-', _, ..])
+}
 
-    fn from(_error: AllocError) -> WordsError {
-        WordsError::Memory
+pub(crate) fn is_input(word: &str) -> bool
+    ensures { result ≡ is_input word.now }
+{
+    word == "-"
+}
+
+fn mode_of(word: &str) -> Option<Mode>
+    ensures { result ≡ mode_of word.now }
+{
+    match word {
+        "--check" => Some(Mode::Check),
+        "--diff" => Some(Mode::Diff),
+        "--print" => Some(Mode::Print),
+        _ => None,
     }
 }
 
-// What options have set.
-#[derive(Clone, Copy)]
-struct Settings {
-    mode: Option<Mode>,
-    limits: SetLimits,
+// What is wrong with an option and its value that give no settings.
+fn mistake_of(name: &str, value: &str) -> Mistake {
+    match name {
+        "--stdin-filepath" => Mistake::Again,
+        "--recursion" | "--tokens" | "--max-output" => match number_of(value) {
+            Some(_) => Mistake::Again,
+            None => Mistake::NoNumber,
+        },
+        _ => Mistake::Unknown,
+    }
 }
 
-impl Settings {
+// What is wrong with an option that no word follows.
+fn mistake_at_end(name: &str) -> Mistake {
+    match name {
+        "--stdin-filepath" | "--recursion" | "--tokens" | "--max-output" => Mistake::NoValue,
+        _ => Mistake::Unknown,
+    }
+}
+
+impl<'a> Settings<'a> {
     // Before the first option.
-    const NOTHING: Settings = Settings {
-        mode: None,
-        limits: SetLimits::NONE,
-    };
+    fn nothing() -> Settings<'a>
+        ensures { as_settings result ≡ no_settings }
+    {
+        Settings {
+            mode: None,
+            limits: SetLimits::NONE,
+            most_output: None,
+            name: None,
+            input: false,
+        }
+    }
 
     // The settings with a mode, or nothing where they have one.
-    fn with_mode(self, mode: Mode) -> Option<Settings>
-        ensures { IsSet self (with_mode mode) result }
+    fn with_mode(self, mode: Mode) -> Option<Settings<'a>>
+        ensures { option_map as_settings result ≡ with_mode (as_settings self.entry) mode }
     {
         match self.mode {
             Some(_) => None,
@@ -71,10 +117,56 @@ impl Settings {
         }
     }
 
-    // The settings with a limit, or nothing where they have it, or its value is no number.
-    fn with_limit(self, name: &str, value: &str) -> Option<Settings>
-        ensures { IsSet self (with_limit name.now value.now) result }
+    // The settings with standard input, or nothing where they have it.
+    fn with_input(self) -> Option<Settings<'a>>
+        ensures { option_map as_settings result ≡ with_input (as_settings self.entry) }
     {
+        if self.input {
+            return None;
+        }
+        Some(Settings {
+            input: true,
+            ..self
+        })
+    }
+
+    // The settings with a number of bytes, or nothing where they have one.
+    fn with_most_output(self, most: usize) -> Option<Settings<'a>>
+        ensures { option_map as_settings result ≡ with_most_output (as_settings self.entry) most }
+    {
+        match self.most_output {
+            Some(_) => None,
+            None => Some(Settings {
+                most_output: Some(most),
+                ..self
+            }),
+        }
+    }
+
+    // The settings with the name of standard input, or nothing where they have one.
+    fn with_name(self, name: &'a str) -> Option<Settings<'a>>
+        ensures { option_map as_settings result ≡ with_name name.now (as_settings self.entry) }
+    {
+        match self.name {
+            Some(_) => None,
+            None => Some(Settings {
+                name: Some(name),
+                ..self
+            }),
+        }
+    }
+
+    // The settings with an option and its value, or nothing where there is no such option, or they have it.
+    fn with_value(self, name: &str, value: &'a str) -> Option<Settings<'a>>
+        ensures { option_map as_settings result ≡ with_value name.now value.now (as_settings self.entry) }
+    {
+        if name == "--max-output" {
+            let most = number_of(value)?;
+            return self.with_most_output(most);
+        }
+        if name == "--stdin-filepath" {
+            return self.with_name(value);
+        }
         let limits = self.limits.with(name, value)?;
         Some(Settings { limits, ..self })
     }
@@ -83,45 +175,8 @@ impl Settings {
 // What is read so far.
 #[derive(Drop)]
 struct Read<'a, A: Allocator> {
-    settings: Settings,
+    settings: Settings<'a>,
     files: Vec<&'a str, A>,
-}
-
-pub(crate) fn is_option(word: &str) -> bool
-    ensures { result ≡ is_option word.now }
-{
-    matches!(word.as_bytes(), [b'-', ..])
-}
-
-fn takes_number(word: &str) -> bool
-    ensures { result ≡ takes_number word.now }
-{
-    matches!(word, "--recursion" | "--tokens")
-}
-
-fn mode_of(word: &str) -> Option<Mode>
-    ensures { result ≡ mode_of word.now }
-{
-    match word {
-        "--check" => Some(Mode::Check),
-        "--diff" => Some(Mode::Diff),
-        _ => None,
-    }
-}
-
-// Takes a word that needs no other.
-fn take_alone<'a, A: Allocator>(read: &mut Read<'a, A>, word: &'a str) -> Result<(), WordsError>
-    ensures { IsTaken (with_word word.now) read.old.settings (texts read.old.files.items) read.new.settings (texts read.new.files.items) result }
-{
-    if let Some(mode) = mode_of(word) {
-        read.settings = read.settings.with_mode(mode).ok_or(WordsError::Usage)?;
-        return Ok(());
-    }
-    if is_option(word) {
-        return Err(WordsError::Usage);
-    }
-    read.files.extend_from_slice(&[word])?;
-    Ok(())
 }
 
 // Takes a word, and gives how many of the words after it go with it.
@@ -129,32 +184,60 @@ fn take_first<'a, A: Allocator>(
     read: &mut Read<'a, A>,
     word: &'a str,
     more: &[&'a str],
-) -> Result<usize, WordsError>
-    ensures taken { IsTakenFrom word.now more.now read.old.settings (texts read.old.files.items) read.new.settings (texts read.new.files.items) result }
+) -> Result<usize, WordsError<'a>>
+    ensures taken { IsTakenFrom run_from word.now more.now (as_settings read.old.settings) (texts read.old.files.items)
+        (as_settings read.new.settings) (texts read.new.files.items) result }
     ensures within { IfOk result (λ count. count ≤ length more.now) }
 {
     if word == "--" {
         read.files.extend_from_slice(more)?;
         return Ok(more.len());
     }
-    if takes_number(word) {
-        let value = more.first().ok_or(WordsError::Usage)?;
-        read.settings = read
-            .settings
-            .with_limit(word, value)
-            .ok_or(WordsError::Usage)?;
+    if is_input(word) {
+        let settings = read.settings.with_input();
+        read.settings = settings.ok_or(WordsError::of(word, Mistake::Again))?;
+        return Ok(0);
+    }
+    if let Some(mode) = mode_of(word) {
+        let settings = read.settings.with_mode(mode);
+        read.settings = settings.ok_or(WordsError::of(word, Mistake::Again))?;
+        return Ok(0);
+    }
+    if is_option(word) {
+        let value = more
+            .first()
+            .ok_or(WordsError::of(word, mistake_at_end(word)))?;
+        let settings = read.settings.with_value(word, value);
+        read.settings = settings.ok_or(WordsError::of(word, mistake_of(word, value)))?;
         return Ok(1);
     }
-    take_alone(read, word)?;
+    read.files.extend_from_slice(&[word])?;
     Ok(0)
 }
 
+// The run of these settings and files.
+fn finished<'a, A: Allocator>(read: Read<'a, A>) -> Result<Plan<'a, A>, WordsError<'a>>
+    ensures { IsRead as_plan (run_unless (as_settings read.entry.settings) (texts read.entry.files.items)) result }
+{
+    let settings = read.settings;
+    if settings.input && read.files.len() > 0 {
+        return Err(WordsError::of("-", Mistake::BesideFiles));
+    }
+    Ok(Plan {
+        mode: settings.mode.unwrap_or(Mode::Write),
+        limits: settings.limits.limits(),
+        most_output: settings.most_output,
+        name: settings.name.unwrap_or(INPUT),
+        files: read.files,
+    })
+}
+
 // The run of the words.
-fn plan_of<'a, A: Allocator>(alloc: A, words: &[&'a str]) -> Result<Plan<'a, A>, WordsError>
-    ensures { IsRead (λ plan. record { mode = plan.mode; limits = plan.limits; files = texts plan.files.items }) (run_of (texts words.now)) result }
+fn plan_of<'a, A: Allocator>(alloc: A, words: &[&'a str]) -> Result<Plan<'a, A>, WordsError<'a>>
+    ensures { IsRead as_plan (run_from no_settings [] (texts words.now)) result }
 {
     let mut read = Read {
-        settings: Settings::NOTHING,
+        settings: Settings::nothing(),
         files: Vec::new(alloc),
     };
     let mut index = 0;
@@ -162,11 +245,7 @@ fn plan_of<'a, A: Allocator>(alloc: A, words: &[&'a str]) -> Result<Plan<'a, A>,
         let taken = take_first(&mut read, words[index], &words[index + 1..])?;
         index += 1 + taken;
     }
-    Ok(Plan {
-        mode: read.settings.mode.unwrap_or(Mode::Write),
-        limits: read.settings.limits.limits(),
-        files: read.files,
-    })
+    finished(read)
 }
 
 /// The request in the words after the program's name. `--help` and `--version` come before all else, wherever they are. Options and files
@@ -174,9 +253,8 @@ fn plan_of<'a, A: Allocator>(alloc: A, words: &[&'a str]) -> Result<Plan<'a, A>,
 pub fn options<'a, A: Allocator>(
     alloc: A,
     words: &[&'a str],
-) -> Result<Request<Plan<'a, A>>, WordsError>
-    ensures { IsRead (request_map (λ plan. record { mode = plan.mode; limits = plan.limits; files = texts plan.files.items }))
-        (request_of (texts words.now)) result }
+) -> Result<Request<Plan<'a, A>>, WordsError<'a>>
+    ensures { IsRead (request_map as_plan) (request_of (texts words.now)) result }
 {
     if let Some(page) = information_of(words) {
         return Ok(Request::Print(page));

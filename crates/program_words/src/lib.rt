@@ -11,4 +11,5 @@ pub mod gqlfmt;
 pub mod gqlls;
 pub mod information;
 mod limits;
+pub mod misuse;
 mod numbers;

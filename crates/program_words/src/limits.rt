@@ -1,7 +1,8 @@
 // The two options that set limits.
 ghost use Rattle.std.specs.Prelude.{◌≡◌};
 ghost use Rattle.program_words.specs.LimitOptions.{with_option};
-ghost use Rattle.program_words.specs.Reading.{IsSetLimit, limits_set, with_limit};
+ghost use Rattle.program_words.specs.Reading.{IsSetLimit};
+ghost use Rattle.program_words.specs.SetLimits.{limits_set, with_limit};
 
 use crate::numbers::number_of;
 use apollo_lexer::Limits;

@@ -24,3 +24,12 @@ returns-else-text-token_limit-clause-no c = λ e.
     let n = counted c.new.result c.args.text.now c.count.result c.new.ensures.answers c.count.ensures.ran in
     let many : c.args.token_limit < c.count.result = grind (arith, nat_tests) in
     omega (arith, n, many)
+
+pub returns-then-text-token_limit-clause-few : goal.returns-then-text-token_limit-clause-few
+returns-then-text-token_limit-clause-few c = λ e. omega (arith, few-from 0 0 c.args.text.now)
+
+pub returns-else-text-token_limit-clause-few : goal.returns-else-text-token_limit-clause-few
+returns-else-text-token_limit-clause-few c = λ e.
+    let n = counted c.new.result c.args.text.now c.count.result c.new.ensures.answers c.count.ensures.ran in
+    let few : c.count.result ≤ c.args.token_limit = grind (arith, nat_tests) in
+    omega (arith, n, few)

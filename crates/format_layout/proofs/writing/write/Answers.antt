@@ -18,8 +18,8 @@ write-requires g c =
     token-text _ _ _ _ _ (subst (λ item. answers_left c.loop-item.item-iterator ≡ answer_of item ∷ answers_left c.next.new.self) c.in-Ok.is given)
     (answers-are-items c.loop-item.item-iterator)
 
-pub loop-item-preserved-in_ok-write : goal.loop-item-preserved-in_ok-write
-loop-item-preserved-in_ok-write g c =
+pub loop-item-preserved-in_ok-check_length : goal.loop-item-preserved-in_ok-check_length
+loop-item-preserved-in_ok-check_length g c =
     let given : answers_left c.loop-item.item-iterator ≡ answer_of c.in-Some.item ∷ answers_left c.next.new.self = c.in-Some.ensures.steps.answers in
     writes-token _ _ _ _ _ _ _ _ _ _ (subst (λ item. answers_left c.loop-item.item-iterator ≡ answer_of item ∷ answers_left c.next.new.self) c.in-Ok.is given)
     c.in_ok-write.ensures c.loop-item.invariant

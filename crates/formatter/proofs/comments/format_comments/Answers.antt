@@ -6,4 +6,4 @@ use Rattle.formatter.proofs.comments.format_comments.Goals as goal
 pub returns-clause-same : goal.returns-clause-same
 returns-clause-same g c =
     let only : c.has_no_definitions.result ≡ true = grind (arith, nat_tests) in
-    laid-out c.args.source.now _ c.utf8.source (c.has_no_definitions.ensures.tokens only) (c.has_no_definitions.ensures.none only) c.in_ok-text.ensures
+    laid-out c.args.source.now _ c.utf8.source (c.has_no_definitions.ensures.tokens only) (c.has_no_definitions.ensures.none only) c.in_ok-text.ensures.same

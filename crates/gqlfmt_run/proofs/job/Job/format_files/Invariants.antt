@@ -5,6 +5,6 @@ use Rattle.gqlfmt_run.proofs.job.Job.format_files.Given as goal
 
 abbrev pub invariant-loop-path : goal.invariant-loop-path
 invariant-loop-path g l =
-    HandlesAll g.F.Files.reads g.F.Files.replaces l.self.mode l.self.limits (texts (take l.path-index l.paths)) l.status
+    HandlesAll g.F.Files.reads g.F.Files.replaces l.self.mode l.self.bounds (texts (take l.path-index l.paths)) l.status
     (record { files = l.initial.files; output = g.W.Sink.account l.initial.writer; complaints = g.E.Sink.account l.initial.complaints })
     (record { files = l.files; output = g.W.Sink.account l.writer; complaints = g.E.Sink.account l.complaints })

@@ -3,5 +3,5 @@ use Rattle.gqlfmt_run.proofs.job.Job.output_of.Goals as goal
 
 pub returns-in_ok-complain-in-Refused-clause-output : goal.returns-in_ok-complain-in-Refused-clause-output
 returns-in_ok-complain-in-Refused-clause-output g c =
-    of_refused c.args.self.now.mode c.args.self.now.limits c.args.source.now _ c.in-Refused.refusal
+    of_refused c.args.self.now.mode c.args.self.now.bounds c.args.name.now c.args.source.now _ c.in-Refused.refusal
     (rw c.in-Refused.is at c.in_ok-revise.ensures) c.new.ensures.bytes

@@ -1,8 +1,8 @@
 use Rattle.std.proofs.Common.{◌≡◌, ◌≤◌, true, false, length, sym, ap, ◌∙◌, eqb, arith}
 use Rattle.std.proofs.lemmas.Bool.Decides.{nat_tests}
 use Rattle.lexical_grammar.specs.Answers.{usize_max}
-use Rattle.formatter.proofs.Parses.{empty-list, refused, sentence-of, formatted-by}
-use Rattle.formatter.proofs.format.Goals as goal
+use Rattle.formatter.proofs.Parses.{empty-list, refused, sentence-of, formatted-by, is-document, whatever-error}
+use Rattle.formatter.proofs.format_within.Goals as goal
 
 pub returns-then-not-is_empty-clause-refused : goal.returns-then-not-is_empty-clause-refused
 returns-then-not-is_empty-clause-refused g c =
@@ -23,4 +23,11 @@ returns-clause-formatted g c =
     let parsed = rw (c.within.ensures.source, c.within.ensures.recursion_limit, c.within.ensures.token_limit) at c.in_ok-tree.ensures.promise in
     let none : c.is_empty.result ≡ true = grind (arith, nat_tests) in
     formatted-by _ _ _ _ _ (sym c.in_ok-errors.ensures ∙ sym c.as_slice.ensures.value
-    ∙ empty-list c.as_slice.result.now (sym c.is_empty.ensures ∙ none)) parsed c.in_ok-text.ensures
+    ∙ empty-list c.as_slice.result.now (sym c.is_empty.ensures ∙ none)) parsed c.in_ok-text.ensures.formatted
+
+pub returns-in_err-text-clause-long : goal.returns-in_err-text-clause-long
+returns-in_err-text-clause-long g c =
+    let parsed = rw (c.within.ensures.source, c.within.ensures.recursion_limit, c.within.ensures.token_limit) at c.in_ok-tree.ensures.promise in
+    let none : c.is_empty.result ≡ true = grind (arith, nat_tests) in
+    whatever-error _ _ (is-document c.args.source.now c.args.limits.recursion c.args.limits.tokens _
+    (sym c.in_ok-errors.ensures ∙ sym c.as_slice.ensures.value ∙ empty-list c.as_slice.result.now (sym c.is_empty.ensures ∙ none)) parsed)

@@ -1,0 +1,86 @@
+// Why a program is not called so.
+ghost use Rattle.std.specs.Prelude.{◌≡◌, ◌++◌, ℕ, List, IfOk, string_bytes};
+ghost use Rattle.program_words.specs.declared.misuse.WordsError.TheVariants.{Memory};
+
+use marked_lines::push_escaped;
+use std::alloc::{AllocError, Allocator};
+
+/// What is wrong with a word.
+#[derive(Clone, Copy)]
+pub enum Mistake {
+    /// There is no such option.
+    Unknown,
+    /// No value follows the option.
+    NoValue,
+    /// The value is no number, or one that is too large.
+    NoNumber,
+    /// The option is given twice, or with another one that excludes it.
+    Again,
+    /// Standard input is given beside files.
+    BesideFiles,
+}
+
+/// A word that is wrong in its place.
+#[derive(Clone, Copy)]
+pub struct Misuse<'a> {
+    pub word: &'a str,
+    pub mistake: Mistake,
+}
+
+impl Misuse<'_> {
+    // The words around the word that is wrong, in a line about it.
+    fn words(&self) -> (&'static str, &'static str) {
+        match self.mistake {
+            Mistake::Unknown => ("unknown option ", ""),
+            Mistake::NoValue => ("", " has no value"),
+            Mistake::NoNumber => ("", " takes a number"),
+            Mistake::Again => ("", " is given twice, or beside an option that excludes it"),
+            Mistake::BesideFiles => ("", " is given beside files"),
+        }
+    }
+
+    /// What a program with this name says: a line about the word that is wrong, with escapes for characters that would not be seen, and then how it is
+    /// called.
+    pub fn explanation<A: Allocator>(
+        &self,
+        alloc: A,
+        program: &str,
+        usage: &str,
+    ) -> Result<String<A>, AllocError>
+        ensures { IfOk result (λ text. (wrong : List ℕ) × (string_bytes text ≡ wrong ++ usage.now)) }
+    {
+        let (before, after) = self.words();
+        let mut text = String::from_str(alloc, program)?;
+        text.push_str(": ")?;
+        text.push_str(before)?;
+        push_escaped(&mut text, self.word)?;
+        text.push_str(after)?;
+        text.push('\n')?;
+        text.push_str(usage)?;
+        Ok(text)
+    }
+}
+
+/// Why words have no request.
+#[derive(Clone, Copy)]
+pub enum WordsError<'a> {
+    /// The program is not called so.
+    Usage(Misuse<'a>),
+    /// Memory was refused.
+    Memory,
+}
+
+impl<'a> From<AllocError> for WordsError<'a> {
+    ghost from_gives = { λ _ error. error ≡ Memory };
+
+    fn from(_error: AllocError) -> WordsError<'a> {
+        WordsError::Memory
+    }
+}
+
+impl<'a> WordsError<'a> {
+    /// That a word is wrong.
+    pub(crate) fn of(word: &'a str, mistake: Mistake) -> WordsError<'a> {
+        WordsError::Usage(Misuse { word, mistake })
+    }
+}
