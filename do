@@ -42,6 +42,8 @@ quick() {
 
 tests() {
     tools/format_texts --trial
+    tools/format_trial/trial.py crates/gqlfmt/out/gqlfmt 100
+    tools/file_tests
     tools/gqlcheck_tests
     tools/fault_tests
     tools/bindings

@@ -1,13 +1,13 @@
 #!/usr/bin/env python3
 """Looks for faults in the layout of gqlfmt.
 
-    trial.py GQLFMT [COUNT [SEED [FOLDER]]]  formats COUNT documents (1000) of each of two kinds, and the .graphql files of FOLDER. Shows the shortest failure of
-                                             each sort, and ends with status 1 where there is one
+    trial.py GQLFMT [COUNT [SEED [FOLDER]]]  formats the texts of tools/format_trial/records, COUNT documents (1000) of each of two kinds, and the .graphql
+                                             files of FOLDER. Shows the shortest failure of each sort, and ends with status 1 where there is one
     trial.py --records COUNT [SEED]          prints records for tools/format_texts: COUNT documents with the layout of layout.py, and then a third as many
                                              with comments, which have no known layout
 
 Of each text there is one without comments, with other white space and commas, for which layout.py has to give the same output, and one with comments at
-random places. In both the second formatting must change nothing, the tokens and comments and the values of block strings must be those of the input by graphql-core's
+random places. The recorded texts are tried as they are, with other white space and line ends, and with comments besides. Everywhere the second formatting must change nothing, the tokens and comments and the values of block strings must be those of the input by graphql-core's
 lexer, and between two tokens there may be nothing, a space, a comma and a space, or one or two line feeds and an indent; after a comment `gqlfmt-ignore` anything
 may."""
 
@@ -18,8 +18,12 @@ import sys
 import tempfile
 from pathlib import Path
 
+try:
+    from graphql import GraphQLError, parse
+except ImportError:
+    print("format_trial: graphql-core isn't installed, so the trial is left out")
+    sys.exit(0)
 from documents import Documents, commented, meaning, shaken, tokens_of
-from graphql import GraphQLError, parse
 from layout import laid_out
 
 GAP = re.compile(r"(,? |\n\n?(?:  )*)?")
@@ -79,6 +83,12 @@ def tried(program, name, texts, layouts):
     return faults == 0
 
 
+def recorded():
+    """The texts that the gate formats, but for those that graphql-core refuses."""
+    records = (Path(__file__).resolve().parent / "records").read_bytes().decode().split("\x1e")
+    return [text for text in (record.split("\x1f")[1] for record in records if record) if is_taken(text)]
+
+
 def is_taken(text):
     try:
         return parse(text) is not None
@@ -113,7 +123,13 @@ def main():
     plain += [part for text in map(without_comments, files) for part in (text, shaken(text, numbers))]
     others = [commented(shaken(documents.document(), numbers), numbers) for _ in range(int(count))]
     others += [part for text in files for part in (text, commented(shaken(text, numbers), numbers))]
-    wells = [tried(Path(program).resolve(), "without comments", plain, map(laid_out, plain)), tried(Path(program).resolve(), "with comments", others, [None] * len(others))]
+    gates = [part for text in recorded() for part in (text, shaken(text, numbers), commented(shaken(text, numbers), numbers))]
+    program = Path(program).resolve()
+    wells = [
+        tried(program, "the gate's texts", gates, [None] * len(gates)),
+        tried(program, "without comments", plain, map(laid_out, plain)),
+        tried(program, "with comments", others, [None] * len(others)),
+    ]
     sys.exit(not all(wells))
 
 
