@@ -303,6 +303,29 @@ input Like { episode: Episode, other: Like }
 extend type Hero { height: Int }
 directive @d(at: Episode) on FIELD
 """
+OPEN = """type Hero {
+  "The hero
+  name: String
+}
+{ hero(id: "é) {
+  name } }
+type Query { hero: Hero }
+{ hero { """
+
+
+def open_quotes():
+    """A string that its line leaves open takes no more than that line from colours, outline, folds and completion; the errors are those of the text."""
+    client = opened(OPEN)
+    expect("the outline", [it["name"] for it in client.ask_about(URI, "documentSymbol")], ["Hero", "query", "Query", "query"])
+    expect("folds", client.ask_about(URI, "foldingRange")[0], {"startLine": 0, "endLine": 2})
+    data = client.ask_about(URI, "semanticTokens/full")["data"]
+    expect("colours of the first lines", data[:30],
+           [0, 0, 4, 1, 0, 0, 5, 4, 6, 0, 1, 2, 9, 2, 0, 1, 2, 4, 7, 0, 0, 4, 1, 4, 0, 0, 2, 6, 6, 0])
+    expect("words after it", [it["label"] for it in client.ask_about(URI, "completion", **at(7, 9))], ["name"])
+    expect("an error that runs over the line", client.open(URI, OPEN)["diagnostics"][0]["range"], span(1, 2, 11))
+    client.end()
+
+
 # Names that have their meaning by the types of their places, and where TYPES defines them.
 QUERY = """query Q($e: Episode = JEDI) {
   hero(episode: HOPE, like: { other: { episode: JEDI } }) @d(at: HOPE) { friends { name } ...F }
@@ -443,7 +466,7 @@ def refused_words():
         expect(f"the words {words}", (ended.returncode, ended.stdout, ended.stderr), (2, b"", usage))
 
 
-TESTS = [states, statuses_without_shutdown, faulty_messages, pieces_of_input, capabilities, changes, diagnostics, violations, lambda: names("utf-16", 0), lambda: names("utf-8", 2), other_documents, members,
+TESTS = [states, statuses_without_shutdown, faulty_messages, pieces_of_input, capabilities, changes, diagnostics, violations, lambda: names("utf-16", 0), lambda: names("utf-8", 2), other_documents, members, open_quotes,
          lambda: parts("utf-16", 0), lambda: parts("utf-8", 2), names_of_symbols, more_folds, completion, layout, limits, refused_words]
 for test in TESTS:
     test()

@@ -4,6 +4,7 @@ use apollo_parser::{
 };
 use editor_answers::{BUILT_INS, NameKind, meaning_of, span_of};
 use editor_diagnostics::Positions;
+use open_quotes::closed;
 use rpc_messages::Piece;
 use schema_members::{Member, Schema, members_at};
 use std::alloc::{AllocError, Global};
@@ -332,6 +333,19 @@ fn push_candidates<'p>(
     pieces.extend_from_slice(&[Piece::EndArray])
 }
 
+// A text where strings are closed that its lines but the last leave open; `None` where there are none.
+fn closed_before(alloc: Global, text: &str) -> Result<Option<String>, AllocError> {
+    let Some(end) = text.rfind('\n') else {
+        return Ok(None);
+    };
+    let (front, last) = text.split_at(end);
+    let Some(mut front) = closed(alloc, front)? else {
+        return Ok(None);
+    };
+    front.push_str(last)?;
+    Ok(Some(front))
+}
+
 /// Adds the result of completion at a byte offset: the words that may be there instead of the one that ends there. The root is the document's, and
 /// the roots are those of all, whose names may be there too.
 pub(crate) fn push_completions<'p>(
@@ -344,7 +358,12 @@ pub(crate) fn push_completions<'p>(
     limits: Limits,
 ) -> Result<(), AllocError> {
     let before = front_of(positions.text, offset);
-    let found = completions(alloc, before, root, roots, limits)?;
+    let closed = closed_before(alloc, before)?;
+    let text = match &closed {
+        Some(text) => text.as_str(),
+        None => before,
+    };
+    let found = completions(alloc, text, root, roots, limits)?;
     let range = positions.range(before.len(), offset);
     push_candidates(pieces, &range, found.as_slice())
 }

@@ -7,11 +7,12 @@ ghost use Rattle.gqlls_run.specs.Dialogue.{IsChanged, Updates};
 ghost use Rattle.gqlls_run.specs.State.{contents};
 ghost use Rattle.gqlls_run.specs.Told.{IsTold};
 
-use apollo_parser::{DocumentRoot, Limits, Parser, SyntaxTree};
+use apollo_parser::{DocumentRoot, Limits, Parser, SyntaxNode, SyntaxTree};
 use editor_diagnostics::{Positions, publication};
 use editor_text::{Change, OpenDocument};
 use editor_validation::remarks;
 use line_index::PositionEncoding;
+use open_quotes::closed;
 use std::alloc::{AllocError, Global};
 use std::collections::BTreeMap;
 
@@ -28,11 +29,30 @@ fn parsed(
     Ok(tree)
 }
 
-/// A document that a client has open.
+// The tree of a document's text where strings that their lines leave open are closed, if there are any: each is an error of the text's own tree.
+fn mended(
+    alloc: Global,
+    content: &OpenDocument,
+    tree: &SyntaxTree<DocumentRoot>,
+    limits: Limits,
+) -> Result<Option<SyntaxTree<DocumentRoot>>, AllocError> {
+    if tree.errors().as_slice().is_empty() {
+        return Ok(None);
+    }
+    let Some(text) = closed(alloc, content.text())? else {
+        return Ok(None);
+    };
+    let tree = Parser::within(text.as_str(), limits).parse(alloc)?;
+    Ok(Some(tree))
+}
+
+/// A document that a client has open, with the tree of its text.
 #[derive(Drop)]
 pub(crate) struct Document {
     pub content: OpenDocument,
-    pub tree: SyntaxTree<DocumentRoot>,
+    tree: SyntaxTree<DocumentRoot>,
+    // the one that answers are about, where it is another
+    mended: Option<SyntaxTree<DocumentRoot>>,
 }
 
 impl Document {
@@ -48,7 +68,12 @@ impl Document {
     {
         let content = OpenDocument::new(alloc, encoding, text)?;
         let tree = parsed(alloc, &content, limits)?;
-        Ok(Document { content, tree })
+        let mended = mended(alloc, &content, &tree, limits)?;
+        Ok(Document {
+            content,
+            tree,
+            mended,
+        })
     }
 
     /// Changes the text, and parses it within limits.
@@ -63,6 +88,7 @@ impl Document {
     {
         self.content.change_all(alloc, changes)?;
         self.tree = parsed(alloc, &self.content, limits)?;
+        self.mended = mended(alloc, &self.content, &self.tree, limits)?;
         Ok(())
     }
 
@@ -82,6 +108,14 @@ impl Document {
         // bound to a name, so that its clauses on `Ok` are found
         let body = publication(alloc, uri, version, &positions, remarks.as_slice())?;
         Ok(body)
+    }
+
+    /// The root of the tree that answers are about. Its byte offsets are those of the text, and its strings need not be.
+    pub(crate) fn root(&self) -> SyntaxNode<'_> {
+        match &self.mended {
+            Some(tree) => tree.root(),
+            None => self.tree.root(),
+        }
     }
 
     /// The positions in its text.

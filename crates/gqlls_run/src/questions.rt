@@ -105,7 +105,7 @@ impl<'a> Asked<'a, '_, '_> {
     // The first open document that defines the name at a byte offset, which this one doesn't define.
     fn definer(self, offset: usize) -> Option<Definer<'a>> {
         for (uri, document) in self.documents {
-            if let Some(span) = definition_elsewhere(self.root, offset, document.tree.root()) {
+            if let Some(span) = definition_elsewhere(self.root, offset, document.root()) {
                 return Some(Definer {
                     uri: uri.as_str(),
                     document,
@@ -172,7 +172,7 @@ impl<'a> Asked<'a, '_, '_> {
         };
         Ok(Some(Elsewhere {
             source: definer.document.content.text(),
-            root: definer.document.tree.root(),
+            root: definer.document.root(),
             offset: definer.span.start,
         }))
     }
@@ -181,7 +181,7 @@ impl<'a> Asked<'a, '_, '_> {
     fn roots(self) -> Result<Vec<SyntaxNode<'a>>, AllocError> {
         let mut roots = Vec::new(self.alloc);
         for document in self.documents.values() {
-            roots.push(document.tree.root())?;
+            roots.push(document.root())?;
         }
         Ok(roots)
     }
@@ -383,7 +383,7 @@ pub(crate) fn answer_question(
     let positions = document.positions(alloc)?;
     let asked = Asked {
         alloc,
-        root: document.tree.root(),
+        root: document.root(),
         positions: &positions,
         uri,
         documents,

@@ -56,7 +56,7 @@ fn put_found(
     let mut answer = answer;
     let positions = document.positions(alloc)?;
     let mut pieces = Vec::new(alloc);
-    for definition in document.tree.root().children() {
+    for definition in document.root().children() {
         if let Some(symbol) = symbol_of(definition)
             && has_part(symbol.name, part)
         {
