@@ -3,8 +3,8 @@
 text. It is compiled with the sanitizers for addresses and undefined behaviour, as `--language` c or c++; with `--inside 1` the library has the first, too,
 and is some five times as slow. The library is made without a proof, in a minute, and has counters at its edges.
 
-The texts of `fuzz/corpus.jsonl` come first, then others for `--seconds` seconds. What was found wrong is in build/fuzz, and the status is libFuzzer's. With `--keep` BYTES
-the corpus is written anew, up to that number of bytes: of texts that together reach what all have reached, the shortest first.
+The texts of `fuzz/corpus.jsonl` come first, then others for `--seconds` seconds. What was found wrong is in build/fuzz, and the status is libFuzzer's. With
+`--keep` BYTES the corpus is written anew, up to that number of bytes: of texts that together reach all edges, the shortest first.
 
 It needs clang with libFuzzer, which Debian has in clang and libclang-rt-14-dev."""
 
@@ -43,24 +43,24 @@ def target(folder, language, inside):
 def unpacked(folder):
     """A folder with a file for each input of the corpus."""
     folder.mkdir()
-    lines = CORPUS.read_text().splitlines() if CORPUS.exists() else []
+    lines = CORPUS.read_bytes().splitlines() if CORPUS.exists() else []
     for number, line in enumerate(lines):
         (folder / str(number)).write_bytes(json.loads(line).encode("latin-1"))
     return folder
 
 
 def keep(program, corpus, folder, most):
-    """Writes the corpus anew."""
+    """Writes the corpus anew, a text of JSON a line, whose characters are the input's bytes."""
     folder.mkdir()
-    subprocess.run([program, "-merge=1", folder, corpus], check=True, stderr=subprocess.DEVNULL)
+    subprocess.run([program, "-merge=1", "-use_counters=0", folder, corpus], check=True, stderr=subprocess.DEVNULL)
     lines, size = [], 0
     for path in sorted(folder.iterdir(), key=lambda path: (path.stat().st_size, path.name)):
-        line = json.dumps(path.read_bytes().decode("latin-1")) + "\n"
+        line = json.dumps(path.read_bytes().decode("latin-1"), ensure_ascii=False).encode() + b"\n"
         size += len(line)
         if size > most:
             break
         lines.append(line)
-    CORPUS.write_text("".join(lines))
+    CORPUS.write_bytes(b"".join(lines))
     print(f"{len(lines)} texts, {CORPUS.stat().st_size} bytes")
 
 
