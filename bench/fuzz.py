@@ -24,8 +24,8 @@ from binder.shared import BUILD, INCLUDE, kit  # noqa: E402
 
 FOLDER, CORPUS = HERE / "fuzz", HERE / "fuzz/corpus.jsonl"
 # Words of the grammar that a change of a few bytes would seldom make.
-WORDS = """{ } ( ) [ ] : = @ | & ! $ ... \"\"\" \\\"\"\" \\u{1F600} \\u00e9 # , é 😀 0 -1.5e3 true false null on query mutation subscription fragment schema scalar type interface
-union enum input directive extend implements repeatable FIELD OBJECT QUERY __typename""".split()
+WORDS = """{ } ( ) [ ] : = @ | & ! $ ... \"\"\" \\\"\"\" \\u{1F600} \\u00e9 # , é 😀 0 -1.5e3 true false null on query mutation subscription fragment schema
+scalar type interface union enum input directive extend implements repeatable FIELD OBJECT QUERY __typename""".split()
 COUNTED = "-fsanitize-coverage=inline-8bit-counters,pc-table,trace-cmp"
 
 
