@@ -10,9 +10,9 @@ use byte_devices::{StdSink, StdSource};
 use command::{HELP, VERSION};
 use gqlcst_run::ending::{USAGE, ending};
 use gqlcst_run::{Limits, Mode, options, run};
+use program_inputs::{views, words};
 use program_words::information::{Information, information_of};
-use std::env;
-use std::io::{self, Error, ErrorKind};
+use std::alloc::AllocError;
 use std::process::ExitCode;
 
 #[derive(Clone, Copy)]
@@ -22,30 +22,15 @@ enum Request {
 }
 
 // The request in the words after the program's name: nothing where the program is not called so.
-fn read_request(rt: &HostRuntime) -> io::Result<Option<Request>> {
-    let mut words = Vec::new(rt.alloc());
-    for word in env::args(rt)?.skip(1) {
-        words.push(word)?;
-    }
-    let mut views = Vec::new(rt.alloc());
-    for word in &words {
-        views.push(word.as_str())?;
-    }
+fn read_request(rt: &HostRuntime) -> Result<Option<Request>, AllocError> {
+    let words = words(rt)?;
+    let views = views(rt.alloc(), words.as_slice())?;
     if let Some(information) = information_of(views.as_slice()) {
         return Ok(Some(Request::Print(information)));
     }
     match options(views.as_slice()) {
         Some((mode, limits)) => Ok(Some(Request::Run(mode, limits))),
         None => Ok(None),
-    }
-}
-
-// Why the words are not read.
-fn complaint_of(error: &Error) -> &'static str {
-    match error.kind() {
-        ErrorKind::OutOfMemory => "gqlcst: out of memory",
-        ErrorKind::InvalidData => "gqlcst: an argument is not UTF-8",
-        _ => "gqlcst: cannot read the arguments",
     }
 }
 
@@ -69,7 +54,7 @@ fn main(rt: HostRuntime) -> ExitCode {
             ending(&run(rt.alloc(), &mut reader, &mut writer, mode, limits))
         }
         Ok(None) => (2, USAGE),
-        Err(error) => (2, complaint_of(&error)),
+        Err(AllocError) => (2, "gqlcst: out of memory"),
     };
     if !complaint.is_empty() {
         let _ = eprintln!(rt; "{complaint}");

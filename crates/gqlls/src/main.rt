@@ -9,9 +9,10 @@ mod command;
 use byte_devices::{Fault, StdSink, StdSource};
 use command::{HELP, USAGE, VERSION};
 use gqlls_run::{Limits, run};
+use program_inputs::{views, words};
 use program_words::gqlls::options;
 use program_words::information::{Information, information_of};
-use std::env;
+use std::alloc::AllocError;
 use std::process::ExitCode;
 
 #[derive(Clone, Copy)]
@@ -20,22 +21,17 @@ enum Request {
     Serve(Limits),
 }
 
-// The request in the words after the program's name: nothing where they can't be had as texts, or the program is not called so.
-fn read_request(rt: &HostRuntime) -> Option<Request> {
-    let words = env::args(rt).ok()?;
-    let mut texts = Vec::new(rt.alloc());
-    for word in words {
-        texts.push(word).ok()?;
-    }
-    let mut views = Vec::new(rt.alloc());
-    for text in texts.iter().skip(1) {
-        views.push(text.as_str()).ok()?;
-    }
+// The request in the words after the program's name: nothing where the program is not called so.
+fn read_request(rt: &HostRuntime) -> Result<Option<Request>, AllocError> {
+    let words = words(rt)?;
+    let views = views(rt.alloc(), words.as_slice())?;
     if let Some(information) = information_of(views.as_slice()) {
-        return Some(Request::Print(information));
+        return Ok(Some(Request::Print(information)));
     }
-    let limits = options(views.as_slice())?;
-    Some(Request::Serve(limits))
+    match options(views.as_slice()) {
+        Some(limits) => Ok(Some(Request::Serve(limits))),
+        None => Ok(None),
+    }
 }
 
 fn print(rt: &HostRuntime, information: Information) -> Result<u8, Fault> {
@@ -66,12 +62,13 @@ fn complaint_of(fault: Fault) -> &'static str {
 
 fn main(rt: HostRuntime) -> ExitCode {
     let ended = match read_request(&rt) {
-        Some(Request::Print(information)) => print(&rt, information),
-        Some(Request::Serve(limits)) => serve(&rt, limits),
-        None => {
+        Ok(Some(Request::Print(information))) => print(&rt, information),
+        Ok(Some(Request::Serve(limits))) => serve(&rt, limits),
+        Ok(None) => {
             let _ = eprintln!(rt; "{USAGE}");
             return ExitCode::from(2);
         }
+        Err(AllocError) => Err(Fault::Memory),
     };
     match ended {
         Ok(status) => ExitCode::from(status),

@@ -1,6 +1,6 @@
 //! What a program takes from its runtime: the words of its command line, and a standard input that waits.
 //!
-//! The `main`s of `gqlfmt` and `gqlcheck` call `words`, and read through a `Patient`.
+//! Each `main` calls `words`; those of `gqlfmt` and `gqlcheck` read through a `Patient`.
 #![tactic(auto)]
 
 mod command_line;
