@@ -5,7 +5,7 @@ use Rattle.gqlfmt_files.specs.declared.settling.Mode.TheVariants.{Write, Check, 
 use Rattle.gqlfmt_files.specs.declared.settling.Settled.TheVariants.{Done, Found}
 use Rattle.gqlfmt_run.specs.declared.formatting.Refusal.{Refusal}
 use Rattle.gqlfmt_run.specs.declared.job.Bounds.{Bounds}
-use Rattle.gqlfmt_run.specs.Formatting.{IsLaidOut, IsRefused, IsRefusedFor, IsChanged, IsShown}
+use Rattle.gqlfmt_run.specs.Formatting.{IsLaidOut, IsRefusedFor, IsChanged, IsShown}
 use Rattle.gqlfmt_run.specs.Input.{IsOutput, kept, settled_of}
 
 pub of_same : (mode : Mode) (bounds : Bounds) (name source output : List ℕ) → IsLaidOut bounds source source → output ≡ kept mode source

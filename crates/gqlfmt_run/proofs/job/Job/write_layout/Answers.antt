@@ -1,6 +1,5 @@
 use Rattle.std.proofs.Common.{string_bytes, refl}
 use Rattle.std.proofs.lemmas.Result.{err_from_is_err_and}
-use Rattle.byte_devices.specs.Devices.{Account}
 use Rattle.byte_devices.proofs.Ends.{cut}
 use Rattle.gqlfmt_run.specs.Input.{IsOutput}
 use Rattle.gqlfmt_run.proofs.Saying.{silent-broken}
