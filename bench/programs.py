@@ -18,7 +18,7 @@ def built(name):
     """The program of this name that `rt ci` has proved and built."""
     program = TOP / f"crates/{name}/out/{name}"
     if not program.exists():
-        sys.exit(f"there is no program {program}: `./do gate`, or `rt ci {name}`, builds it")
+        sys.exit(f"there is no program {program}: `./do gate` builds it")
     return program
 
 
