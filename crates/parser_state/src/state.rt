@@ -11,7 +11,7 @@ mod reporting;
 mod reports;
 mod tokens;
 
-ghost use Rattle.std.specs.Prelude.{◌≡◌, ◌≤◌, ◌<◌, ◌^◌, ◌+◌, ◌*◌, ◌/◌, true, [], length, take, map, max, min, OnOk, IfOk};
+ghost use Rattle.std.specs.Prelude.{◌≡◌, ◌≤◌, ◌<◌, ◌^◌, ◌+◌, ◌*◌, ◌/◌, true, [], length, take, map, min, OnOk, IfOk};
 ghost use Rattle.std.specs.List.{AllZip};
 ghost use Rattle.lexical_grammar.specs.declared.TokenKind.TheVariants as token;
 ghost use Rattle.document_grammar.specs.Builds.{nothing};
@@ -67,17 +67,11 @@ pub struct ParserState<'i, A: Allocator> {
 // How many open nodes get room at first. Few documents nest deeper.
 const EXPECTED_DEPTH: usize = 16;
 
-// The most elements that get room at first, in 31 MB. The C library takes new pages from the kernel for each block of more than 32 MB.
-const MOST_EXPECTED: usize = 2_600_000;
-
-// How many elements get room at first: as many as most texts have, small ones even without blanks. So few trees are copied as they grow.
+// How many elements get room at first: as many as most small texts have, even without blanks. A long text may be one string, so it gets no more than 4,096.
 fn expected_elements(bytes: usize) -> usize
-    ensures { result ≡ min (max (min (bytes / 4 * 3 + 32) 4096) (bytes / 2)) 2600000 }
+    ensures { result ≡ min (bytes / 4 * 3 + 32) 4096 }
 {
-    (bytes / 4 * 3 + 32)
-        .min(4096)
-        .max(bytes / 2)
-        .min(MOST_EXPECTED)
+    (bytes / 4 * 3 + 32).min(4096)
 }
 
 impl<'i, A: Allocator> Model for ParserState<'i, A> {
@@ -139,14 +133,13 @@ impl<'i, A: Allocator + Copy> ParserState<'i, A> {
         }
     }
 
-    /// Opens the root, and reads the first token. First it takes room for the tree, so that few grow step by step; if there is too little memory for that,
-    /// the tree grows as it has to.
+    /// Opens the root, and reads the first token. First it takes room for the tree, so that a small one does not grow step by step.
     pub fn open(&mut self, root: SyntaxKind) -> Result<(), AllocError>
         ensures step { OnOk result (self.new ≡ reading.rooted root self.old) }
         ensures budget { self.new.budget ≡ self.old.budget }
     {
         let elements = expected_elements(self.reader.bytes_left());
-        let _ = self.builder.reserve(elements, EXPECTED_DEPTH);
+        self.builder.reserve(elements, EXPECTED_DEPTH)?;
         self.builder.start_node(root)?;
         self.read_on()
     }
