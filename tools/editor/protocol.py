@@ -174,6 +174,27 @@ def changes():
     expect("the end", client.end(), 0)
 
 
+def positions():
+    """Positions that a text doesn't have: the line's end, the text's end, the front of the character. Long lines, whose columns differ in each encoding."""
+    text = '"""\n\u00e9\U0001F600b\r\n\rend\n"""\nscalar A'
+    for encoding, line, column, wanted in [("utf-16", 1, 99, "é😀bX\n\nend"), ("utf-16", 2, 5, "é😀b\nX\nend"), ("utf-16", 1, 2, "éX😀b\n\nend"), ("utf-8", 1, 1, "Xé😀b\n\nend"),
+                                           ("utf-8", 1, 5, "éX😀b\n\nend"), ("utf-8", 1, 6, "é😀Xb\n\nend"), ("utf-16", 3, 3, "é😀b\n\nendX")]:
+        client = opened(text, encoding)
+        client.change(URI, 1, [{"range": span(line, column, column), "text": "X"}])
+        expect(f"line {line}, column {column} in {encoding}", client.ask_about(URI, "hover", **at(5, 7))["contents"]["value"], f"```graphql\nscalar A\n```\n\n{wanted}")
+        client.end()
+    client = opened(text)
+    client.change(URI, 1, [{"range": span(900, 0, 0), "text": "BC"}])
+    expect("a line beyond the last", client.ask_about(URI, "documentSymbol")[0]["name"], "ABC")
+    client.end()
+    for encoding, width in [("utf-16", 3), ("utf-8", 6)]:
+        client = opened('{a(b:"' + "é😀" * 100 + '"!)}', encoding)
+        wide = 6 + 100 * width + 1
+        expect(f"an error after a long string in {encoding}", client.change(URI, 1, [])["diagnostics"][0]["range"], span(0, wide, wide + 1))
+        expect(f"taken away in {encoding}", client.change(URI, 2, [{"range": span(0, wide, wide + 1), "text": ""}])["diagnostics"], [])
+        client.end()
+
+
 def violations():
     """Rules of validation, in the words of graphql-js: a warning where something isn't used or may be in another file, and else an error."""
     def found(text):
@@ -466,7 +487,7 @@ def refused_words():
         expect(f"the words {words}", (ended.returncode, ended.stdout, ended.stderr), (2, b"", usage))
 
 
-TESTS = [states, statuses_without_shutdown, faulty_messages, pieces_of_input, capabilities, changes, diagnostics, violations, lambda: names("utf-16", 0), lambda: names("utf-8", 2), other_documents, members, open_quotes,
+TESTS = [states, statuses_without_shutdown, faulty_messages, pieces_of_input, capabilities, changes, positions, diagnostics, violations, lambda: names("utf-16", 0), lambda: names("utf-8", 2), other_documents, members, open_quotes,
          lambda: parts("utf-16", 0), lambda: parts("utf-8", 2), names_of_symbols, more_folds, completion, layout, limits, refused_words]
 for test in TESTS:
     test()

@@ -226,13 +226,6 @@ impl<'a, A: Allocator> LineIndex<'a, A> {
         })
     }
 
-    /// How many lines there are: at least one.
-    pub fn line_count(&self) -> usize
-        ensures { result ≡ line_at self.now (length self.now) + 1 }
-    {
-        self.starts.len()
-    }
-
     /// The byte offset at which a line begins, by its number from 0.
     pub fn line_start(&self, line: usize) -> usize
         requires { line < line_at self.now (length self.now) + 1 }
