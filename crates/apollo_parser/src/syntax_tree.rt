@@ -141,13 +141,13 @@ impl<R: Root, A: Allocator> SyntaxTree<R, A> {
         self.tree.element(index)
     }
 
-    /// Writes the elements in document order, in twelve bytes each, as far as there is room.
-    pub fn write_compact(&self, rows: &mut [CompactElement])
-        requires few { length (order self.now.tree) < 2 ^ 28 }
-        requires short { length (text self.now.tree) < 2 ^ 31 }
-        ensures { rows.new ≡ filled rows.old (compact_elements self.now.tree) }
+    /// Writes the elements in document order, in twelve bytes each, as far as there is room. The tree ends, and gives back what it can while it writes.
+    pub fn into_compact(self, rows: &mut [CompactElement])
+        requires few { length (order self.tree) < 2 ^ 28 }
+        requires short { length (text self.tree) < 2 ^ 31 }
+        ensures { rows.new ≡ filled rows.old (compact_elements self.tree) }
     {
-        self.tree.write_compact(rows);
+        self.tree.into_compact(rows);
     }
 }
 

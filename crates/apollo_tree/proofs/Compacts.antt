@@ -1,9 +1,9 @@
 -- The elements of a tree in twelve bytes.
 use Rattle.std.proofs.Common.{◌≡◌, ◌∙◌, ◌+◌, ◌-◌, ◌++◌, ℕ, zero, suc, ◌<◌, ◌≤◌, ◌^◌, List}
-use Rattle.std.proofs.Common.{[], ◌∷◌, length, map, take, set, get_or, ap, subst, refl, sym, ⊎_elim, arith}
+use Rattle.std.proofs.Common.{[], ◌∷◌, length, map, min, take, drop, set, get_or, ap, subst, refl, sym, ⊎_elim, arith}
 use Rattle.std.specs.Prelude.{unwrap_or}
 use Rattle.std.proofs.lemmas.Bool.{cases_lt}
-use Rattle.std.proofs.lemmas.List.{get_or-map, length-append, length-map, same_lists}
+use Rattle.std.proofs.lemmas.List.{drop-map, get_or-map, length-append, length-map, same_lists, take-map, take_rest}
 use Rattle.std.proofs.lemmas.List.Elements.{All-from_get_or, All-get_or}
 use Rattle.std.specs.List.{All}
 use Rattle.apollo_tree.specs.declared.record.Record.{Record}
@@ -19,7 +19,7 @@ use Rattle.apollo_tree.proofs.Parents.{no-index, some-parent}
 use Rattle.apollo_tree.proofs.Places.{cut-of, kind-is, length-table, node_is, size-is, start-is}
 use Rattle.apollo_tree.proofs.Spans.{children-span}
 use Rattle.apollo_tree.proofs.Widening.{packed-there}
-use Rattle.apollo_tree.proofs.Filling.{filled-by-one-more}
+use Rattle.apollo_tree.proofs.Filling.{filled-by-one-more, filled-in-two}
 
 -- a record's distance to its parent
 record Distance (i up : ℕ) (e : Element) : Type 0 where
@@ -118,3 +118,18 @@ module _ {P : Type 0} (f : P → Record) (ps : List P) (i : ℕ) (p : P) (is : p
       let item : get_or items i row ≡ row = get_or-map compact_record all i none_there row in-all ∙ sym (e ∙ ap compact_record there-is) in
       ap (λ (xs : List CompactElement). set xs i row) so_far ∙ ap (λ (x : CompactElement). set (filled buffer (take i items)) i x) (sym item)
       ∙ filled-by-one-more buffer items i (i + 1) row refl room (omega (arith, in-all, length-map all compact_record))
+
+-- records that are written in two parts
+pub in-two : {P : Type 0} (f : P → Record) (ps : List P) (rows : List CompactElement) (half written : ℕ) → written ≡ min half (length rows)
+    → filled (take written rows) (map compact_record (map f (take half ps)))
+    ++ filled (drop written rows) (map compact_record (map f (take (length ps - half) (drop half ps))))
+    ≡ filled rows (map compact_record (map f ps))
+in-two f ps rows half written e =
+    let items : List CompactElement = map compact_record (map f ps) in
+    let later : List CompactElement = map compact_record (map f (take (length ps - half) (drop half ps))) in
+    let front = sym (take-map compact_record half (map f ps) ∙ ap (map compact_record) (take-map f half ps)) in
+    let rest = sym (drop-map compact_record half (map f ps) ∙ ap (map compact_record) (drop-map f half ps)) in
+    let back : later ≡ drop half items = ap (λ qs. map compact_record (map f qs)) (take_rest ps half) ∙ rest in
+    ap (λ (xs : List CompactElement). filled (take written rows) xs ++ filled (drop written rows) later) front
+    ∙ ap (λ (xs : List CompactElement). filled (take written rows) (take half items) ++ filled (drop written rows) xs) back
+    ∙ filled-in-two rows items half written e

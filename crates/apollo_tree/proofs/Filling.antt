@@ -1,5 +1,6 @@
 -- Items that are written to a buffer one after another, as far as there is room.
-use Rattle.std.proofs.Common.{◌≡◌, ◌∙◌, ◌<◌, ◌+◌, ap, sym, ℕ, zero, suc, min, List, [], ◌∷◌, length, take, set, get_or, refl, arith}
+use Rattle.std.proofs.Common.{◌≡◌, ◌∙◌, ◌<◌, ◌+◌, ap, sym, ℕ, zero, suc, min, List, [], ◌∷◌, ◌++◌, length, take, drop, set, get_or, refl, arith}
+use Rattle.std.proofs.lemmas.List.{take-append-drop}
 use Rattle.apollo_tree.specs.Filled.{filled}
 
 pub filled-by-none : {A : Type 0} (buffer : List A) → filled buffer [] ≡ buffer
@@ -26,3 +27,15 @@ filled-as-far (b ∷ bs) [] zero e = refl
 filled-as-far (b ∷ bs) [] (suc n) e = refl
 filled-as-far (b ∷ bs) (x ∷ xs) zero e = absurd (omega (arith, e))
 filled-as-far (b ∷ bs) (x ∷ xs) (suc n) e = ap (λ r. x ∷ r) (filled-as-far bs xs n (omega (arith, e)))
+
+-- the buffer is filled in two parts
+pub filled-in-two : {A : Type 0} (buffer items : List A) (h w : ℕ) → w ≡ min h (length buffer)
+    → filled (take w buffer) (take h items) ++ filled (drop w buffer) (drop h items) ≡ filled buffer items
+filled-in-two [] items h zero e = rw (no-room (take h items)) (rw (no-room (drop h items)) (sym (no-room items)))
+filled-in-two [] items h (suc w) e = absurd (omega (arith, e))
+filled-in-two (b ∷ bs) items zero zero e = refl
+filled-in-two (b ∷ bs) items zero (suc w) e = absurd (omega (arith, e))
+filled-in-two (b ∷ bs) items (suc h) zero e = absurd (omega (arith, e))
+filled-in-two (b ∷ bs) [] (suc h) (suc w) e =
+    ap (λ r. b ∷ r) (ap (λ r. take w bs ++ r) (filled-by-none (drop w bs)) ∙ take-append-drop w bs)
+filled-in-two (b ∷ bs) (x ∷ xs) (suc h) (suc w) e = ap (λ r. x ∷ r) (filled-in-two bs xs h w (omega (arith, e)))

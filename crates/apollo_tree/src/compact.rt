@@ -3,11 +3,10 @@ ghost use Rattle.std.specs.Prelude.{◌≡◌, map};
 ghost use Rattle.std.specs.List.{All};
 ghost use Rattle.apollo_tree.specs.Compact.{compact_record};
 ghost use Rattle.apollo_tree.specs.Filled.{filled};
-ghost use Rattle.apollo_tree.specs.Forms.{readable};
 ghost use Rattle.apollo_tree.specs.Widened.{IsSmall};
 
 use crate::packed::Packed;
-use crate::table::Records;
+use std::alloc::Allocator;
 use std::mem::size_of;
 
 /// A node or a leaf of a tree with fewer than 2 ^ 28 elements, whose text has fewer than 2 ^ 31 bytes.
@@ -43,16 +42,25 @@ fn write_all<R: Packed>(records: &[R], rows: &mut [CompactElement])
     }
 }
 
-impl<'t> Records<'t> {
-    // Writes the records as far as there is room.
-    pub(crate) fn write_compact(self, rows: &mut [CompactElement])
-        requires { All IsSmall (readable self) }
-        ensures { rows.new ≡ filled rows.old (map compact_record (readable self.entry)) }
-    {
-        match self {
-            Records::Small(records) => write_all(records, rows),
-            Records::Narrow(records) => write_all(records, rows),
-            Records::Wide(records) => write_all(records, rows),
-        }
+// How many records take so much memory that its half is worth giving back.
+const MANY: usize = 1 << 16;
+
+// Writes the records of a table that ends here, as far as there is room. Of many, it writes the later half first, and gives its memory back before the rows of
+// the first half take theirs.
+#[inline(always)]
+pub fn write_and_free<R: Packed, A: Allocator>(records: Vec<R, A>, rows: &mut [CompactElement])
+    requires { All IsSmall (map R.plain records.items) }
+    ensures { rows.new ≡ filled rows.old (map compact_record (map R.plain records.items)) }
+{
+    if records.len() < MANY {
+        write_all(records.as_slice(), rows);
+        return;
     }
+    let mut records = records;
+    let half = records.len() / 2;
+    let (front, back) = rows.split_at_mut(half.min(rows.len()));
+    write_all(&records[half..], back);
+    records.truncate(half);
+    records.shrink_to_fit();
+    write_all(records.as_slice(), front);
 }

@@ -11,13 +11,13 @@ use std::alloc::Allocator;
 
 // Writes the tree and the errors of a parse, each as far as there is room.
 fn write_parse<R: Root, A: Allocator>(
-    tree: &SyntaxTree<R, A>,
+    tree: SyntaxTree<R, A>,
     elements: &mut [CompactElement],
     errors: &mut [ErrorRow],
     messages: &mut [u8],
 ) -> Counts
-    requires { length (text tree.now.tree) < 2 ^ 31 }
-    ensures { (source : List ℕ) → ParseOutcome (λ parsed. parsed ≡ tree.now) source
+    requires { length (text tree.tree) < 2 ^ 31 }
+    ensures { (source : List ℕ) → ParseOutcome (λ parsed. parsed ≡ tree) source
         (record { elements = elements.old; errors = errors.old; messages = messages.old })
         (record { elements = elements.new; errors = errors.new; messages = messages.new }) result }
 {
@@ -30,9 +30,8 @@ fn write_parse<R: Root, A: Allocator>(
     let Some(message_bytes) = counted_bytes(found) else {
         return refused(status::NO_MEMORY);
     };
-    tree.write_compact(elements);
     write_found(found, errors, messages);
-    Counts {
+    let counts = Counts {
         elements: element_count,
         text_bytes: text.len(),
         errors: found.len(),
@@ -40,7 +39,9 @@ fn write_parse<R: Root, A: Allocator>(
         recursion_high: tree.recursion_limit().high,
         token_high: tree.token_limit().high,
         status: status::OK,
-    }
+    };
+    tree.into_compact(elements);
+    counts
 }
 
 /// Parses a document (GraphQL October 2021, section 2.2, "Document") within both limits. It writes the rows of the tree's elements and of the
@@ -63,7 +64,7 @@ pub fn parse_into<A: Allocator + Copy>(
         Err(status) => return refused(status),
     };
     match Parser::within(text, limits).parse(alloc) {
-        Ok(tree) => write_parse(&tree, elements, errors, messages),
+        Ok(tree) => write_parse(tree, elements, errors, messages),
         Err(_) => refused(status::NO_MEMORY),
     }
 }
@@ -88,7 +89,7 @@ pub fn parse_selection_set_into<A: Allocator + Copy>(
         Err(status) => return refused(status),
     };
     match Parser::within(text, limits).parse_selection_set(alloc) {
-        Ok(tree) => write_parse(&tree, elements, errors, messages),
+        Ok(tree) => write_parse(tree, elements, errors, messages),
         Err(_) => refused(status::NO_MEMORY),
     }
 }
@@ -112,7 +113,7 @@ pub fn parse_type_into<A: Allocator + Copy>(
         Err(status) => return refused(status),
     };
     match Parser::within(text, limits).parse_type(alloc) {
-        Ok(tree) => write_parse(&tree, elements, errors, messages),
+        Ok(tree) => write_parse(tree, elements, errors, messages),
         Err(_) => refused(status::NO_MEMORY),
     }
 }
