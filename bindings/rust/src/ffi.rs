@@ -179,8 +179,18 @@ fn ask_for_large_pages<T>(room: &mut [MaybeUninit<T>]) {
 #[cfg(not(target_os = "linux"))]
 fn ask_for_large_pages<T>(_room: &mut [MaybeUninit<T>]) {}
 
+/// Gives back the end of much room. An element for two bytes of the text stays: as much the library takes for its own table, and what a tree gives back when it
+/// is dropped, glibc keeps for the next one, up to 32 MB.
+fn give_back_unused<T>(rows: &mut Vec<T>, text: &str) {
+    if rows.capacity() > MUCH {
+        rows.shrink_to((text.len() / 2).min(40 * MUCH) + MUCH / 16);
+    }
+}
+
 /// Room for the errors of a first call, on the stack.
 const FEW_ERRORS: usize = 16;
+/// So many rows are worth giving back.
+const MUCH: usize = 1 << 16;
 const FEW_BYTES: usize = 1024;
 
 /// Calls with a guess of the room for rows and with room for few errors, and once more with room for all if that was too little.
@@ -205,7 +215,8 @@ fn fill<T: Copy>(
     check(status, text)?;
     if counts.elements <= rows.capacity() && counts.errors <= FEW_ERRORS && counts.message_bytes <= FEW_BYTES {
         // SAFETY: the call had the status OK and this room, which is enough for what it counts, so it wrote all of it
-        let (rows, errors, messages) = unsafe { (filled(rows, counts.elements), copied(&errors, counts.errors), copied(&messages, counts.message_bytes)) };
+        let (mut rows, errors, messages) = unsafe { (filled(rows, counts.elements), copied(&errors, counts.errors), copied(&messages, counts.message_bytes)) };
+        give_back_unused(&mut rows, text);
         return Ok(Found { rows, errors, messages, counts });
     }
     rows.reserve_exact(counts.elements);

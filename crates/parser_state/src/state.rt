@@ -67,11 +67,46 @@ pub struct ParserState<'i, A: Allocator> {
 // How many open nodes get room at first. Few documents nest deeper.
 const EXPECTED_DEPTH: usize = 16;
 
+// How many bytes make a text long.
+const LONG: usize = 1 << 14;
+
 // How many elements get room at first: as many as most small texts have, even without blanks. A long text may be one string, so it gets no more than 4,096.
 fn expected_elements(bytes: usize) -> usize
     ensures { result ≡ min (bytes / 4 * 3 + 32) 4096 }
 {
     (bytes / 4 * 3 + 32).min(4096)
+}
+
+// How many elements a long text may have: one for two bytes, up to 31 MB of memory. More than 32 MB glibc takes anew for each parse.
+fn likely_elements(bytes: usize) -> usize
+    ensures { result ≡ min (bytes / 2) 2600000 }
+{
+    (bytes / 2).min(2_600_000)
+}
+
+// Takes room for a long text's tree, if there is as much beside it as the tree's own text takes at the end. A guess may be wrong, so a refusal is no failure.
+#[cold]
+#[inline(never)]
+fn reserve_likely<A: Allocator + Copy>(alloc: A, builder: &mut SpanBuilder<A>, bytes: usize)
+    ensures { builder.new ≡ builder.old }
+{
+    if let Ok(_text) = Vec::<u8, A>::with_capacity(alloc, bytes) {
+        let _ = builder.reserve(likely_elements(bytes), 0);
+    }
+}
+
+// Takes room for the tree of a text.
+fn reserve_for<A: Allocator + Copy>(
+    alloc: A,
+    builder: &mut SpanBuilder<A>,
+    bytes: usize,
+) -> Result<(), AllocError>
+    ensures { builder.new ≡ builder.old }
+{
+    if bytes > LONG {
+        reserve_likely(alloc, builder, bytes);
+    }
+    builder.reserve(expected_elements(bytes), EXPECTED_DEPTH)
 }
 
 impl<'i, A: Allocator> Model for ParserState<'i, A> {
@@ -138,8 +173,7 @@ impl<'i, A: Allocator + Copy> ParserState<'i, A> {
         ensures step { OnOk result (self.new ≡ reading.rooted root self.old) }
         ensures budget { self.new.budget ≡ self.old.budget }
     {
-        let elements = expected_elements(self.reader.bytes_left());
-        self.builder.reserve(elements, EXPECTED_DEPTH)?;
+        reserve_for(self.alloc, &mut self.builder, self.reader.bytes_left())?;
         self.builder.start_node(root)?;
         self.read_on()
     }
