@@ -1,17 +1,31 @@
-// The files that the program formats.
-ghost use Rattle.std.specs.Prelude.{ℕ, List, Bool, Option, option_map, is_ok};
+// Files and folders.
+ghost use Rattle.std.specs.Prelude.{ℕ, List, Bool, Option, option_map, is_ok, IfOk, IfSome};
 ghost use Rattle.std.specs.Result.{result_ok};
+ghost use Rattle.gqlfmt_files.specs.Listing.{AreInOrder, Listing, listing_of};
 
+use crate::listing::Entry;
 use std::alloc::Allocator;
 use std::io;
 
-/// Files by their paths, to read and to replace.
+/// Files by their paths, to read and to replace, and the folders that have them.
 pub trait Files {
+    // the outcome of a call of `list` at a path: what it gives, and what is left
+    ghost lists: { Self → List ℕ → Listing → Self → Type 0 };
+
     // the outcome of a call of `read` at a path: the bytes that it gives, if it gives any, and what is left
     ghost reads: { Self → List ℕ → Option (List ℕ) → Self → Type 0 };
 
     // the outcome of a call of `replace` at a path with a text: whether it was done, and what is left
     ghost replaces: { Self → List ℕ → List ℕ → Bool → Self → Type 0 };
+
+    /// What the folder at a path has, in the bytewise order of the names, or nothing where no folder is there. A symbolic link at the path is followed.
+    fn list<A: Allocator + Copy>(
+        &mut self,
+        alloc: A,
+        path: &str,
+    ) -> io::Result<Option<Vec<Entry<A>, A>>>
+        ensures lists { lists self.old path.now (listing_of result) self.new }
+        ensures ordered { IfOk result (λ found. IfSome found (λ entries. AreInOrder entries.items)) };
 
     /// All bytes of the file at a path.
     fn read<A: Allocator>(&mut self, alloc: A, path: &str) -> io::Result<Vec<u8, A>>

@@ -5,7 +5,9 @@
 #![tactic(auto)]
 
 mod files;
+mod listing;
 mod settling;
 
 pub use files::Files;
+pub use listing::{Entry, Kind};
 pub use settling::{Mode, Revised, Settled, settle};

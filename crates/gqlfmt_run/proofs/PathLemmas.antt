@@ -1,6 +1,6 @@
 -- Files, one after the other.
-use Rattle.std.proofs.Common.{◌≡◌, ℕ, ◌+◌, ◌<◌, Bool, List, [], ◌∷◌, ◌++◌, length, take, get_or}
-use Rattle.std.proofs.Common.{max, refl, sym, ap, ◌∙◌, subst, arith, Option, Result, Bor, inl, inr}
+use Rattle.std.proofs.Common.{◌≡◌, ℕ, ◌+◌, ◌<◌, Bool, List, [], ◌∷◌, ◌++◌, length, take, get_or, map}
+use Rattle.std.proofs.Common.{max, refl, sym, ap, ◌∙◌, subst, arith, Option, Result, inl, inr}
 use Rattle.std.specs.Prelude.{Some, Ok}
 use Rattle.std.specs.Str.{IsUtf8}
 use Rattle.std.specs.Ordering.{ord_max, nat_cmp}
@@ -14,17 +14,16 @@ use Rattle.gqlfmt_files.specs.declared.settling.Revised.TheVariants.{Same, Chang
 use Rattle.gqlfmt_files.specs.declared.settling.Settled.{Settled}
 use Rattle.gqlfmt_files.specs.declared.settling.Settled.TheVariants.{Found}
 use Rattle.gqlfmt_files.specs.Settling.{Settles}
-use Rattle.program_words.specs.Gqlfmt.{texts}
+use Rattle.named_files.specs.Finding.{Place, path_of}
 use Rattle.gqlfmt_run.specs.declared.fault.FileFault.{FileFault}
 use Rattle.gqlfmt_run.specs.declared.formatting.Refusal.{Refusal}
 use Rattle.gqlfmt_run.specs.Complaints.{IsSilent, SaysOfFile}
 use Rattle.gqlfmt_run.specs.Formatting.{IsRevised}
 use Rattle.gqlfmt_run.specs.Status.{status_of}
-use Rattle.gqlfmt_run.specs.Paths.{Desk, FollowsText, Handles, HandlesAll, HandlesFile}
-use Rattle.gqlfmt_run.specs.Program.{State, desk, Formats}
+use Rattle.gqlfmt_run.specs.Paths.{Desk, FollowsText, Handles, HandlesAll, HandlesPlace}
 use Rattle.gqlfmt_run.specs.Showing.{Shows}
 
-ord_max-nat : (a b : ℕ) → ord_max nat_cmp a b ≡ max a b
+pub ord_max-nat : (a b : ℕ) → ord_max nat_cmp a b ≡ max a b
 ord_max-nat a b = grind (arith, nat_tests)
 
 module _ {S : Type 0} (reads : S → List ℕ → Option (List ℕ) → S → Type 0) (replaces : S → List ℕ → List ℕ → Bool → S → Type 0) where
@@ -53,40 +52,36 @@ module _ {S : Type 0} (reads : S → List ℕ → Option (List ℕ) → S → Ty
         (found X mode bounds path source revised middle new out out' (subst IsUtf8 (sym text.0) text.1) made settled shown);
   }
 
-  -- a run over some files
-  pub formats-files : (mode : Mode) (bounds : Bounds) (name : List ℕ) (paths : List (Bor (List ℕ))) (status : ℕ) (old new : State S) → 0 < length paths
-      → HandlesAll reads replaces mode bounds (texts paths) status (desk old) (desk new) → new.input ≡ old.input
-      → Formats reads replaces mode bounds name (texts paths) status old new
-  formats-files mode bounds name [] status old new some all input = absurd (omega (arith, some))
-  formats-files mode bounds name (p ∷ paths) status old new some all input = (all, input)
-
   module _ (mode : Mode) (bounds : Bounds) where
-    abbrev Ends : List ℕ → Result Settled FileFault → Desk S → Desk S → Type 0
-    Ends path ended old new = HandlesFile reads replaces mode bounds path ended old.files old.output new.files new.output
-        × SaysOfFile path ended old.complaints new.complaints
+    abbrev Ends : Place → Result Settled FileFault → Desk S → Desk S → Type 0
+    Ends place ended old new = HandlesPlace reads replaces mode bounds place ended old.files old.output new.files new.output
+        × SaysOfFile (path_of place) ended old.complaints new.complaints
 
-    -- one file more
-    handles-more : (paths : List (List ℕ)) (status : ℕ) (path : List ℕ) (ended : Result Settled FileFault) (old middle new : Desk S)
-        → HandlesAll reads replaces mode bounds paths status old middle
-        → Ends path ended middle new → HandlesAll reads replaces mode bounds (paths ++ path ∷ []) (max status (status_of ended)) old new
-    handles-more [] status path ended old middle new h one =
-        let last : Ends path ended old new = subst (λ (s : Desk S). Ends path ended s new) h.1 one in
+    -- one place more
+    handles-more : (places : List Place) (status : ℕ) (place : Place) (ended : Result Settled FileFault) (old middle new : Desk S)
+        → HandlesAll reads replaces mode bounds places status old middle
+        → Ends place ended middle new → HandlesAll reads replaces mode bounds (places ++ place ∷ []) (max status (status_of ended)) old new
+    handles-more [] status place ended old middle new h one =
+        let last : Ends place ended old new = subst (λ (s : Desk S). Ends place ended s new) h.1 one in
         (ended, 0, new, (omega (arith, h.0)), last.0, last.1, (refl, refl))
-    handles-more (p ∷ paths) status path ended old middle new h one =
-        (h.0, max h.1 (status_of ended), h.2, (omega (arith, h.3)), h.4, h.5, handles-more paths h.1 path ended h.2 middle new h.6 one)
+    handles-more (p ∷ places) status place ended old middle new h one =
+        (h.0, max h.1 (status_of ended), h.2, (omega (arith, h.3)), h.4, h.5, handles-more places h.1 place ended h.2 middle new h.6 one)
 
-    -- the same where the path is the next of a list, as the code has it
-    pub handles-next : (items : List (Bor (List ℕ))) (i status one worst : ℕ) (d : Bor (List ℕ)) (ended : Result Settled FileFault)
-        (old middle new : Desk S) (said : Account) → i < length items
-        → HandlesAll reads replaces mode bounds (texts (take i items)) status old middle
-        → HandlesFile reads replaces mode bounds (get_or items i d).now ended middle.files middle.output new.files new.output
+    -- the same where the place is the next of a list, as the code has it
+    pub handles-next : {X : Type 0} (f : X → Place) (items : List X) (i status one worst : ℕ) (x : X) (ended : Result Settled FileFault)
+        (old middle new : Desk S) (path : List ℕ) (said : Account) → i < length items → x ≡ get_or items i x
+        → HandlesAll reads replaces mode bounds (map f (take i items)) status old middle
+        → HandlesPlace reads replaces mode bounds (f x) ended middle.files middle.output new.files new.output
         → IsSilent ended middle.complaints said
-        → ((before : Account) → IsSilent ended before said → SaysOfFile (get_or items i d).now ended before new.complaints)
-        → one ≡ status_of ended → worst ≡ ord_max nat_cmp status one → HandlesAll reads replaces mode bounds (texts (take (i + 1) items)) worst old new
-    handles-next items i status one worst d ended old middle new said within h last silent tells is most =
-        let more : texts (take (i + 1) items) ≡ texts (take i items) ++ (get_or items i d).now ∷ [] =
-        ap texts (take_more items i d within) ∙ map-append (λ p. p.now) (take i items) (get_or items i d ∷ []) in
+        → path ≡ path_of (f x)
+        → ((before : Account) → IsSilent ended before said → SaysOfFile path ended before new.complaints)
+        → one ≡ status_of ended → worst ≡ ord_max nat_cmp status one → HandlesAll reads replaces mode bounds (map f (take (i + 1) items)) worst old new
+    handles-next f items i status one worst x ended old middle new path said within item h last silent named tells is most =
+        let more : map f (take (i + 1) items) ≡ map f (take i items) ++ f x ∷ [] =
+        ap (map f) (take_more items i x within) ∙ map-append f (take i items) (get_or items i x ∷ [])
+        ∙ ap (λ y. map f (take i items) ++ f y ∷ []) (sym item) in
         let top : worst ≡ max status (status_of ended) = most ∙ ord_max-nat status one ∙ ap (max status) is in
-        subst (λ (n : ℕ). HandlesAll reads replaces mode bounds (texts (take (i + 1) items)) n old new) (sym top)
-        (subst (λ (paths : List (List ℕ)). HandlesAll reads replaces mode bounds paths (max status (status_of ended)) old new) (sym more)
-        (handles-more (texts (take i items)) status (get_or items i d).now ended old middle new h (last, tells middle.complaints silent)))
+        let told = subst (λ (p : List ℕ). SaysOfFile p ended middle.complaints new.complaints) named (tells middle.complaints silent) in
+        subst (λ (n : ℕ). HandlesAll reads replaces mode bounds (map f (take (i + 1) items)) n old new) (sym top)
+        (subst (λ (places : List Place). HandlesAll reads replaces mode bounds places (max status (status_of ended)) old new) (sym more)
+        (handles-more (map f (take i items)) status (f x) ended old middle new h (last, told)))

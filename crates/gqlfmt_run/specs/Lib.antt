@@ -4,4 +4,5 @@ pub mod Complaints
 pub mod Input
 pub mod Showing
 pub mod Paths
+pub mod Folders
 pub mod Program

@@ -16,7 +16,9 @@ use Rattle.gqlfmt_run.specs.declared.command.TheConstants.{USAGE, HELP, VERSION,
 use Rattle.gqlfmt_run.specs.Status.{status_of}
 use Rattle.gqlfmt_run.specs.Complaints.{IsWritten, Says}
 use Rattle.gqlfmt_run.specs.Input.{IsOutput}
-use Rattle.gqlfmt_run.specs.Paths.{Desk, HandlesAll}
+use Rattle.gqlfmt_files.specs.Listing.{Listing}
+use Rattle.gqlfmt_run.specs.Paths.{Desk}
+use Rattle.gqlfmt_run.specs.Folders.{HandlesPaths}
 
 abbrev pub information_text : Information → List ℕ
 information_text Help = USAGE.now ++ HELP.now
@@ -63,12 +65,13 @@ abbrev pub OnlySays : {S : Type 0} → List ℕ → ℕ → State S → State S 
 OnlySays text status old new =
     (status ≡ 2) × IsWritten text old.complaints new.complaints × (new.output ≡ old.output) × (new.input ≡ old.input) × (new.files ≡ old.files)
 
--- the files, as a trait tells what its two calls do
-module _ {S : Type 0} (reads : S → List ℕ → Option (List ℕ) → S → Type 0) (replaces : S → List ℕ → List ℕ → Bool → S → Type 0) where
-  -- the files at these paths are handled, or standard input where there are none
+-- the files, as a trait tells what its three calls do
+module _ {S : Type 0} (lists : S → List ℕ → Listing → S → Type 0) (reads : S → List ℕ → Option (List ℕ) → S → Type 0)
+    (replaces : S → List ℕ → List ℕ → Bool → S → Type 0) where
+  -- the files that these paths name are handled, or standard input where there are none
   abbrev pub Formats : Mode → Bounds → List ℕ → List (List ℕ) → ℕ → State S → State S → Type 0
   Formats mode bounds name [] status old new = FormatsInput mode bounds name status (streams old) (streams new) × (new.files ≡ old.files)
-  Formats mode bounds name (path ∷ paths) status old new = HandlesAll reads replaces mode bounds (path ∷ paths) status (desk old) (desk new)
+  Formats mode bounds name (path ∷ paths) status old new = HandlesPaths lists reads replaces mode bounds (path ∷ paths) status (desk old) (desk new)
       × (new.input ≡ old.input)
 
   -- What a run does for a request. Where there is none, it says on standard error what is wrong and how the program is called, and nothing else. The words

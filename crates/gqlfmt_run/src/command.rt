@@ -13,7 +13,9 @@ pub const NO_MEMORY: &str = "gqlfmt: out of memory\n";
 pub const HELP: &str = "
 Puts GraphQL documents into one layout. Without FILE, or where FILE is -, it
 reads standard input and writes to standard output; otherwise each FILE that
-changes is replaced.
+changes is replaced. A FILE that is a folder means the files below it that
+end in .graphql, .graphqls or .gql, but for hidden names, node_modules and
+symbolic links.
 
   --check        change nothing; list the files that would change
   --diff         change nothing; show what would change, as a unified diff

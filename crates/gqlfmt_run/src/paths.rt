@@ -1,8 +1,8 @@
 // Formatting files.
-ghost use Rattle.std.specs.Prelude.{◌≡◌, OnErr};
-ghost use Rattle.program_words.specs.Gqlfmt.{texts};
+ghost use Rattle.std.specs.Prelude.{◌≡◌, OnErr, map};
+ghost use Rattle.named_files.specs.Finding.{as_named};
 ghost use Rattle.gqlfmt_run.specs.Complaints.{IsSilent};
-ghost use Rattle.gqlfmt_run.specs.Paths.{Handles, HandlesAll, HandlesFile, Prints};
+ghost use Rattle.gqlfmt_run.specs.Paths.{Handles, HandlesAll, HandlesFile, HandlesPlace, Prints};
 ghost use Rattle.gqlfmt_files.specs.declared.settling.Mode.TheVariants.{Print};
 ghost use Rattle.gqlfmt_run.specs.Showing.{Shows};
 
@@ -16,6 +16,7 @@ use byte_devices::{Fault, Sink, write_all};
 use error_finder::ErrorFinder;
 use formatter::DocumentFormatter;
 use gqlfmt_files::{Files, Mode, Revised, Settled, settle};
+use named_files::Named;
 use std::alloc::Allocator;
 
 impl<A: Allocator + Copy, L: DocumentFormatter + ErrorFinder> Job<'_, A, L> {
@@ -114,23 +115,41 @@ impl<A: Allocator + Copy, L: DocumentFormatter + ErrorFinder> Job<'_, A, L> {
         }
     }
 
-    /// Formats the files at these paths in order, also after one that fails, and gives the greatest of their statuses. `complaints` have why a
-    /// text is refused or was not formatted.
+    // Formats a file that was found.
+    fn format_named<F: Files, W: Sink, E: Sink>(
+        &self,
+        files: &mut F,
+        writer: &mut W,
+        complaints: &mut E,
+        named: &Named<A>,
+    ) -> Result<Settled, FileFault>
+        ensures handles { HandlesPlace F.reads F.replaces self.now.mode self.now.bounds (as_named named.now) result
+            files.old (W.account writer.old) files.new (W.account writer.new) }
+        ensures silent { IsSilent result (E.account complaints.old) (E.account complaints.new) }
+    {
+        match named {
+            Named::File(path) => self.format_file(files, writer, complaints, path.as_str()),
+            Named::Failed(_, error) => Err(FileFault::NotRead(*error)),
+        }
+    }
+
+    /// Formats the files that were found in order, also after one that fails, and gives the greatest of their statuses. `complaints` have why a text is
+    /// refused or was not formatted.
     pub fn format_files<F: Files, W: Sink, E: Sink>(
         &self,
         files: &mut F,
         writer: &mut W,
         complaints: &mut E,
-        paths: &[&str],
+        found: &[Named<A>],
     ) -> u8
-        ensures { HandlesAll F.reads F.replaces self.now.mode self.now.bounds (texts paths.now) result
+        ensures { HandlesAll F.reads F.replaces self.now.mode self.now.bounds (map as_named found.now) result
             (record { files = files.old; output = W.account writer.old; complaints = E.account complaints.old })
             (record { files = files.new; output = W.account writer.new; complaints = E.account complaints.new }) }
     {
         let mut status = 0;
-        for path in paths {
-            let ended = self.format_file(files, writer, complaints, path);
-            tell_of_file(self.alloc, files, complaints, path, &ended);
+        for named in found {
+            let ended = self.format_named(files, writer, complaints, named);
+            tell_of_file(self.alloc, files, complaints, named.path(), &ended);
             status = status.max(status_of(&ended));
         }
         status

@@ -62,7 +62,7 @@ impl<A: Allocator + Copy, L: DocumentFormatter + ErrorFinder> Job<'_, A, L> {
         status_of(&ended)
     }
 
-    // Formats the files at these paths, or standard input, which has this name, where there are none, and gives the status.
+    // Formats the files that these paths name, or standard input, which has this name, where there are none, and gives the status.
     fn format<R: Source, W: Sink, E: Sink, F: Files>(
         &self,
         reader: &mut R,
@@ -72,13 +72,13 @@ impl<A: Allocator + Copy, L: DocumentFormatter + ErrorFinder> Job<'_, A, L> {
         name: &str,
         paths: &[&str],
     ) -> u8
-        ensures { Formats F.reads F.replaces self.now.mode self.now.bounds name.now (texts paths.now) result
+        ensures { Formats F.lists F.reads F.replaces self.now.mode self.now.bounds name.now (texts paths.now) result
             (record { input = R.account reader.old; output = W.account writer.old; complaints = E.account complaints.old; files = files.old })
             (record { input = R.account reader.new; output = W.account writer.new; complaints = E.account complaints.new; files = files.new }) }
     {
         match paths {
             [] => self.format_standard_input(reader, writer, complaints, name),
-            _ => self.format_files(files, writer, complaints, paths),
+            _ => self.format_paths(files, writer, complaints, paths),
         }
     }
 }
@@ -101,7 +101,7 @@ pub fn run<
     files: &mut F,
     words: &[&str],
 ) -> u8
-    ensures { Runs F.reads F.replaces (request_of (texts words.now)) result
+    ensures { Runs F.lists F.reads F.replaces (request_of (texts words.now)) result
         (record { input = R.account reader.old; output = W.account writer.old; complaints = E.account complaints.old; files = files.old })
         (record { input = R.account reader.new; output = W.account writer.new; complaints = E.account complaints.new; files = files.new }) }
 {

@@ -1,4 +1,4 @@
-//! The files of a runtime, as `gqlfmt` reads and replaces them and `gqlcheck` reads them.
+//! The files of a runtime, as `gqlfmt` finds, reads and replaces them and `gqlcheck` finds and reads them.
 //!
 //! A file is replaced by renaming a new one over it, which has its owner, its group and its permissions before it has a text. A file that can't be
 //! replaced so, or has changed since it was read, is left as it is.
@@ -6,10 +6,12 @@
 
 ghost use Rattle.std.specs.Prelude.{◌≡◌, None};
 
+mod listing;
 mod replacing;
 mod state;
 
-use gqlfmt_files::Files;
+use gqlfmt_files::{Entry, Files};
+use listing::entries_of;
 use replacing::{fill, hidden_path, readable, replaceable};
 use state::State;
 use std::alloc::Allocator;
@@ -77,13 +79,23 @@ impl<'a, R: rt::Files> StdFiles<'a, R> {
     }
 }
 
-impl<'a, R: rt::Files + Alloc> Files for StdFiles<'a, R> {
+impl<'a, R: rt::Files + Alloc + Clone + Drop> Files for StdFiles<'a, R> {
     ghost use Rattle.std.specs.Prelude.{⊤};
 
     // nothing is stated about the file system
+    ghost lists = { λ old path given new. ⊤ };
+
     ghost reads = { λ old path given new. ⊤ };
 
     ghost replaces = { λ old path text done new. ⊤ };
+
+    fn list<A: Allocator + Copy>(
+        &mut self,
+        alloc: A,
+        path: &str,
+    ) -> io::Result<Option<Vec<Entry<A>, A>>> {
+        entries_of(self.runtime, alloc, path)
+    }
 
     fn read<A: Allocator>(&mut self, alloc: A, path: &str) -> io::Result<Vec<u8, A>> {
         if !self.any {

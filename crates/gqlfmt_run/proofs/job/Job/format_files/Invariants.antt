@@ -1,10 +1,10 @@
-use Rattle.std.proofs.Common.{take}
-use Rattle.program_words.specs.Gqlfmt.{texts}
+use Rattle.std.proofs.Common.{map, take}
+use Rattle.named_files.specs.Finding.{as_named}
 use Rattle.gqlfmt_run.specs.Paths.{HandlesAll}
 use Rattle.gqlfmt_run.proofs.job.Job.format_files.Given as goal
 
-abbrev pub invariant-loop-path : goal.invariant-loop-path
-invariant-loop-path g l =
-    HandlesAll g.F.Files.reads g.F.Files.replaces l.self.mode l.self.bounds (texts (take l.path-index l.paths)) l.status
+abbrev pub invariant-loop-named : goal.invariant-loop-named
+invariant-loop-named g l =
+    HandlesAll g.F.Files.reads g.F.Files.replaces l.self.mode l.self.bounds (map as_named (take l.named-index l.found)) l.status
     (record { files = l.initial.files; output = g.W.Sink.account l.initial.writer; complaints = g.E.Sink.account l.initial.complaints })
     (record { files = l.files; output = g.W.Sink.account l.writer; complaints = g.E.Sink.account l.complaints })

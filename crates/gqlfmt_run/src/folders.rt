@@ -1,0 +1,56 @@
+// Formatting the files that paths of the command line name.
+ghost use Rattle.program_words.specs.Gqlfmt.{texts};
+ghost use Rattle.gqlfmt_run.specs.Folders.{HandlesPath, HandlesPaths};
+
+use crate::job::Job;
+use crate::report::tell;
+use byte_devices::{Fault, Sink};
+use error_finder::ErrorFinder;
+use formatter::DocumentFormatter;
+use gqlfmt_files::Files;
+use named_files::named_files;
+use std::alloc::Allocator;
+
+impl<A: Allocator + Copy, L: DocumentFormatter + ErrorFinder> Job<'_, A, L> {
+    // Formats the files that a path names, and gives the greatest of their statuses.
+    fn format_path<F: Files, W: Sink, E: Sink>(
+        &self,
+        files: &mut F,
+        writer: &mut W,
+        complaints: &mut E,
+        path: &str,
+    ) -> u8
+        ensures { HandlesPath F.lists F.reads F.replaces self.now.mode self.now.bounds path.now result
+            (record { files = files.old; output = W.account writer.old; complaints = E.account complaints.old })
+            (record { files = files.new; output = W.account writer.new; complaints = E.account complaints.new }) }
+    {
+        match named_files(self.alloc, files, path) {
+            Ok(found) => self.format_files(files, writer, complaints, found.as_slice()),
+            Err(_) => {
+                tell(self.alloc, complaints, path, Fault::Memory);
+                2
+            }
+        }
+    }
+
+    /// Formats the files that these paths name in order, also after one that fails, and gives the greatest of their statuses. `complaints` have why a
+    /// text is refused or was not formatted.
+    pub fn format_paths<F: Files, W: Sink, E: Sink>(
+        &self,
+        files: &mut F,
+        writer: &mut W,
+        complaints: &mut E,
+        paths: &[&str],
+    ) -> u8
+        ensures { HandlesPaths F.lists F.reads F.replaces self.now.mode self.now.bounds (texts paths.now) result
+            (record { files = files.old; output = W.account writer.old; complaints = E.account complaints.old })
+            (record { files = files.new; output = W.account writer.new; complaints = E.account complaints.new }) }
+    {
+        let mut status = 0;
+        for path in paths {
+            let one = self.format_path(files, writer, complaints, path);
+            status = status.max(one);
+        }
+        status
+    }
+}

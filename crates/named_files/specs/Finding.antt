@@ -1,0 +1,71 @@
+-- The files that a path names: those below it where it is a folder's.
+use Rattle.std.specs.Prelude.{◌≡◌, ◌++◌, ℕ, List, [], ◌∷◌, Option, Some, None, string_bytes, if◌then◌else◌}
+use Rattle.std.specs.List.{filter_map}
+use Rattle.gqlfmt_files.specs.Listing.{Entry, Listing, unlisted, no_folder, entries}
+use Rattle.gqlfmt_files.specs.declared.listing.Kind.{Kind}
+use Rattle.gqlfmt_files.specs.declared.listing.Kind.TheVariants as kind
+use Rattle.named_files.specs.declared.finding.Named.{Named}
+use Rattle.named_files.specs.declared.finding.Named.TheVariants as variant
+use Rattle.named_files.specs.Names.{is_hidden, is_of_others, is_graphql, path_in}
+
+-- A path where there is a file, where there may be a folder, or where something could not be read.
+pub data Place : Type 0 where
+  file : List ℕ → Place
+  folder : List ℕ → Place
+  unreadable : List ℕ → Place
+
+abbrev pub as_named : {A : Type 0} → Named A → Place
+as_named (variant.File path) = file (string_bytes path)
+as_named (variant.Failed path error) = unreadable (string_bytes path)
+
+abbrev pub path_of : Place → List ℕ
+path_of (file path) = path
+path_of (folder path) = path
+path_of (unreadable path) = path
+
+-- The place, if it is looked at, by a path, a name and its kind: a folder that package managers do not fill, or a file whose name is a GraphQL file's.
+-- Symbolic links, pipes and devices are left out.
+abbrev pub place_of : List ℕ → List ℕ → Kind → Option Place
+place_of path name kind.File = if is_graphql name then Some (file path) else None
+place_of path name kind.Folder = if is_of_others name then None else Some (folder path)
+place_of path name kind.Other = None
+place_of path name (kind.Failed error) = Some (unreadable path)
+
+-- the same of an entry of a folder, if it is not hidden
+abbrev pub place_in : List ℕ → Entry → Option Place
+place_in path entry = if is_hidden entry.name then None else place_of (path_in path entry.name) entry.name entry.kind
+
+-- What is found at a path. Where that is nothing, the path counts as unreadable.
+abbrev pub named : List ℕ → List Place → List Place
+named path [] = unreadable path ∷ []
+named path (place ∷ found) = place ∷ found
+
+-- the folders, as a trait tells what listing one does
+module _ {S : Type 0} (lists : S → List ℕ → Listing → S → Type 0) where
+  -- `Finds places found old new`: what is found at these places, one after the other, and below them: files, and what could not be read.
+  pub data Finds : List Place → List Place → S → S → Type 0 where
+    nothing : {state : S} → Finds [] [] state state
+    at_file : {path : List ℕ} {places found : List Place} {old new : S}
+        → Finds places found old new → Finds (file path ∷ places) (file path ∷ found) old new
+    at_unreadable : {path : List ℕ} {places found : List Place} {old new : S}
+        → Finds places found old new → Finds (unreadable path ∷ places) (unreadable path ∷ found) old new
+    at_folder : {path : List ℕ} {has : List Entry} {places found : List Place} {old middle new : S}
+        → lists old path (entries has) middle
+        → Finds (filter_map (place_in path) has ++ places) found middle new → Finds (folder path ∷ places) found old new
+    at_no_folder : {path : List ℕ} {places found : List Place} {old middle new : S}
+        → lists old path no_folder middle
+        → Finds places found middle new → Finds (folder path ∷ places) (file path ∷ found) old new
+    at_unlisted : {path : List ℕ} {places found : List Place} {old middle new : S}
+        → lists old path unlisted middle
+        → Finds places found middle new → Finds (folder path ∷ places) (unreadable path ∷ found) old new
+
+  -- these are the files that a path names
+  pub record IsNamed (path : List ℕ) (found : List Place) (old new : S) : Type 0 where
+    pub all : List Place
+    pub finds : Finds (folder path ∷ []) all old new
+    pub is : found ≡ named path all
+
+  -- Folders were listed, and nothing else was done.
+  pub data Lists : S → S → Type 0 where
+    none : {state : S} → Lists state state
+    more : {old middle new : S} {path : List ℕ} {listing : Listing} → Lists old middle → lists middle path listing new → Lists old new

@@ -1,0 +1,10 @@
+//! The files that a path names: its own, or the GraphQL files below a folder.
+//!
+//! `gqlfmt` and `gqlcheck` call `named_files` with each path of their words. `specs/Finding.antt` defines which files it gives, in which order, for the
+//! listings of the folders.
+#![tactic(auto)]
+
+mod finding;
+mod names;
+
+pub use finding::{Named, named_files};
