@@ -5,6 +5,8 @@ use Rattle.byte_devices.specs.Runs.{Reads}
 use Rattle.byte_devices.specs.Writing.{EndsWriting}
 use Rattle.byte_devices.specs.declared.fault.Fault.{Fault}
 use Rattle.document_checks.specs.Checking.{Asked}
+use Rattle.gqlfmt_files.specs.Listing.{Listing}
+use Rattle.named_files.specs.Finding.{Place, file, unreadable, IsNamed, Lists}
 use Rattle.program_words.specs.Gqlcheck.{Run}
 use Rattle.program_words.specs.declared.gqlfmt.Request.{Request}
 use Rattle.program_words.specs.declared.gqlfmt.Request.TheVariants.{Print, Process}
@@ -88,7 +90,7 @@ OnlySays text status old new =
 
 -- ---- files
 
--- the files, as a trait tells what a call that reads one does
+-- the files, as a trait tells what reading one does
 module _ {S : Type 0} (reads : S → List ℕ → Option (List ℕ) → S → Type 0) where
   -- What follows a read: the bytes that it gave are checked.
   abbrev pub FollowsRead : Asked → Option (List ℕ) → Result Bool FileFault → Type 0
@@ -104,18 +106,49 @@ module _ {S : Type 0} (reads : S → List ℕ → Option (List ℕ) → S → Ty
     pub read : reads old path given new
     pub follows : FollowsRead asked given ended
 
-  -- The files at these paths were handled, one after the other, and the status is the greatest of theirs.
-  abbrev pub ChecksFiles : Asked → Bool → List (List ℕ) → ℕ → Desk S → Desk S → Type 0
-  ChecksFiles asked figures [] status old new = (status ≡ 0) × (new ≡ old)
-  ChecksFiles asked figures (path ∷ paths) status old new =
-      (ended : Result Bool FileFault) × (rest : ℕ) × (next : Desk S) × (status ≡ max (status_of ended) rest)
-      × Handles asked path ended old.files next.files × IsQuiet figures ended old.output next.output × SaysOnlyFaults ended old.complaints next.complaints
-      × ChecksFiles asked figures paths rest next new
+  -- A file that was found is handled, and a path that could not be read is left alone.
+  abbrev pub HandlesPlace : Asked → Place → Result Bool FileFault → S → S → Type 0
+  HandlesPlace asked (file path) ended old new = Handles asked path ended old new
+  HandlesPlace asked (unreadable path) (Err (NotRead error)) old new = new ≡ old
+  HandlesPlace asked place ended old new = ⊥
 
-  -- the files at these paths are checked, or standard input where there are none
+  -- These were handled, one after the other, and the status is the greatest of theirs.
+  abbrev pub ChecksFiles : Asked → Bool → List Place → ℕ → Desk S → Desk S → Type 0
+  ChecksFiles asked figures [] status old new = (status ≡ 0) × (new ≡ old)
+  ChecksFiles asked figures (place ∷ found) status old new =
+      (ended : Result Bool FileFault) × (rest : ℕ) × (next : Desk S) × (status ≡ max (status_of ended) rest)
+      × HandlesPlace asked place ended old.files next.files × IsQuiet figures ended old.output next.output
+      × SaysOnlyFaults ended old.complaints next.complaints × ChecksFiles asked figures found rest next new
+
+-- the same, as a trait tells what listing a folder does, too
+module _ {S : Type 0} (lists : S → List ℕ → Listing → S → Type 0) (reads : S → List ℕ → Option (List ℕ) → S → Type 0) where
+  -- The files that a path names are found, and then checked.
+  pub record ChecksNamed (asked : Asked) (figures : Bool) (path : List ℕ) (status : ℕ) (old new : Desk S) : Type 0 where
+    pub found : List Place
+    pub middle : S
+    pub named : IsNamed lists path found old.files middle
+    pub checked : ChecksFiles reads asked figures found status (record old { files = middle }) new
+
+  -- Memory is refused before they are all found, and nothing is done with them.
+  pub record GivesUp (status : ℕ) (old new : Desk S) : Type 0 where
+    pub fails : status ≡ 2
+    pub only_lists : Lists lists old.files new.files
+    pub silent : new.output ≡ old.output
+
+  abbrev pub ChecksPath : Asked → Bool → List ℕ → ℕ → Desk S → Desk S → Type 0
+  ChecksPath asked figures path status old new = ChecksNamed asked figures path status old new ⊎ GivesUp status old new
+
+  -- The same for these paths, one after the other. The status is the greatest of theirs.
+  abbrev pub ChecksPaths : Asked → Bool → List (List ℕ) → ℕ → Desk S → Desk S → Type 0
+  ChecksPaths asked figures [] status old new = (status ≡ 0) × (new ≡ old)
+  ChecksPaths asked figures (path ∷ paths) status old new =
+      (one : ℕ) × (rest : ℕ) × (next : Desk S) × (status ≡ max one rest)
+      × ChecksPath asked figures path one old next × ChecksPaths asked figures paths rest next new
+
+  -- the files that these paths name are checked, or standard input where there are none
   abbrev pub ChecksTexts : Asked → Bool → List (List ℕ) → ℕ → State S → State S → Type 0
   ChecksTexts asked figures [] status old new = ChecksInput asked figures status (streams old) (streams new) × (new.files ≡ old.files)
-  ChecksTexts asked figures (path ∷ paths) status old new = ChecksFiles asked figures (path ∷ paths) status (desk old) (desk new) × (new.input ≡ old.input)
+  ChecksTexts asked figures (path ∷ paths) status old new = ChecksPaths asked figures (path ∷ paths) status (desk old) (desk new) × (new.input ≡ old.input)
 
   -- What a run does for a request. Where there is none, it says on standard error what is wrong and how the program is called, and nothing
   -- else. The words about a mistake are not stated.

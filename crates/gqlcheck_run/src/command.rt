@@ -14,8 +14,9 @@ pub const HELP: &str = "usage: gqlcheck [OPTION..] [FILE..]
 
 Checks GraphQL documents before they run: that each is a document, keeps the
 rules that need no schema, and has operations within limits. Without FILE, or
-where FILE is -, it reads standard input. It prints what it finds and changes
-no file.
+where FILE is -, it reads standard input. A FILE that is a folder means the
+files below it that end in .graphql, .graphqls or .gql, but for hidden names,
+node_modules and symbolic links. It prints what it finds and changes no file.
 
   --max-depth N       fields in one another
   --max-fields N      fields, with each fragment counted where it is spread

@@ -66,7 +66,7 @@ impl<'c, 'w, A: Allocator + Copy, C: DocumentChecker> Job<'c, 'w, A, C> {
         }
     }
 
-    // Checks the files at these paths, or standard input where there are none, and gives the status.
+    // Checks the files that these paths name, or standard input where there are none, and gives the status.
     fn check<R: Source, W: Sink, E: Sink, F: Files>(
         &self,
         reader: &mut R,
@@ -75,13 +75,13 @@ impl<'c, 'w, A: Allocator + Copy, C: DocumentChecker> Job<'c, 'w, A, C> {
         files: &mut F,
         paths: &[&str],
     ) -> u8
-        ensures { ChecksTexts F.reads (as_asked self.now.checks) self.now.figures (texts paths.now) result
+        ensures { ChecksTexts F.lists F.reads (as_asked self.now.checks) self.now.figures (texts paths.now) result
             (record { input = R.account reader.old; output = W.account writer.old; complaints = E.account complaints.old; files = files.old })
             (record { input = R.account reader.new; output = W.account writer.new; complaints = E.account complaints.new; files = files.new }) }
     {
         match paths {
             [] => self.check_input(reader, writer, complaints),
-            _ => self.check_files(files, writer, complaints, paths),
+            _ => self.check_paths(files, writer, complaints, paths),
         }
     }
 }
@@ -98,7 +98,7 @@ pub fn run<A: Allocator + Copy, C: DocumentChecker, R: Source, W: Sink, E: Sink,
     files: &mut F,
     words: &[&str],
 ) -> u8
-    ensures { Runs F.reads (request_of (texts words.now)) result
+    ensures { Runs F.lists F.reads (request_of (texts words.now)) result
         (record { input = R.account reader.old; output = W.account writer.old; complaints = E.account complaints.old; files = files.old })
         (record { input = R.account reader.new; output = W.account writer.new; complaints = E.account complaints.new; files = files.new }) }
 {

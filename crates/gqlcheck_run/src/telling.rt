@@ -15,8 +15,8 @@ pub fn say<E: Sink>(complaints: &mut E, text: &str)
     let _ = write_all(complaints, text.as_bytes());
 }
 
-// Tells why a text was not checked.
-fn tell_fault<A: Allocator, E: Sink>(alloc: A, complaints: &mut E, name: &str, fault: Fault) {
+/// Tells why a text was not checked.
+pub fn tell_fault<A: Allocator, E: Sink>(alloc: A, complaints: &mut E, name: &str, fault: Fault) {
     let reason = reason_of(fault);
     match format!(in alloc; "gqlcheck: {name}: {reason}\n") {
         Ok(line) => say(complaints, line.as_str()),

@@ -1,10 +1,10 @@
 // Checking standard input, or files.
-ghost use Rattle.std.specs.Prelude.{◌≡◌, ℕ, List, IfOk, true, false};
+ghost use Rattle.std.specs.Prelude.{◌≡◌, ℕ, List, map, IfOk, true, false};
 ghost use Rattle.byte_devices.specs.Runs.{Reads};
 ghost use Rattle.document_checks.specs.Checking.{as_asked};
-ghost use Rattle.program_words.specs.Gqlfmt.{texts};
+ghost use Rattle.named_files.specs.Finding.{as_named};
 ghost use Rattle.gqlcheck_run.specs.Ending.{Ends};
-ghost use Rattle.gqlcheck_run.specs.Program.{ChecksFiles, ChecksInput, IsQuiet, Handles};
+ghost use Rattle.gqlcheck_run.specs.Program.{ChecksFiles, ChecksInput, IsQuiet, Handles, HandlesPlace};
 
 use crate::ending::{FileFault, status_of};
 use crate::job::Job;
@@ -12,6 +12,7 @@ use crate::telling::{tell, tell_of_file};
 use byte_devices::{Fault, Sink, Source, read_to_end};
 use document_checks::DocumentChecker;
 use gqlfmt_files::Files;
+use named_files::Named;
 use std::alloc::Allocator;
 
 /// The name of standard input in messages.
@@ -62,22 +63,38 @@ impl<A: Allocator + Copy, C: DocumentChecker> Job<'_, '_, A, C> {
         }
     }
 
-    /// Checks the files at these paths in order, also after one that is not read, and gives the greatest of their statuses.
+    // Checks a file that was found.
+    fn check_named<F: Files, W: Sink>(
+        &self,
+        files: &mut F,
+        writer: &mut W,
+        named: &Named<A>,
+    ) -> Result<bool, FileFault>
+        ensures handles { HandlesPlace F.reads (as_asked self.now.checks) (as_named named.now) result files.old files.new }
+        ensures quiet { IsQuiet self.now.figures result (W.account writer.old) (W.account writer.new) }
+    {
+        match named {
+            Named::File(path) => self.check_file(files, writer, path.as_str()),
+            Named::Failed(_, error) => Err(FileFault::NotRead(*error)),
+        }
+    }
+
+    /// Checks the files that were found in order, also after one that is not read, and gives the greatest of their statuses.
     pub fn check_files<F: Files, W: Sink, E: Sink>(
         &self,
         files: &mut F,
         writer: &mut W,
         complaints: &mut E,
-        paths: &[&str],
+        found: &[Named<A>],
     ) -> u8
-        ensures { ChecksFiles F.reads (as_asked self.now.checks) self.now.figures (texts paths.now) result
+        ensures { ChecksFiles F.reads (as_asked self.now.checks) self.now.figures (map as_named found.now) result
             (record { files = files.old; output = W.account writer.old; complaints = E.account complaints.old })
             (record { files = files.new; output = W.account writer.new; complaints = E.account complaints.new }) }
     {
         let mut status = 0;
-        for path in paths {
-            let ended = self.check_file(files, writer, path);
-            tell_of_file(self.alloc, complaints, path, &ended);
+        for named in found {
+            let ended = self.check_named(files, writer, named);
+            tell_of_file(self.alloc, complaints, named.path(), &ended);
             status = status.max(status_of(&ended));
         }
         status

@@ -1,0 +1,55 @@
+// Checking the files that paths of the command line name.
+ghost use Rattle.document_checks.specs.Checking.{as_asked};
+ghost use Rattle.program_words.specs.Gqlfmt.{texts};
+ghost use Rattle.gqlcheck_run.specs.Program.{ChecksPath, ChecksPaths};
+
+use crate::job::Job;
+use crate::telling::tell_fault;
+use byte_devices::{Fault, Sink};
+use document_checks::DocumentChecker;
+use gqlfmt_files::Files;
+use named_files::named_files;
+use std::alloc::Allocator;
+
+impl<A: Allocator + Copy, C: DocumentChecker> Job<'_, '_, A, C> {
+    // Checks the files that a path names, and gives the greatest of their statuses.
+    fn check_path<F: Files, W: Sink, E: Sink>(
+        &self,
+        files: &mut F,
+        writer: &mut W,
+        complaints: &mut E,
+        path: &str,
+    ) -> u8
+        ensures { ChecksPath F.lists F.reads (as_asked self.now.checks) self.now.figures path.now result
+            (record { files = files.old; output = W.account writer.old; complaints = E.account complaints.old })
+            (record { files = files.new; output = W.account writer.new; complaints = E.account complaints.new }) }
+    {
+        match named_files(self.alloc, files, path) {
+            Ok(found) => self.check_files(files, writer, complaints, found.as_slice()),
+            Err(_) => {
+                tell_fault(self.alloc, complaints, path, Fault::Memory);
+                2
+            }
+        }
+    }
+
+    /// Checks the files that these paths name in order, also after one that is not read, and gives the greatest of their statuses.
+    pub fn check_paths<F: Files, W: Sink, E: Sink>(
+        &self,
+        files: &mut F,
+        writer: &mut W,
+        complaints: &mut E,
+        paths: &[&str],
+    ) -> u8
+        ensures { ChecksPaths F.lists F.reads (as_asked self.now.checks) self.now.figures (texts paths.now) result
+            (record { files = files.old; output = W.account writer.old; complaints = E.account complaints.old })
+            (record { files = files.new; output = W.account writer.new; complaints = E.account complaints.new }) }
+    {
+        let mut status = 0;
+        for path in paths {
+            let one = self.check_path(files, writer, complaints, path);
+            status = status.max(one);
+        }
+        status
+    }
+}
