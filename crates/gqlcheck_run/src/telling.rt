@@ -6,7 +6,9 @@ ghost use Rattle.gqlcheck_run.specs.Program.{Says, SaysOnlyFaults};
 use crate::command::NO_MEMORY;
 use crate::ending::{FileFault, reason_of};
 use byte_devices::{Fault, Sink, write_all};
-use std::alloc::Allocator;
+use marked_lines::complaint;
+use std::alloc::{AllocError, Allocator};
+use std::io;
 
 /// Writes a text. What the sink does not take is lost.
 pub fn say<E: Sink>(complaints: &mut E, text: &str)
@@ -15,10 +17,32 @@ pub fn say<E: Sink>(complaints: &mut E, text: &str)
     let _ = write_all(complaints, text.as_bytes());
 }
 
+// A line about an error of the file system.
+fn error_line<A: Allocator + Copy>(
+    alloc: A,
+    path: &str,
+    error: &io::Error,
+) -> Result<String<A>, AllocError> {
+    let reason = format!(in alloc; "cannot read: {error}")?;
+    complaint(alloc, "gqlcheck", path, reason.as_str())
+}
+
 /// Tells why a text was not checked.
 pub fn tell_fault<A: Allocator, E: Sink>(alloc: A, complaints: &mut E, name: &str, fault: Fault) {
-    let reason = reason_of(fault);
-    match format!(in alloc; "gqlcheck: {name}: {reason}\n") {
+    match complaint(alloc, "gqlcheck", name, reason_of(fault)) {
+        Ok(line) => say(complaints, line.as_str()),
+        Err(_) => say(complaints, NO_MEMORY),
+    }
+}
+
+// Tells of an error of the file system.
+fn tell_error<A: Allocator + Copy, E: Sink>(
+    alloc: A,
+    complaints: &mut E,
+    path: &str,
+    error: &io::Error,
+) {
+    match error_line(alloc, path, error) {
         Ok(line) => say(complaints, line.as_str()),
         Err(_) => say(complaints, NO_MEMORY),
     }
@@ -39,7 +63,7 @@ pub fn tell<A: Allocator, E: Sink>(
 }
 
 /// Tells why the file at a path was not checked, if it was not.
-pub fn tell_of_file<A: Allocator, E: Sink>(
+pub fn tell_of_file<A: Allocator + Copy, E: Sink>(
     alloc: A,
     complaints: &mut E,
     path: &str,
@@ -50,11 +74,6 @@ pub fn tell_of_file<A: Allocator, E: Sink>(
     match ended {
         Ok(_) => {}
         Err(FileFault::Device(fault)) => tell_fault(alloc, complaints, path, *fault),
-        Err(FileFault::NotRead(error)) => {
-            match format!(in alloc; "gqlcheck: {path}: cannot read: {error}\n") {
-                Ok(line) => say(complaints, line.as_str()),
-                Err(_) => say(complaints, NO_MEMORY),
-            }
-        }
+        Err(FileFault::NotRead(error)) => tell_error(alloc, complaints, path, error),
     }
 }

@@ -4,6 +4,7 @@ use Rattle.byte_devices.specs.Devices.{Account, moved}
 use Rattle.byte_devices.specs.Writing.{IsBroken}
 use Rattle.byte_devices.specs.declared.fault.Fault.{Fault}
 use Rattle.byte_devices.specs.declared.fault.Fault.TheVariants.{Read, Utf8, Memory, Write}
+use Rattle.marked_lines.specs.Escaping.{shown}
 use Rattle.gqlfmt_files.specs.declared.settling.Settled.{Settled}
 use Rattle.gqlfmt_files.specs.declared.settling.Settled.TheVariants.{Done, Found}
 use Rattle.gqlfmt_run.specs.declared.command.TheConstants.{NO_MEMORY}
@@ -20,9 +21,10 @@ reason_of Utf8 = codes "not UTF-8"
 reason_of Memory = codes "out of memory"
 reason_of Write = codes "cannot write"
 
--- Why a text of this name was not formatted is said, or that there is no memory for that line.
+-- Why a text of this name was not formatted is said, the name with escapes for characters that a terminal would not show; or that there is no memory
+-- for that line.
 abbrev pub Tells : List ℕ → Fault → Account → Account → Type 0
-Tells name fault old new = IsWritten (codes "gqlfmt: " ++ name ++ codes ": " ++ reason_of fault ++ codes "\n") old new ⊎ IsWritten NO_MEMORY.now old new
+Tells name fault old new = IsWritten (codes "gqlfmt: " ++ shown name ++ codes ": " ++ reason_of fault ++ codes "\n") old new ⊎ IsWritten NO_MEMORY.now old new
 
 -- What is said, by the outcome for the text: nothing where all is done, and why where it was not formatted. How errors are shown is not stated.
 abbrev pub Says : List ℕ → Result Settled Fault → Account → Account → Type 0

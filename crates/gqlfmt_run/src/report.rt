@@ -12,7 +12,7 @@ use error_finder::ErrorFinder;
 use first_errors::{FirstErrors, for_people, shown_at};
 use gqlfmt_files::{Files, Settled};
 use line_index::LineIndex;
-use marked_lines::{Remark, push_message, push_more};
+use marked_lines::{Remark, complaint, push_message, push_more};
 use std::alloc::{AllocError, Allocator};
 use std::io::{self, ErrorKind};
 
@@ -58,12 +58,14 @@ impl<A: Allocator + Copy, L: ErrorFinder> Job<'_, A, L> {
                     .first_errors(self.alloc, source, self.bounds.limits, SHOWN)?;
                 render_report(self.alloc, name, source, &first)
             }
-            Refusal::Outgrown => format!(in self.alloc;
-                "gqlfmt: {name}: it would have more tokens than allowed when formatted\n"
-            ),
-            Refusal::TooLong => format!(in self.alloc;
-                "gqlfmt: {name}: it would have more bytes than --max-output allows when formatted\n"
-            ),
+            Refusal::Outgrown => {
+                let reason = "it would have more tokens than allowed when formatted";
+                complaint(self.alloc, "gqlfmt", name, reason)
+            }
+            Refusal::TooLong => {
+                let reason = "it would have more bytes than --max-output allows when formatted";
+                complaint(self.alloc, "gqlfmt", name, reason)
+            }
         }
     }
 
@@ -87,22 +89,32 @@ impl<A: Allocator + Copy, L: ErrorFinder> Job<'_, A, L> {
 pub fn tell<A: Allocator, E: Sink>(alloc: A, complaints: &mut E, name: &str, fault: Fault)
     ensures { Tells name.now fault (E.account complaints.old) (E.account complaints.new) }
 {
-    let reason = reason_of(fault);
-    match format!(in alloc; "gqlfmt: {name}: {reason}\n") {
+    match complaint(alloc, "gqlfmt", name, reason_of(fault)) {
         Ok(line) => say(complaints, line.as_str()),
         Err(_) => say(complaints, NO_MEMORY),
     }
 }
 
-// The same with an error of the file system.
-fn tell_error<A: Allocator, E: Sink>(
+// A line about an error of the file system.
+fn error_line<A: Allocator + Copy>(
+    alloc: A,
+    path: &str,
+    what: &str,
+    error: &io::Error,
+) -> Result<String<A>, AllocError> {
+    let reason = format!(in alloc; "{what}: {error}")?;
+    complaint(alloc, "gqlfmt", path, reason.as_str())
+}
+
+// Tells of an error of the file system.
+fn tell_error<A: Allocator + Copy, E: Sink>(
     alloc: A,
     complaints: &mut E,
     path: &str,
     what: &str,
     error: &io::Error,
 ) {
-    match format!(in alloc; "gqlfmt: {path}: {what}: {error}\n") {
+    match error_line(alloc, path, what, error) {
         Ok(line) => say(complaints, line.as_str()),
         Err(_) => say(complaints, NO_MEMORY),
     }
@@ -119,10 +131,9 @@ fn tell_left_over<A: Allocator + Copy, F: Files, E: Sink>(
     if error.kind() != ErrorKind::AlreadyExists {
         return;
     }
+    let reason = "the new file of another run: remove it if none is at work";
     if let Ok(name) = files.new_path(alloc, path)
-        && let Ok(line) = format!(in alloc;
-            "gqlfmt: {name}: the new file of another run: remove it if none is at work\n"
-        )
+        && let Ok(line) = complaint(alloc, "gqlfmt", name.as_str(), reason)
     {
         say(complaints, line.as_str());
     }

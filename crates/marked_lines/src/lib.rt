@@ -1,9 +1,10 @@
 //! Messages about places of a text, as programs show them: the place, the message, and the line of the text with the place marked.
 //!
-//! `gqlfmt_run` and `gqlcheck_run` call `push_message`.
+//! `gqlfmt_run` and `gqlcheck_run` call `push_message`, and `complaint` where there is no place to show.
 #![tactic(auto)]
 
-ghost use Rattle.std.specs.Prelude.{◌≤◌, length};
+ghost use Rattle.std.specs.Prelude.{◌≡◌, ◌≤◌, ◌++◌, IfOk, codes, length, string_bytes};
+ghost use Rattle.marked_lines.specs.Escaping.{shown};
 
 mod escaping;
 mod excerpt;
@@ -48,6 +49,24 @@ pub fn push_message<A: Allocator>(
         position.column,
         remark.marked,
     )
+}
+
+/// A line `PROGRAM: NAME: REASON`, in which the name is escaped.
+pub fn complaint<A: Allocator>(
+    alloc: A,
+    program: &str,
+    name: &str,
+    reason: &str,
+) -> Result<String<A>, AllocError>
+    ensures { IfOk result (λ line. string_bytes line ≡ program.now ++ codes ": " ++ shown name.now ++ codes ": " ++ reason.now ++ codes "\n") }
+{
+    let mut line = String::from_str(alloc, program)?;
+    line.push_str(": ")?;
+    push_escaped(&mut line, name)?;
+    line.push_str(": ")?;
+    line.push_str(reason)?;
+    line.push('\n')?;
+    Ok(line)
 }
 
 /// Puts a line at the end of a report that says how many more errors the text of this name has, if it has more.
