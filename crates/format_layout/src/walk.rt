@@ -354,7 +354,7 @@ impl<'t, E: Elements, A: Allocator + Copy> Walk<'t, E, A> {
             self.word(index, kind, parent)?;
             return Ok(element.after_subtree);
         }
-        let frame = self.enter(element, parent)?;
+        let frame = self.enter(element, index, parent)?;
         open.push(frame)?;
         Ok(index.saturating_add(1))
     }
@@ -388,7 +388,12 @@ impl<'t, E: Elements, A: Allocator + Copy> Walk<'t, E, A> {
 
     // A node of this kind, from its parent down.
     #[inline(always)]
-    fn enter(&mut self, element: IndexedElement, parent: &mut Frame) -> Result<Frame, AllocError> {
+    fn enter(
+        &mut self,
+        element: IndexedElement,
+        index: usize,
+        parent: &mut Frame,
+    ) -> Result<Frame, AllocError> {
         let kind = element.kind;
         let level = self.level(parent, kind);
         let inside = Inside::of(kind);
@@ -397,7 +402,7 @@ impl<'t, E: Elements, A: Allocator + Copy> Walk<'t, E, A> {
             self.is_pending = true;
         }
         if matches!(parent.inside, Inside::Document) && parent.previous.is_some() {
-            self.part_definition(element);
+            self.part_definition(index);
         }
         if inside.is_group() {
             self.group_count = self.group_count.saturating_add(1);
@@ -435,11 +440,11 @@ impl<'t, E: Elements, A: Allocator + Copy> Walk<'t, E, A> {
     }
 
     // An empty line between two definitions in one line, if one of them ends with a brace.
-    fn part_definition(&mut self, element: IndexedElement) {
+    fn part_definition(&mut self, index: usize) {
         if self.comments.last_was_comment() || self.line_ends() > 0 {
             return;
         }
-        let last = element.end.saturating_sub(1);
+        let last = self.end(index).saturating_sub(1);
         let ends_with_brace = self.source.as_bytes().get(last).copied() == Some(b'}');
         if let Some(slot) = self.slots.last_mut() {
             if self.after_brace || ends_with_brace {

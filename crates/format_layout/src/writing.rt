@@ -9,7 +9,6 @@ ghost use Rattle.format_layout.specs.Formatted.{Formatted, IsSentence};
 ghost use Rattle.format_layout.specs.Written.{AddsSame, HoldsSame};
 
 use crate::block_text::Indented;
-use crate::elements::Elements;
 use crate::gaps::{Gaps, column_after};
 use crate::size::{QUOTES, columns, has_lines};
 use apollo_lexer::{Lexer, Token};
@@ -158,19 +157,18 @@ fn write<A: Allocator + Copy>(
     Ok(writer.layout.finish())
 }
 
-/// The significant tokens and the comments of a text with another layout, of at most `most` bytes. Its tree has these elements. It fails where memory is
+/// The significant tokens and the comments of a text with another layout, which has these gaps, of at most `most` bytes. It fails where memory is
 /// refused, or the other layout has more bytes: then it has stopped after at most twice as many, a token and a gap.
-pub fn format_text<E: Elements, A: Allocator + Copy>(
+pub fn format_text<A: Allocator + Copy>(
     alloc: A,
     source: &str,
-    elements: &E,
+    gaps: Gaps<A>,
     most: usize,
 ) -> Result<String<A>, WriteError>
     requires { length (items_of source.now) ≤ usize_max }
     ensures same { IfOk result (λ text. HoldsSame (string_bytes text) (Kept (items_of source.now))) }
     ensures most { IfOk result (λ text. length (string_bytes text) ≤ most) }
 {
-    let gaps = Gaps::of(alloc, source, elements)?;
     let text = write(alloc, source, gaps, most)?;
     if text.len() > most {
         return Err(WriteError::TooLong);
@@ -179,16 +177,16 @@ pub fn format_text<E: Elements, A: Allocator + Copy>(
 }
 
 /// The document with another layout, of at most `most` bytes, as `format_text` has it.
-pub fn format_document<E: Elements, A: Allocator + Copy>(
+pub fn format_document<A: Allocator + Copy>(
     alloc: A,
     source: &str,
-    elements: &E,
+    gaps: Gaps<A>,
     most: usize,
 ) -> Result<String<A>, WriteError>
     requires { IsSentence source.now }
     ensures formatted { IfOk result (λ text. Formatted source.now (string_bytes text)) }
     ensures most { IfOk result (λ text. length (string_bytes text) ≤ most) }
 {
-    let text = format_text(alloc, source, elements, most)?;
+    let text = format_text(alloc, source, gaps, most)?;
     Ok(text)
 }

@@ -31,8 +31,8 @@ refused source r k t errors e some p = record {
   some = λ none. some-list errors none some;
 }
 
-pub sentence-of : (source : List ℕ) (r k : ℕ) (t : Parsed) → k ≤ usize_max → t.errors ≡ [] → Promise source r k t → IsSentence source
-sentence-of source r k t le clean p = record { tree = bare (tree_of t.tree); sentence = (p.sound clean).0; within = (r, k, le, (p.sound clean).1) }
+pub sentence-of : (source : List ℕ) (r k : ℕ) → k ≤ usize_max → IsDocument source r k → IsSentence source
+sentence-of source r k le d = record { tree = d.tree; sentence = d.sentence; within = (r, k, le, d.within) }
 
 pub is-document : (source : List ℕ) (r k : ℕ) (t : Parsed) → t.errors ≡ [] → Promise source r k t → IsDocument source r k
 is-document source r k t clean p = record { tree = bare (tree_of t.tree); sentence = (p.sound clean).0; within = (p.sound clean).1 }
@@ -42,11 +42,8 @@ pub whatever-error : {T E P : Type 0} (r : Result T E) (x : E) → P → IfErr r
 whatever-error (Ok value) x p = tt
 whatever-error (Err e) x p = λ same. p
 
-pub formatted-by : (source text : List ℕ) (r k : ℕ) (t : Parsed) → t.errors ≡ [] → Promise source r k t → Formatted source text → IsFormatted source r k text
-formatted-by source text r k t clean p f = record {
-  document = is-document source r k t clean p;
-  formatted = f;
-}
+pub formatted-by : (source text : List ℕ) (r k : ℕ) → IsDocument source r k → Formatted source text → IsFormatted source r k text
+formatted-by source text r k d f = record { document = d; formatted = f }
 
 -- a formatted text nests as deep as its source
 pub formatted-within : (source text : List ℕ) (r k : ℕ) → Cut text (items_of text) → length (items_of text) ≤ k → IsFormatted source r k text

@@ -8,9 +8,9 @@ ghost use Rattle.formatter.specs.Comments.{HasNoDefinitions, HasSameComments};
 
 use crate::TreeElements;
 use apollo_parser::{Lexer, Parser, TokenKind};
-use format_layout::format_text;
+use format_layout::{Gaps, format_text};
 use format_strings::WriteError;
-use std::alloc::Allocator;
+use std::alloc::{AllocError, Allocator};
 
 fn is_ignored(kind: TokenKind) -> bool
     ensures { result ≡ not (is_significant_kind kind) }
@@ -39,6 +39,12 @@ fn has_no_definitions(source: &str) -> bool
     true
 }
 
+// The gaps of such a text's layout.
+fn gaps_of<A: Allocator + Copy>(alloc: A, source: &str) -> Result<Gaps<A>, AllocError> {
+    let tree = Parser::new(source).parse(alloc)?;
+    Gaps::of(alloc, source, &TreeElements { tree: &tree })
+}
+
 /// A text without definitions with the layout of this crate, of at most `most` bytes: one that is empty, or has comments alone. `None` where the text has a
 /// significant token or bad text. It fails where memory is refused, or the formatted text has more bytes.
 ///
@@ -56,7 +62,7 @@ pub fn format_comments<A: Allocator + Copy>(
     if !has_no_definitions(source) {
         return Ok(None);
     }
-    let tree = Parser::new(source).parse(alloc)?;
-    let text = format_text(alloc, source, &TreeElements { tree: &tree }, most)?;
+    let gaps = gaps_of(alloc, source)?;
+    let text = format_text(alloc, source, gaps, most)?;
     Ok(Some(text))
 }

@@ -5,7 +5,7 @@
 //! `dumyroke_flat` call `format`. `gqlfmt_run` has the others through the trait `DocumentFormatter`, so that it is proved without the code of the parser.
 #![tactic(auto)]
 
-ghost use Rattle.std.specs.Prelude.{◌≡◌, ◌<◌, ◌≤◌, ℕ, true, false, List, None, length, IfErr, IfOk, IfSome, string_bytes};
+ghost use Rattle.std.specs.Prelude.{◌≡◌, ◌<◌, ◌≤◌, ℕ, true, false, List, None, length, IfErr, IfOk, IfSome, OnOk, string_bytes};
 ghost use Rattle.lexical_grammar.specs.Reads.{items_of};
 ghost use Rattle.format_strings.specs.declared.style.WriteError.TheVariants.{TooLong};
 ghost use Rattle.formatter.specs.Comments.{HasNoDefinitions, HasSameComments};
@@ -15,7 +15,7 @@ mod comments;
 
 use apollo_parser::{DocumentRoot, Error, IndexedElement, Lexer, Limits, Parser, SyntaxTree};
 pub use comments::format_comments;
-use format_layout::{Elements, format_document};
+use format_layout::{Elements, Gaps, format_document};
 pub use format_strings::WriteError;
 use std::alloc::{AllocError, Allocator};
 
@@ -30,6 +30,8 @@ impl<'t, A: Allocator> Elements for TreeElements<'t, A> {
         self.tree.element_count()
     }
 
+    // where it is inlined, nothing is worked out that the walk does not use
+    #[inline(always)]
     fn element(&self, index: usize) -> Option<IndexedElement> {
         self.tree.element(index)
     }
@@ -47,6 +49,24 @@ fn errors_of<A: Allocator + Copy>(
         errors.push(error.try_clone(alloc)?)?;
     }
     Ok(errors)
+}
+
+// The gaps of a document's layout, or the errors of a text that is no document within both limits. The tree is let go before the layout is written.
+fn gaps_of<A: Allocator + Copy>(
+    alloc: A,
+    source: &str,
+    limits: Limits,
+) -> Result<Result<Gaps<A>, Vec<Error<A>, A>>, AllocError>
+    ensures document { IfOk result (λ r. OnOk r (IsDocument source.now limits.recursion limits.tokens)) }
+    ensures refused { IfOk result (λ r. IfErr r (λ errors. IsRefused source.now limits.recursion limits.tokens errors.items)) }
+{
+    let tree = Parser::within(source, limits).parse(alloc)?;
+    let errors = errors_of(alloc, &tree)?;
+    if !errors.as_slice().is_empty() {
+        return Ok(Err(errors));
+    }
+    let gaps = Gaps::of(alloc, source, &TreeElements { tree: &tree })?;
+    Ok(Ok(gaps))
 }
 
 /// The document with the layout of this crate, of at most `most` bytes; or the errors of `Parser::parse`, at least one, where the text is no document
@@ -68,12 +88,11 @@ pub fn format_within<A: Allocator + Copy>(
     ensures refused { IfOk result (λ r. IfErr r (λ errors. IsRefused source.now limits.recursion limits.tokens errors.items)) }
     ensures long { IfErr result (λ error. error ≡ TooLong → IsDocument source.now limits.recursion limits.tokens) }
 {
-    let tree = Parser::within(source, limits).parse(alloc)?;
-    let errors = errors_of(alloc, &tree)?;
-    if !errors.as_slice().is_empty() {
-        return Ok(Err(errors));
-    }
-    let text = format_document(alloc, source, &TreeElements { tree: &tree }, most)?;
+    let gaps = match gaps_of(alloc, source, limits)? {
+        Ok(gaps) => gaps,
+        Err(errors) => return Ok(Err(errors)),
+    };
+    let text = format_document(alloc, source, gaps, most)?;
     Ok(Ok(text))
 }
 
