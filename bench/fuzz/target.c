@@ -183,10 +183,17 @@ static void try_format(const uint8_t *text, size_t length, dumyroke_limits limit
 {
     static const dumyroke_limits wide = {SIZE_MAX, SIZE_MAX};
     size_t bytes, again;
-    uint32_t status = dumyroke_format(text, length, limits, NULL, 0, &bytes);
-    WANT(status == (errors ? DUMYROKE_NOT_A_DOCUMENT : DUMYROKE_OK));
-    if (errors || bytes > MOST / 4)
+    size_t room = 2 * length + 16;
+    uint32_t status;
+    do {
+        status = dumyroke_format(text, length, limits, room_at(1, room), room, &bytes);
+        WANT(errors ? status == DUMYROKE_NOT_A_DOCUMENT : status == DUMYROKE_OK || status == DUMYROKE_NO_ROOM);
+        WANT(status == DUMYROKE_OK ? bytes <= room : bytes == 0 && is_left(1, room, 0));
+        room *= 4;
+    } while (status == DUMYROKE_NO_ROOM && room <= MOST / 4);
+    if (status != DUMYROKE_OK)
         return;
+    WANT(dumyroke_format(text, length, limits, room_at(1, bytes - 1), bytes - 1, &again) == DUMYROKE_NO_ROOM && is_left(1, bytes - 1, 0));
     uint8_t *formatted = room_at(1, bytes);
     WANT(dumyroke_format(text, length, limits, formatted, bytes, &again) == DUMYROKE_OK && again == bytes && is_utf8(formatted, bytes));
     uint8_t *twice = room_at(2, bytes);

@@ -25,6 +25,8 @@ export const STATUS: {
   readonly CYCLE: number;
   /** An operation leads to a spread of no fragment. */
   readonly UNDEFINED: number;
+  /** The formatted text has too many bytes. */
+  readonly NO_ROOM: number;
 };
 
 export interface Limits {
@@ -110,8 +112,9 @@ export class Parser {
   constructor(module: WebAssembly.Module);
   /** Parses any text. RangeError or WebAssembly.RuntimeError is thrown where the engine's stack or memory is too small. */
   parse(text: string, limits?: Limits, mostErrors?: number): Parsed;
-  /** Formats a document. One with errors has the status NOT_A_DOCUMENT. */
-  format(text: string, limits?: Limits): Written;
+  /** Formats a document. One with errors has the status NOT_A_DOCUMENT, and one whose formatted text has more than `mostBytes` bytes NO_ROOM: if not given,
+   * 64 MiB, or 16 for each character of the text, if that is more. */
+  format(text: string, limits?: Limits, mostBytes?: number): Written;
   /** Measures the operations of a document, all of them or the first `mostOperations`. One with errors has the status NOT_A_DOCUMENT. It takes no longer for a
    * document that expands to very many fields. */
   measure(text: string, limits?: Limits, mostOperations?: number): Measured;

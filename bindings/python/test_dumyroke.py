@@ -330,6 +330,13 @@ class Calls(unittest.TestCase):
         self.assertEqual(dumyroke.format("{a,c:b}"), "{\n  a\n  c: b\n}\n")
         self.assertEqual(dumyroke.format(b"{a}"), "{\n  a\n}\n")
         self.assertEqual(dumyroke.format("{a{b{c{d{e}}}}}").count("\n"), 11)
+        self.assertEqual(dumyroke.format("{a}", max_output=8), "{\n  a\n}\n")
+        for most in (-1, 0, 7):
+            self.assertRaisesRegex(ValueError, "the formatted text has more than", dumyroke.format, "{a}", max_output=most)
+        # 270 times its length, so the first calls have too little room
+        opened = "".join("  " * depth + "a {\n" for depth in range(1, 400))
+        closed = "".join("  " * depth + "}\n" for depth in reversed(range(400)))
+        self.assertEqual(dumyroke.format("{a" * 400 + "}" * 400), "{\n" + opened + "  " * 400 + "a\n" + closed)
         with self.assertRaises(dumyroke.NotADocument) as caught:
             dumyroke.format(HERO)
         self.assertEqual([error.line for error in caught.exception.errors], [1, 1])

@@ -114,6 +114,7 @@ function figured({ start, end, name, ...operation }) {
 
 function showFormatted(text, { status, text: formatted }) {
   if (status === STATUS.NOT_A_DOCUMENT) say("A text with errors is not formatted.", "errors");
+  else if (status === STATUS.NO_ROOM) say("The formatted text is too long.", "errors");
   else if (status === STATUS.OK && text === editor.text && formatted !== text) editor.replace(formatted, Math.max(text.length, formatted.length) <= LONGEST_UNDONE);
 }
 

@@ -1,12 +1,14 @@
 // The calls of the parser, a WebAssembly module with 64-bit memory: its addresses and lengths are BigInts. This runs in workers and in node.
 
-import { COUNTS, COUNTS_BYTES, ERROR, ERROR_BYTES, FIGURES, MEASURE_COUNTS, MEASURE_COUNTS_BYTES, OPERATION, OPERATION_BYTES, WORD, WORDS } from "./rows.js";
+import { COUNTS, COUNTS_BYTES, ERROR, ERROR_BYTES, FIGURES, MEASURE_COUNTS, MEASURE_COUNTS_BYTES, OPERATION, OPERATION_BYTES, STATUS, WORD, WORDS } from "./rows.js";
 import { NODE } from "./tree.js";
 
 const PAGE_BYTES = 65536;
 // Every type of the module may be aligned to this.
 const ALIGNMENT = 16;
 const NO_LIMIT = 2n ** 64n - 1n;
+// A formatted text may have so many bytes, also if its source is short.
+const MOST_FORMATTED = 2 ** 26;
 
 // Whether this engine takes a module with a memory of 64-bit addresses.
 export function isSupported() {
@@ -173,22 +175,24 @@ export class Parser {
     });
   }
 
-  // A call that writes one text: its status and the text.
-  #text(name, text, limits) {
-    for (let room = text.length * 4 + 64; ; ) {
-      const given = this.#write(text);
-      if (limits !== null) given.push(this.#writeLimits(limits));
-      const [bytes, start] = [this.#place(8), this.#place(room)];
-      const status = this.#call(name, ...given, start, room, bytes);
-      const length = Number(new BigUint64Array(this.memory.buffer, bytes, 1)[0]);
-      if (length <= room) return { status, text: new TextDecoder("utf-8", { ignoreBOM: true }).decode(this.#bytes(start, length)) };
-      room = length;
+  // A call that writes one text, of at most as many bytes as there is room for: its status and the text.
+  #text(name, text, limits, room) {
+    const given = this.#write(text);
+    if (limits !== null) given.push(this.#writeLimits(limits));
+    const [bytes, start] = [this.#place(8), this.#place(room)];
+    const status = this.#call(name, ...given, start, room, bytes);
+    const length = Number(new BigUint64Array(this.memory.buffer, bytes, 1)[0]);
+    return { status, text: new TextDecoder("utf-8", { ignoreBOM: true }).decode(this.#bytes(start, length)) };
+  }
+
+  // Formats a document. A formatted text of more bytes than `mostBytes` has the status NO_ROOM.
+  format(text, limits = {}, mostBytes = Math.max(MOST_FORMATTED, 16 * text.length)) {
+    for (let room = Math.min(4 * text.length + 64, mostBytes); ; room = Math.min(4 * room, mostBytes)) {
+      const formatted = this.#text("dumyroke_format", text, limits, room);
+      if (formatted.status !== STATUS.NO_ROOM || room === mostBytes) return formatted;
     }
   }
 
-  // Formats a document.
-  format = (text, limits = {}) => this.#text("dumyroke_format", text, limits);
-
-  // The value of a string literal with its quotes.
-  stringValue = (literal) => this.#text("dumyroke_string_value", literal, null);
+  // The value of a string literal with its quotes, which has no more bytes than the literal.
+  stringValue = (literal) => this.#text("dumyroke_string_value", literal, null, 3 * literal.length);
 }

@@ -31,7 +31,9 @@ enum dumyroke_status {
      * is not defined. Only from dumyroke_measure. */
     DUMYROKE_SAME_NAME = 6,
     DUMYROKE_CYCLE = 7,
-    DUMYROKE_UNDEFINED = 8
+    DUMYROKE_UNDEFINED = 8,
+    /* The formatted text has more bytes than there is room for. Only from dumyroke_format. */
+    DUMYROKE_NO_ROOM = 9
 };
 
 /* The limits of a parse. */
@@ -166,12 +168,15 @@ uint32_t dumyroke_string_value(const uint8_t *literal, size_t literal_length, ui
 /* Formats a document, as the program gqlfmt does (docs/FORMAT.md). The limits are those of the text: formatted, it may have more tokens.
  *
  *   text       `text_length` bytes of UTF-8.
- *   formatted  room for `room` bytes. If `bytes` says that there is more, call again with that much room. That it is enough is tested, not proved.
- *   bytes      how many bytes the formatted text has, whether or not there was room; 0 unless the result is DUMYROKE_OK. Never NULL.
+ *   formatted  room for `room` bytes, which is the bound on the formatted text, too: if it is longer, the result is DUMYROKE_NO_ROOM, and no more than
+ *              some two times `room` of it was built. Call again with twice the room, up to the most that you want to hold. What people write
+ *              grows to less than twice its length; a text of lists nested 400 deep to 400 times.
+ *   bytes      how many bytes the formatted text has; 0 unless the result is DUMYROKE_OK. Never NULL.
  *
  * Any other pointer may be NULL where its length is 0. No two of the three may overlap.
  *
- * Returns DUMYROKE_OK, DUMYROKE_NOT_UTF8, DUMYROKE_NOT_A_DOCUMENT or DUMYROKE_NO_MEMORY. Unless it is DUMYROKE_OK, only `bytes` is written. */
+ * Returns DUMYROKE_OK, DUMYROKE_NOT_UTF8, DUMYROKE_NOT_A_DOCUMENT, DUMYROKE_NO_ROOM or DUMYROKE_NO_MEMORY. Unless it is DUMYROKE_OK, only `bytes` is
+ * written. */
 uint32_t dumyroke_format(const uint8_t *text, size_t text_length, dumyroke_limits limits, uint8_t *formatted, size_t room, size_t *bytes);
 
 /* The rules of validation that need no schema, under the names that graphql-js gives them, each with its section of the standard (October 2021). The

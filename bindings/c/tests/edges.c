@@ -336,16 +336,17 @@ static void strings(void)
 static void formatted(void)
 {
     const char *text = "{a,b}";
-    uint8_t buffer[16], small[5];
-    size_t bytes;
+    uint8_t buffer[16];
+    size_t bytes, room;
     dumyroke_limits shallow = {0, SIZE_MAX};
     memset(buffer, UNTOUCHED, sizeof buffer);
-    CHECK(dumyroke_format(bytes_of(text), 5, dumyroke_default_limits(), NULL, 0, &bytes) == DUMYROKE_OK && bytes == 12);
-    CHECK(dumyroke_format(bytes_of(text), 5, dumyroke_default_limits(), buffer, 3, &bytes) == DUMYROKE_OK && bytes == 12);
-    CHECK(!memcmp(buffer, "{\n \xee", 4));
-    CHECK(dumyroke_format(bytes_of(text), 5, dumyroke_default_limits(), buffer, 16, &bytes) == DUMYROKE_OK && bytes == 12);
+    CHECK(dumyroke_format(bytes_of(text), 5, dumyroke_default_limits(), NULL, 0, &bytes) == DUMYROKE_NO_ROOM && bytes == 0);
+    for (room = 0; room < 12; room++)
+        CHECK(dumyroke_format(bytes_of(text), 5, dumyroke_default_limits(), buffer, room, &bytes) == DUMYROKE_NO_ROOM && bytes == 0);
+    CHECK(buffer[0] == UNTOUCHED && buffer[11] == UNTOUCHED);
+    for (; room <= 16; room++)
+        CHECK(dumyroke_format(bytes_of(text), 5, dumyroke_default_limits(), buffer, room, &bytes) == DUMYROKE_OK && bytes == 12);
     CHECK(!memcmp(buffer, "{\n  a\n  b\n}\n\xee", 13));
-    CHECK(dumyroke_format(bytes_of("{a}"), 3, dumyroke_default_limits(), small, 5, &bytes) == DUMYROKE_OK && bytes == 8 && !memcmp(small, "{\n  a", 5));
     CHECK(dumyroke_format(bytes_of("{a"), 2, dumyroke_default_limits(), NULL, 0, &bytes) == DUMYROKE_NOT_A_DOCUMENT && bytes == 0);
     CHECK(dumyroke_format(bytes_of("{"), 1, dumyroke_default_limits(), NULL, 0, &bytes) == DUMYROKE_NOT_A_DOCUMENT && bytes == 0);
     CHECK(dumyroke_format(bytes_of(text), 5, shallow, NULL, 0, &bytes) == DUMYROKE_NOT_A_DOCUMENT && bytes == 0);

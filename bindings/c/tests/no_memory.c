@@ -10,6 +10,7 @@
 enum { LENGTH = 1 << 24, BAD = 1 << 18, LITTLE = 1 << 20, MIDDLE = 350 << 20 };
 
 static char text[LENGTH], bad[BAD];
+static uint8_t formatted[4 * LENGTH];
 
 /* Lets the process have so many bytes of memory more than it has now, or any number of them. */
 static int allow(size_t more)
@@ -39,7 +40,8 @@ static int all_give(uint32_t status)
         && (counts.elements == 0) == (status != DUMYROKE_OK)
         && dumyroke_lex((const uint8_t *)bad, BAD, SIZE_MAX, NULL, 0, NULL, 0, NULL, 0, &counts) == status
         && (counts.elements == 0) == (status != DUMYROKE_OK)
-        && dumyroke_format(source, LENGTH, dumyroke_default_limits(), NULL, 0, &bytes) == status && (bytes == 0) == (status != DUMYROKE_OK)
+        && dumyroke_format(source, LENGTH, dumyroke_default_limits(), formatted, sizeof formatted, &bytes) == status
+        && (bytes == 0) == (status != DUMYROKE_OK)
         && dumyroke_validate(source, LENGTH, dumyroke_default_limits(), SIZE_MAX, NULL, 0, NULL, 0, &violations) == status
         && violations.violations == 0 && violations.message_bytes == 0 && violations.status == status
         && dumyroke_measure(source, LENGTH, dumyroke_default_limits(), NULL, 0, &measured) == status

@@ -14,7 +14,7 @@ from .items import Item
 from .kinds import NAMES
 from .library import NO_LIMIT
 from .positions import Positions
-from .rows import ELEMENT_SIZE, ITEM_SIZE, NOT_A_DOCUMENT, Counts, ErrorRow, ItemRow, Limits
+from .rows import ELEMENT_SIZE, ITEM_SIZE, NOT_A_DOCUMENT, OK, Counts, ErrorRow, ItemRow, Limits
 from .tree import Node, Tree
 
 
@@ -201,16 +201,24 @@ def check(text: str | bytes, recursion_limit: int = 500, token_limit: int | None
     return errors
 
 
-def format(text: str | bytes, recursion_limit: int = 500, token_limit: int | None = None) -> str:
-    """A document in the layout of the program gqlfmt. Raises `NotADocument` with the errors if it is none, and else as `parse` does."""
+def format(text: str | bytes, recursion_limit: int = 500, token_limit: int | None = None, max_output: int | None = None) -> str:
+    """A document in the layout of the program gqlfmt.
+
+    `max_output` is how many bytes the formatted text may have, if not given 64 MiB, or 16 for each byte of the text, if that is more: lists that nest
+    deeply grow to hundreds of times their length.
+
+    Raises `NotADocument` with the errors if it is none, `ValueError` if the formatted text has more bytes, and else as `parse` does."""
     source, limits = given(text, recursion_limit, token_limit)
-    room = 2 * len(source) + 64
+    most = max(1 << 26, 16 * len(source)) if max_output is None else max(max_output, 0)
+    room = min(2 * len(source) + 64, most)
     while True:
-        formatted, size = bytearray(room), ctypes.c_size_t()
+        formatted, size = bytearray(max(room, 1)), ctypes.c_size_t()
         status = library.format_document(source, len(source), limits, library.place(formatted), room, ctypes.byref(size))
         library.raise_for(status, source)
         if status == NOT_A_DOCUMENT:
             raise NotADocument(check(source, recursion_limit, token_limit))
-        if size.value <= room:
+        if status == OK:
             return formatted[: size.value].decode()
-        room = size.value
+        if room == most:
+            raise ValueError(f"the formatted text has more than {most} bytes")
+        room = min(4 * room, most)

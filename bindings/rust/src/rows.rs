@@ -8,6 +8,7 @@ pub(crate) const TOO_LONG: u32 = 2;
 pub(crate) const NO_MEMORY: u32 = 3;
 pub(crate) const NOT_A_STRING: u32 = 4;
 pub(crate) const NOT_A_DOCUMENT: u32 = 5;
+pub(crate) const NO_ROOM: u32 = 9;
 pub(crate) const SAME_NAME: u32 = 6;
 pub(crate) const CYCLE: u32 = 7;
 pub(crate) const UNDEFINED: u32 = 8;

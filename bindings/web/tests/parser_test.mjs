@@ -44,6 +44,9 @@ const tests = {
   "formatting"() {
     assert.deepEqual(parser.format("query Q($id:ID!){hero(id:$id){name}}"), { status: STATUS.OK, text: "query Q($id: ID!) {\n  hero(id: $id) {\n    name\n  }\n}\n" });
     assert.equal(parser.format("{").status, STATUS.NOT_A_DOCUMENT);
+    assert.deepEqual(parser.format("{a}", {}, 7), { status: STATUS.NO_ROOM, text: "" });
+    assert.equal(parser.format("{a}", {}, 8).text, "{\n  a\n}\n");
+    assert.equal(parser.format("{a".repeat(400) + "}".repeat(400)).text.length, 322400);
   },
 
   // Counted by hand: the second operation is `query Q { b: a @d { b c d } }` with its fragment expanded. A selection set counts the name `a` twice once.

@@ -119,7 +119,9 @@ pub not-a-document : (source text : List ℕ) (r k : ℕ) (before : List ℕ) (e
     → count ≡ record { bytes = 0; status = NOT_A_DOCUMENT } → FormatOutcome source r k before before count
 not-a-document source text r k before errors count same refused counted = rw counted (record {
   ok = λ e. absurd (omega (arith, e));
+  whole = omega arith;
   not_utf8 = λ e. absurd (omega (arith, e));
+  no_room = λ e. absurd (omega (arith, e));
   not_a_document = λ _. (errors, subst (λ (t : List ℕ). IsRefused t r k errors) same refused);
   refused = λ _. (refl, refl);
   known = (2, omega arith, refl);

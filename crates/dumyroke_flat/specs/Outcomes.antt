@@ -19,7 +19,7 @@ use Rattle.dumyroke_flat.specs.declared.rows.ByteCount.{ByteCount}
 use Rattle.dumyroke_flat.specs.declared.rows.Counts.{Counts}
 use Rattle.apollo_tree.specs.declared.compact.CompactElement.{CompactElement}
 use Rattle.dumyroke_flat.specs.declared.rows.ErrorRow.{ErrorRow}
-use Rattle.formatter.specs.Formatted.{IsFormatted, IsRefused}
+use Rattle.formatter.specs.Formatted.{IsDocument, IsFormatted, IsRefused}
 use Rattle.apollo_parser.specs.Compact.{compact_elements}
 use Rattle.apollo_parser.specs.Filled.{filled}
 use Rattle.dumyroke_flat.specs.Rows.{error_rows, messages}
@@ -43,6 +43,11 @@ NOT_A_STRING = 4
 
 abbrev pub NOT_A_DOCUMENT : ℕ
 NOT_A_DOCUMENT = 5
+
+-- 6 to 8 are statuses of `dumyroke_validation`
+
+abbrev pub NO_ROOM : ℕ
+NO_ROOM = 9
 
 -- ---- a parse
 
@@ -136,11 +141,14 @@ pub record StringOutcome (literal before after : List ℕ) (count : ByteCount) :
 
 -- What formatting a text gives.
 pub record FormatOutcome (source : List ℕ) (max_depth max_items : ℕ) (before after : List ℕ) (count : ByteCount) : Type 0 where
-  -- the text is a document within both limits, and that document with another layout was written
+  -- the text is a document within both limits, and that document with another layout was written, whole
   pub ok : count.status ≡ OK → Writes (IsFormatted source max_depth max_items) before after count.bytes
+  pub whole : count.bytes ≤ length before
   pub not_utf8 : count.status ≡ NOT_UTF8 → ¬ IsUtf8 source
+  -- it is such a document
+  pub no_room : count.status ≡ NO_ROOM → IsDocument source max_depth max_items
   -- it is no document within both limits, and these are the errors of its parse, at least one
   pub not_a_document : count.status ≡ NOT_A_DOCUMENT → (errors : List Diagnostic) × IsRefused source max_depth max_items errors
   -- nothing was written
   pub refused : count.status ≢ OK → (after ≡ before) × (count.bytes ≡ 0)
-  pub known : Contains (OK ∷ NOT_UTF8 ∷ NOT_A_DOCUMENT ∷ NO_MEMORY ∷ []) count.status
+  pub known : Contains (OK ∷ NOT_UTF8 ∷ NOT_A_DOCUMENT ∷ NO_ROOM ∷ NO_MEMORY ∷ []) count.status

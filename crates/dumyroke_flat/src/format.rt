@@ -4,11 +4,12 @@ ghost use Rattle.dumyroke_flat.specs.Outcomes.{FormatOutcome};
 use crate::filling::{refused, written};
 use crate::rows::{ByteCount, status};
 use apollo_parser::Limits;
-use formatter::format;
+use formatter::{WriteError, format_within};
 use std::alloc::Allocator;
 
 /// Formats a document (GraphQL October 2021, section 2.2, "Document") within both limits: it writes the same document with the layout of the crate
-/// `formatter`, as far as there is room, and answers how many bytes it has.
+/// `formatter`, and answers how many bytes it has. Where that is more than there is room for, it writes nothing, and the status is `NO_ROOM`: it takes
+/// no more memory for the formatted text than some two times the room.
 ///
 /// What it promises is `FormatOutcome` in `specs/Outcomes.antt`.
 pub fn format_into<A: Allocator + Copy>(
@@ -22,9 +23,10 @@ pub fn format_into<A: Allocator + Copy>(
     let Ok(text) = std::str::from_utf8(source) else {
         return refused(status::NOT_UTF8);
     };
-    match format(alloc, text, limits) {
+    match format_within(alloc, text, limits, formatted.len()) {
         Ok(Ok(document)) => written(formatted, document.as_str()),
         Ok(Err(_)) => refused(status::NOT_A_DOCUMENT),
-        Err(_) => refused(status::NO_MEMORY),
+        Err(WriteError::TooLong) => refused(status::NO_ROOM),
+        Err(WriteError::Memory) => refused(status::NO_MEMORY),
     }
 }

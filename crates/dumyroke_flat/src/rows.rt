@@ -20,6 +20,11 @@ pub mod status {
 
     /// The text is no document within both limits.
     pub const NOT_A_DOCUMENT: u32 = 5;
+
+    // 6 to 8 are statuses of `dumyroke_validation`
+
+    /// The formatted text has more bytes than there is room for.
+    pub const NO_ROOM: u32 = 9;
 }
 
 /// An error.
