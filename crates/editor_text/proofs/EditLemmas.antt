@@ -4,7 +4,7 @@ use Rattle.std.specs.Prelude.{Some}
 use Rattle.std.specs.List.{replace_range}
 use Rattle.std.specs.Str.{IsUtf8, IsCharBoundary}
 use Rattle.std.proofs.lemmas.Bool.{cases_lt}
-use Rattle.std.proofs.lemmas.List.{take-append-drop, take_at, drop_at}
+use Rattle.std.proofs.lemmas.List.{take-append-drop, take-append-le, take_at, drop_at, length-take-le}
 use Rattle.std.proofs.lemmas.Str.{IsUtf8-take, IsUtf8-drop, IsUtf8-between, IsUtf8-append}
 use Rattle.std.proofs.Math.Seq.{take-add}
 use Rattle.line_index.specs.Positions.{units, offset_of}
@@ -37,6 +37,14 @@ replaced-units e text new range start end u v h =
     ∙ ap (λ (w : List ℕ). w ++ units e (drop end text)) (units-append e (take start text) new left v)
     ∙ ap (λ (w : List ℕ). (w ++ units e new) ++ units e (drop end text)) (sym (front e text start i u h.starts h.start_offset))
     ∙ ap (λ (w : List ℕ). (take i (units e text) ++ units e new) ++ w) (sym (back e text end j u h.ends h.end_offset))
+
+-- the text in front of a change stays
+pub same-front : (text bytes new : List ℕ) (start end : ℕ) → start ≤ length text → bytes ≡ replace_range text start end new → take start bytes ≡ take start text
+same-front text bytes new start end within is =
+    let len : length (take start text) ≡ start = length-take-le start text within in
+    ap (take start) is
+    ∙ take-append-le start (take start text ++ new) (drop end text) (omega (arith, len, length-append (take start text) new))
+    ∙ take_at (take start text) new start len
 
 -- a later offset has no fewer units before it
 pub mono : (e : PositionEncoding) (text : List ℕ) (a b : ℕ) → IsUtf8 text → a ≤ b → IsCharBoundary text a → IsCharBoundary text b

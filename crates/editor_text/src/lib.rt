@@ -7,10 +7,11 @@
 #![tactic(auto)]
 
 ghost use Rattle.std.specs.Prelude.{◌≡◌, string_bytes, IfOk, OnOk, OnErr};
+ghost use Rattle.line_index.specs.LineStarts.{AreFirstStarts};
 ghost use Rattle.line_index.specs.Positions.{units};
 ghost use Rattle.editor_text.specs.Client.{AreOffsets, changed, changed_all, replaced};
 
-use line_index::{LineIndex, Position, PositionEncoding};
+use line_index::{FirstLines, Position, PositionEncoding};
 use std::alloc::{AllocError, Global};
 use std::marker::Model;
 
@@ -77,9 +78,7 @@ impl OpenDocument {
         ensures client { OnOk result (units self.old.encoding self.new.text ≡ changed self.old.encoding (units self.old.encoding self.old.text) change.now) }
         ensures err { OnErr result (self.new ≡ self.old) }
     {
-        let encoding = self.encoding;
-        replace(alloc, encoding, &mut self.text, change.range, change.text)?;
-        Ok(())
+        self.change_all(alloc, &[*change])
     }
 
     /// Makes some changes, each to the text that the one before it left. Where memory is refused, the document stays as it was before all of them.
@@ -95,28 +94,31 @@ impl OpenDocument {
     }
 }
 
-// Replaces a range of a text, or all of it, or leaves it as it was.
+// Replaces a range of a text, or all of it. Its first lines are known before, and after it.
 fn replace(
     alloc: Global,
     encoding: PositionEncoding,
+    lines: &mut FirstLines,
     text: &mut String,
     range: Option<PositionRange>,
     new: &str,
 ) -> Result<(), AllocError>
-    ensures ok { OnOk result (units encoding (string_bytes text.new) ≡ replaced encoding (units encoding (string_bytes text.old)) range (units encoding new.now)) }
-    ensures err { OnErr result (string_bytes text.new ≡ string_bytes text.old) }
+    requires { AreFirstStarts (string_bytes text.old) lines.old }
+    ensures known { OnOk result (AreFirstStarts (string_bytes text.new) lines.new) }
+    ensures changed { OnOk result (units encoding (string_bytes text.new) ≡ replaced encoding (units encoding (string_bytes text.old)) range (units encoding new.now)) }
 {
     match range {
         None => {
             *text = String::from_str(alloc, new)?;
-            Ok(())
+            lines.forget_from(0);
         }
         Some(range) => {
-            let (start, end) = offsets(alloc, encoding, text.as_str(), &range)?;
+            let (start, end) = offsets(encoding, lines, text.as_str(), &range)?;
             text.replace_range(start..end, new)?;
-            Ok(())
+            lines.forget_from(start);
         }
     }
+    Ok(())
 }
 
 // Makes some changes of a text. When memory is refused, some may have been made.
@@ -128,23 +130,25 @@ fn replace_all(
 ) -> Result<(), AllocError>
     ensures { OnOk result (units encoding (string_bytes text.new) ≡ changed_all encoding (units encoding (string_bytes text.old)) changes.now) }
 {
+    let mut lines = FirstLines::new(alloc)?;
     for change in changes {
-        replace(alloc, encoding, text, change.range, change.text)?;
+        replace(alloc, encoding, &mut lines, text, change.range, change.text)?;
     }
     Ok(())
 }
 
 // The byte offsets of a range of positions.
 fn offsets(
-    alloc: Global,
     encoding: PositionEncoding,
+    lines: &mut FirstLines,
     text: &str,
     range: &PositionRange,
 ) -> Result<(usize, usize), AllocError>
-    ensures { IfOk result (λ offsets. AreOffsets encoding text.now range.now offsets.0 offsets.1) }
+    requires { AreFirstStarts text.now lines.old }
+    ensures known { AreFirstStarts text.now lines.new }
+    ensures offsets { IfOk result (λ offsets. AreOffsets encoding text.now range.now offsets.0 offsets.1) }
 {
-    let lines = LineIndex::new(alloc, text)?;
-    let start = lines.offset(encoding, range.start);
-    let end = lines.offset(encoding, range.end);
+    let start = lines.offset(encoding, text, range.start)?;
+    let end = lines.offset(encoding, text, range.end)?;
     Ok((start, end.max(start)))
 }

@@ -6,3 +6,4 @@ pub mod CharacterLemmas
 pub mod PositionLemmas
 pub mod TextLemmas
 pub mod OffsetLemmas
+pub mod FirstLineLemmas

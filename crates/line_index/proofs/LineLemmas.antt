@@ -45,7 +45,7 @@ mono text i (suc j) h = elim (cases_lt j i) [
 ]
 
 -- two offsets in one line have its start
-same-start : (text : List ℕ) (i j : ℕ) → i ≤ j → line_at text j ≡ line_at text i → line_start text j ≡ line_start text i
+pub same-start : (text : List ℕ) (i j : ℕ) → i ≤ j → line_at text j ≡ line_at text i → line_start text j ≡ line_start text i
 same-start text i zero h e = (let z : i ≡ 0 = omega arith in ap (line_start text) (sym z))
 same-start text i (suc j) h e = elim (cases_lt j i) [
   | inl lt ↦ (let z : i ≡ suc j = omega arith in ap (line_start text) (sym z))
@@ -135,16 +135,19 @@ after-two text offset e low within same crlf =
     (next-start text offset (suc e) (omega arith) some (stays ∙ same) (or_left (eqb (slice_index text (suc e)) 10) _ lf))
 
 -- the starts in order
-pub starts-ordered : (text : List ℕ) (end : ℕ) (starts : List ℕ) → AreStarts text end starts → IsNonDecreasing starts
-starts-ordered text end starts s = IsNonDecreasingBy-from_default (λ x. x) starts 0 up where
+pub numbered-ordered : (text starts : List ℕ) → ((i : ℕ) → i < length starts → line_at text (slice_index starts i) ≡ i) → IsNonDecreasing starts
+numbered-ordered text starts number = IsNonDecreasingBy-from_default (λ x. x) starts 0 up where
   up : (i j : ℕ) → i ≤ j → j < length starts → slice_index starts i ≤ slice_index starts j
   up i j le lt = elim (cases_lt (slice_index starts j) (slice_index starts i)) [
     | inl down ↦
         let m = mono text (slice_index starts j) (slice_index starts i) (omega arith) in
-        let same : i ≡ j = omega (arith, s.number i (omega arith), s.number j lt) in
+        let same : i ≡ j = omega (arith, number i (omega arith), number j lt) in
         absurd (omega (arith, ap (slice_index starts) same))
     | inr ge ↦ ge
   ]
+
+pub starts-ordered : (text : List ℕ) (end : ℕ) (starts : List ℕ) → AreStarts text end starts → IsNonDecreasing starts
+starts-ordered text end starts s = numbered-ordered text starts s.number
 
 pub starts-first : (text : List ℕ) (end : ℕ) (starts : List ℕ) → AreStarts text end starts → (0 < length starts) × (slice_index starts 0 ≡ 0)
 starts-first text end starts s =

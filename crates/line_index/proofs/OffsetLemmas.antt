@@ -65,7 +65,7 @@ not-false : (b : Bool) → not b ≡ false → b ≡ true
 not-false true h = refl
 not-false false h = cc
 
-line-of : (text line : List ℕ) (number s : ℕ) → s ≤ length text → line_start text s ≡ s → line_at text s ≡ number → IsUtf8 text → line ≡ line_text text s
+pub line-of : (text line : List ℕ) (number s : ℕ) → s ≤ length text → line_start text s ≡ s → line_at text s ≡ number → IsUtf8 text → line ≡ line_text text s
     → IsLine text s (s + length line) number
 line-of text line number s within begin at u is =
     let plain : ℕ → Bool = λ c. not (is_line_terminator c) in

@@ -13,6 +13,13 @@ pub record AreStarts (text : List ℕ) (end : ℕ) (starts : List ℕ) : Type 0 
   pub number : (i : ℕ) → i < length starts → line_at text (slice_index starts i) ≡ i
   pub all : length starts ≡ line_at text end + 1
 
+-- Here the first lines of a text begin, at least the one at its front.
+pub record AreFirstStarts (text starts : List ℕ) : Type 0 where
+  pub some : 0 < length starts
+  pub within : (i : ℕ) → i < length starts → slice_index starts i ≤ length text
+  pub begin : (i : ℕ) → i < length starts → line_start text (slice_index starts i) ≡ slice_index starts i
+  pub number : (i : ℕ) → i < length starts → line_at text (slice_index starts i) ≡ i
+
 -- the next line after an offset begins here
 pub record IsNextStart (text : List ℕ) (offset next : ℕ) : Type 0 where
   pub after : offset < next

@@ -17,6 +17,9 @@ ghost use Rattle.line_index.specs.Positions.{units, width, offset_of, IsCursor};
 ghost use Rattle.line_index.specs.LineStarts.{AreStarts, IsNextStart};
 ghost use Rattle.line_index.specs.Marks.{AreMarks};
 
+mod first_lines;
+
+pub use first_lines::FirstLines;
 use memchr::memchr2;
 use std::alloc::{AllocError, Allocator, Global};
 use std::marker::Model;

@@ -1,18 +1,7 @@
-use Rattle.std.proofs.Common.{◌≡◌, List, ℕ, length, take, subst}
-use Rattle.std.specs.Str.{IsCharBoundary}
-use Rattle.line_index.specs.Positions.{units, offset_of}
 use Rattle.editor_text.proofs.EditLemmas.{are-offsets}
 use Rattle.editor_text.proofs.offsets.Goals as goal
 
-pub returns : goal.returns
-returns c =
-    let e = c.args.encoding in
-    let text = c.args.text.now in
-    let same : c.in_ok-lines.lines ≡ text = c.in_ok-lines.ensures in
-    are-offsets e text c.args.range.now c.offset-start.result c.offset-end.result c.max.result c.utf8.text
-    (subst (λ (t : List ℕ). IsCharBoundary t c.offset-start.result) same c.offset-start.ensures.boundary)
-    (subst (λ (t : List ℕ). IsCharBoundary t c.offset-end.result) same c.offset-end.ensures.boundary)
-    (subst (λ (t : List ℕ). length (units e (take c.offset-start.result t)) ≡ offset_of e (units e t) c.args.range.now.start) same
-    c.offset-start.ensures.position)
-    (subst (λ (t : List ℕ). length (units e (take c.offset-end.result t)) ≡ offset_of e (units e t) c.args.range.now.end) same c.offset-end.ensures.position)
-    c.max.ensures
+pub returns-clause-offsets : goal.returns-clause-offsets
+returns-clause-offsets c =
+    are-offsets c.args.encoding c.args.text.now c.args.range.now c.in_ok-start.start c.in_ok-end.end c.max.result c.utf8.text c.in_ok-start.ensures.boundary
+    c.in_ok-end.ensures.boundary c.in_ok-start.ensures.position c.in_ok-end.ensures.position c.max.ensures
