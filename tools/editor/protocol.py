@@ -460,6 +460,15 @@ def layout():
     client.end()
 
 
+def long_layout():
+    """A level of selections takes a line of its own, twice, with two blanks for each level around it: a text of 499 levels gets half a megabyte."""
+    client = opened(("{a" * 499 + "}" * 499 + "\n") * 140)
+    expect("a layout of 70 MB", code(client.ask("textDocument/formatting", textDocument=DOCUMENT, options=OPTIONS)), -32803)
+    expect("the same, of a part", code(client.ask("textDocument/rangeFormatting", textDocument=DOCUMENT, range=lines(0, 140), options=OPTIONS)), -32803)
+    expect("the layout of one of them", len(client.ask_about(URI, "rangeFormatting", range=lines(0, 1), options=OPTIONS)) > 900, True)
+    client.end()
+
+
 # ---- the words of the command line
 
 
@@ -488,7 +497,7 @@ def refused_words():
 
 
 TESTS = [states, statuses_without_shutdown, faulty_messages, pieces_of_input, capabilities, changes, positions, diagnostics, violations, lambda: names("utf-16", 0), lambda: names("utf-8", 2), other_documents, members, open_quotes,
-         lambda: parts("utf-16", 0), lambda: parts("utf-8", 2), names_of_symbols, more_folds, completion, layout, limits, refused_words]
+         lambda: parts("utf-16", 0), lambda: parts("utf-8", 2), names_of_symbols, more_folds, completion, layout, long_layout, limits, refused_words]
 for test in TESTS:
     test()
 print(f"protocol: {len(TESTS)} tests, {failed} differences")

@@ -10,12 +10,12 @@ use Rattle.editor_diagnostics.specs.Publication.{IsNoticeAbout}
 use Rattle.line_index.specs.declared.PositionEncoding.{PositionEncoding}
 use Rattle.line_index.specs.declared.PositionEncoding.TheVariants.{Utf8, Utf16}
 use Rattle.editor_text.specs.Client.{Opened}
-use Rattle.rpc_messages.specs.Messages.{IsError, IsResult}
+use Rattle.rpc_messages.specs.Messages.{IsResult}
 use Rattle.rpc_messages.specs.Steps.{Takes}
 use Rattle.rpc_messages.specs.declared.reply.Reply.{Reply}
 use Rattle.rpc_messages.specs.declared.reply.Reply.TheVariants.{Nothing, Answer, Notice, Exit}
 use Rattle.rpc_serving.specs.Serving.{EndsServing, IsServed}
-use Rattle.gqlls_run.specs.Layout.{IsFormattingOf}
+use Rattle.gqlls_run.specs.Layout.{IsFormattingOf, IsRefusalOf}
 use Rattle.gqlls_run.specs.Parameters.{Edit, IsVersionIn, Offers, edits_in, text_in, uri_in}
 use Rattle.gqlls_run.specs.Dialogue.{Dialogue, IsChanged, Sets, begun}
 use Rattle.gqlls_run.specs.Told.{IsTold, Notifies}
@@ -30,10 +30,6 @@ Answers IsSuch Nothing = ⊥
 Answers IsSuch (Answer body) = IsSuch body.items
 Answers IsSuch (Notice body) = ⊥
 Answers IsSuch (Exit status) = ⊥
-
--- the body refuses the request with this id, with this code
-abbrev pub IsRefusalOf : Json → ℤ → List ℕ → Type 0
-IsRefusalOf id code body = (text : List ℕ) × IsError id code text body
 
 -- `PositionEncodingKind`
 abbrev pub encoding_name : PositionEncoding → List ℕ

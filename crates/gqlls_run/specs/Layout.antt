@@ -1,5 +1,6 @@
 -- The results of layouts.
-use Rattle.std.specs.Prelude.{◌≡◌, ◌⊎◌, ℕ, List, [], ◌∷◌, ◌++◌, slice_range, Option, MatchOption}
+use Rattle.std.specs.Prelude.{◌≡◌, ◌≤◌, ◌⊎◌, ℕ, ℤ, List, [], ◌∷◌, ◌++◌, length, slice_range, string_bytes}
+use lib.IntN.{pos, neg_ℤ}
 use Rattle.std.specs.List.{replace_range}
 use Rattle.json.specs.Json.{Json, null}
 use Rattle.apollo_parser.specs.declared.Limits.{Limits}
@@ -8,7 +9,9 @@ use Rattle.formatter.specs.Formatted.{IsDocument}
 use Rattle.formatter.specs.Within.{IsFormattedWithin, IsOutgrown}
 use Rattle.editor_text.specs.Client.{Opened}
 use Rattle.line_index.specs.declared.PositionEncoding.{PositionEncoding}
-use Rattle.rpc_messages.specs.Messages.{IsResult}
+use Rattle.rpc_messages.specs.Messages.{IsError, IsResult}
+use Rattle.gqlls_run.specs.declared.layout.Layout.{Layout}
+use Rattle.gqlls_run.specs.declared.layout.Layout.TheVariants.{Text, Left, TooLong}
 
 -- ---- a layout
 
@@ -25,9 +28,32 @@ pub record IsPartLaidOut (limits : Limits) (source new : List ℕ) : Type 0 wher
   pub formatted : IsFormattedWithin limits (slice_range source start end) (text ++ 10 ∷ [])
   pub is : new ≡ replace_range source start end text
 
--- the body answers the request with this id by edits that make the new text of the source, and by null where there is none
-abbrev pub IsLaidOut : Json → PositionEncoding → List ℕ → Option (List ℕ) → List ℕ → Type 0
-IsLaidOut id encoding source new body = MatchOption new (IsResult id null body) (λ text. IsEditedBy id encoding source text body)
+-- a formatted text has at most 64 MB, in bytes
+abbrev pub most_bytes : ℕ
+most_bytes = 67108864
+
+-- a formatted text of the source, which has no more; the source where it is left as it is; or none, for a document that has a longer one
+abbrev pub IsLayoutOf : Limits → List ℕ → Layout → Type 0
+IsLayoutOf limits source (Text text) = IsFormattedWithin limits source (string_bytes text) × (length (string_bytes text) ≤ most_bytes)
+IsLayoutOf limits source Left = IsLeft limits source
+IsLayoutOf limits source TooLong = IsDocument source limits.recursion limits.tokens
+
+-- the layout is such a new text, or none
+abbrev pub IsTextIf : (List ℕ → Type 0) → Layout → Type 0
+IsTextIf IsSuch (Text text) = IsSuch (string_bytes text)
+IsTextIf IsSuch Left = Unit {0}
+IsTextIf IsSuch TooLong = Unit {0}
+
+-- the body refuses the request with this id, with this code
+abbrev pub IsRefusalOf : Json → ℤ → List ℕ → Type 0
+IsRefusalOf id code body = (text : List ℕ) × IsError id code text body
+
+-- The body answers the request with this id: by edits that make the new text of the source, by null where it is left, and by `RequestFailed` where the new
+-- text would be too long.
+abbrev pub IsLaidOut : Json → PositionEncoding → List ℕ → Layout → List ℕ → Type 0
+IsLaidOut id encoding source (Text text) body = IsEditedBy id encoding source (string_bytes text) body
+IsLaidOut id encoding source Left body = IsResult id null body
+IsLaidOut id encoding source TooLong body = IsRefusalOf id (neg_ℤ (pos 32803)) body
 
 -- ---- the result of `textDocument/formatting`
 
@@ -35,12 +61,19 @@ IsLaidOut id encoding source new body = MatchOption new (IsResult id null body) 
 pub record IsEdited (limits : Limits) (content : Opened) (result : Json) : Type 0 where
   pub text : List ℕ
   pub formatted : IsFormattedWithin limits content.text text
+  pub short : length text ≤ most_bytes
   pub edits : AreEditsOf content.encoding content.text text result
 
 -- null for a text that is no document within the limits, or whose layout has too many items, and else such edits
 abbrev pub IsFormatting : Limits → Opened → Json → Type 0
 IsFormatting limits content result = (IsLeft limits content.text × (result ≡ null)) ⊎ IsEdited limits content result
 
--- the body answers the request with this id by such a result
+-- `RequestFailed` for a document within the limits: its layout is too long
+pub record IsTooLong (limits : Limits) (id : Json) (content : Opened) (body : List ℕ) : Type 0 where
+  pub document : IsDocument content.text limits.recursion limits.tokens
+  pub refused : IsRefusalOf id (neg_ℤ (pos 32803)) body
+
+-- the body answers the request with this id by such a result, or refuses it
 abbrev pub IsFormattingOf : Limits → Json → Opened → List ℕ → Type 0
-IsFormattingOf limits id content body = (result : Json) × IsFormatting limits content result × IsResult id result body
+IsFormattingOf limits id content body =
+    ((result : Json) × IsFormatting limits content result × IsResult id result body) ⊎ IsTooLong limits id content body

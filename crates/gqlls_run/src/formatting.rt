@@ -1,37 +1,48 @@
 // The answers to requests for a layout.
-ghost use Rattle.std.specs.Prelude.{IfOk, option_map, string_bytes};
+ghost use Rattle.std.specs.Prelude.{IfOk};
 ghost use Rattle.json.specs.Tree.{HasNumbers};
 ghost use Rattle.json.specs.Value.{value_view};
 ghost use Rattle.rpc_messages.specs.Messages.{IsAnswer};
 ghost use Rattle.gqlls_run.specs.Layout.{IsFormattingOf, IsLaidOut};
 
 use crate::documents::Document;
-use crate::layout::formatted;
+use crate::layout::{Layout, formatted};
 use apollo_parser::Limits;
 use editor_diagnostics::Positions;
 use editor_edits::answer_edits;
 use json::Value;
-use rpc_messages::{Piece, answer};
+use rpc_messages::{Piece, answer, refusal};
 use std::alloc::{AllocError, Global};
 
-/// The answer to a request for a layout: the edits that make the new text, and null where there is none.
+// `RequestFailed` of the Language Server Protocol.
+const REQUEST_FAILED: i64 = -32803;
+
+/// The answer to a request for a layout: the edits that make the new text, null where the text is left, and an error where the new one would be too long.
 pub(crate) fn answer_layout(
     alloc: Global,
     id: &Value<'_>,
     positions: &Positions<'_>,
-    new: &Option<String>,
+    layout: &Layout,
 ) -> Result<Vec<u8>, AllocError>
     requires { HasNumbers (value_view id.now) }
     ensures answers { IfOk result (λ body. IsAnswer (value_view id.now) body.items) }
-    ensures edits { IfOk result (λ body. IsLaidOut (value_view id.now) positions.now.encoding positions.now.text.now
-        (option_map (λ text. string_bytes text) new.now) body.items) }
+    ensures edits { IfOk result (λ body. IsLaidOut (value_view id.now) positions.now.encoding positions.now.text.now layout.now body.items) }
 {
-    let Some(text) = new else {
-        // bound to a name, so that its clauses on `Ok` are found
-        let body = answer(alloc, id, &[Piece::Null])?;
-        return Ok(body);
-    };
-    answer_edits(alloc, id, positions, text.as_str())
+    match layout {
+        Layout::Text(text) => {
+            let body = answer_edits(alloc, id, positions, text.as_str())?;
+            Ok(body)
+        }
+        Layout::Left => {
+            // bound to a name, so that its clauses on `Ok` are found
+            let body = answer(alloc, id, &[Piece::Null])?;
+            Ok(body)
+        }
+        Layout::TooLong => {
+            let body = refusal(alloc, id, REQUEST_FAILED, "the layout has more than 64 MB")?;
+            Ok(body)
+        }
+    }
 }
 
 /// The answer to `textDocument/formatting` about a document, within limits.
@@ -46,8 +57,8 @@ pub(crate) fn answer_formatting(
     ensures formats { IfOk result (λ body. IsFormattingOf limits (value_view id.now) document.now.content body.items) }
 {
     let positions = document.positions(alloc)?;
-    let new = formatted(alloc, positions.text, limits)?;
+    let layout = formatted(alloc, positions.text, limits)?;
     // bound to a name, so that its clauses on `Ok` are found
-    let body = answer_layout(alloc, id, &positions, &new)?;
+    let body = answer_layout(alloc, id, &positions, &layout)?;
     Ok(body)
 }

@@ -1,30 +1,42 @@
 // The layout of a document, or of some of its definitions.
-ghost use Rattle.std.specs.Prelude.{◌≡◌, IfOk, IfSome, MatchOption, string_bytes};
+ghost use Rattle.std.specs.Prelude.{◌≡◌, IfOk};
 ghost use Rattle.std.specs.List.{replace_range};
-ghost use Rattle.formatter.specs.Within.{IsFormattedWithin};
-ghost use Rattle.gqlls_run.specs.Layout.{IsLeft, IsPartLaidOut};
+ghost use Rattle.gqlls_run.specs.Layout.{IsLayoutOf, IsPartLaidOut, IsTextIf};
 
 use apollo_parser::{Limits, SyntaxNode};
 use editor_answers::{Span, span_of};
-use formatter::{format, stays_within};
+use formatter::{WriteError, format_within, stays_within};
 use std::alloc::{AllocError, Global};
 
-/// A document with the layout of `formatter`; `None` where it has errors, or would have more items than the limit allows. It fails only where memory is
-/// refused.
-pub(crate) fn formatted(
-    alloc: Global,
-    source: &str,
-    limits: Limits,
-) -> Result<Option<String>, AllocError>
-    ensures { IfOk result (λ r. MatchOption r (IsLeft limits source.now) (λ text. IsFormattedWithin limits source.now (string_bytes text))) }
+// How many bytes a formatted text may have: 64 MB.
+const MOST_BYTES: usize = 67_108_864;
+
+/// What comes of a layout.
+#[derive(Drop)]
+pub(crate) enum Layout {
+    /// The new text.
+    Text(String),
+    /// The text is left as it is: it has errors, or would have more items than the limit allows.
+    Left,
+    /// The new text would have more than 64 MB.
+    TooLong,
+}
+
+/// The layout of a document by `formatter`. It fails only where memory is refused.
+pub(crate) fn formatted(alloc: Global, source: &str, limits: Limits) -> Result<Layout, AllocError>
+    ensures { IfOk result (IsLayoutOf limits source.now) }
 {
-    let Ok(text) = format(alloc, source, limits)? else {
-        return Ok(None);
-    };
-    if stays_within(text.as_str(), limits.tokens) {
-        Ok(Some(text))
-    } else {
-        Ok(None)
+    match format_within(alloc, source, limits, MOST_BYTES) {
+        Ok(Ok(text)) => {
+            if stays_within(text.as_str(), limits.tokens) {
+                Ok(Layout::Text(text))
+            } else {
+                Ok(Layout::Left)
+            }
+        }
+        Ok(Err(_)) => Ok(Layout::Left),
+        Err(WriteError::TooLong) => Ok(Layout::TooLong),
+        Err(WriteError::Memory) => Err(AllocError),
     }
 }
 
@@ -64,58 +76,50 @@ fn trimmed(source: &str, span: Span) -> Span {
     }
 }
 
-// A text with another one between two byte offsets. There is none where these are inside characters.
-fn replaced(
-    alloc: Global,
-    source: &str,
-    span: Span,
-    new: &str,
-) -> Result<Option<String>, AllocError>
-    ensures { IfOk result (λ r. IfSome r (λ text. string_bytes text ≡ replace_range source.now span.start span.end new.now)) }
+// A text with another one between two byte offsets, or the text as it is where these are inside characters.
+fn replaced(alloc: Global, source: &str, span: Span, new: &str) -> Result<Layout, AllocError>
+    ensures { IfOk result (IsTextIf (λ text. text ≡ replace_range source.now span.start span.end new.now)) }
 {
     let (Some(front), Some(rest)) = (source.get(..span.start), source.get(span.end..)) else {
-        return Ok(None);
+        return Ok(Layout::Left);
     };
     let mut text = String::from_str(alloc, front)?;
     text.push_str(new)?;
     text.push_str(rest)?;
-    Ok(Some(text))
+    Ok(Layout::Text(text))
 }
 
-// A text with the layout of `formatter` between two byte offsets, without the line end after it; `None` where that part has errors, or would have too many items.
-fn format_at(
-    alloc: Global,
-    source: &str,
-    span: Span,
-    limits: Limits,
-) -> Result<Option<String>, AllocError>
-    ensures { IfOk result (λ r. IfSome r (λ text. IsPartLaidOut limits source.now (string_bytes text))) }
+// A text with the layout of `formatter` between two byte offsets, without the line end after it.
+fn format_at(alloc: Global, source: &str, span: Span, limits: Limits) -> Result<Layout, AllocError>
+    ensures { IfOk result (IsTextIf (IsPartLaidOut limits source.now)) }
 {
     let Some(part) = source.get(span.start..span.end) else {
-        return Ok(None);
+        return Ok(Layout::Left);
     };
-    let Some(text) = formatted(alloc, part, limits)? else {
-        return Ok(None);
+    let text = match formatted(alloc, part, limits)? {
+        Layout::Text(text) => text,
+        Layout::Left => return Ok(Layout::Left),
+        Layout::TooLong => return Ok(Layout::TooLong),
     };
     let Some(text) = text.as_str().strip_suffix("\n") else {
-        return Ok(None);
+        return Ok(Layout::Left);
     };
     replaced(alloc, source, span, text)
 }
 
-/// A text where the definitions that are at least partly in a part of it have the layout of `formatter`; `None` where there are none, or where they
-/// have errors or would have more items than the limit allows. It fails only where memory is refused.
+/// A text where the definitions that are at least partly in a part of it have the layout of `formatter`, if there are any. It fails only where memory is
+/// refused.
 pub(crate) fn format_part(
     alloc: Global,
     source: &str,
     root: SyntaxNode<'_>,
     within: Span,
     limits: Limits,
-) -> Result<Option<String>, AllocError>
-    ensures { IfOk result (λ r. IfSome r (λ text. IsPartLaidOut limits source.now (string_bytes text))) }
+) -> Result<Layout, AllocError>
+    ensures { IfOk result (IsTextIf (IsPartLaidOut limits source.now)) }
 {
     match definitions_within(root, within) {
         Some(span) => format_at(alloc, source, trimmed(source, span), limits),
-        None => Ok(None),
+        None => Ok(Layout::Left),
     }
 }

@@ -6,8 +6,9 @@ ghost use Rattle.json.specs.Value.{value_view};
 ghost use Rattle.rpc_messages.specs.Messages.{IsAnswer, IsResult};
 ghost use Rattle.rpc_messages.specs.Replies.{EndsOnlyIf, Replies};
 ghost use Rattle.rpc_messages.specs.declared.reply.Reply.TheVariants.{Answer};
-ghost use Rattle.gqlls_run.specs.Conversation.{Changes, Closes, Formats, IsAsked, IsHeard, IsRefusalOf, Opens, exit_status};
+ghost use Rattle.gqlls_run.specs.Conversation.{Changes, Closes, Formats, IsAsked, IsHeard, Opens, exit_status};
 ghost use Rattle.gqlls_run.specs.Dialogue.{begun};
+ghost use Rattle.gqlls_run.specs.Layout.{IsRefusalOf};
 ghost use Rattle.gqlls_run.specs.State.{StepsOf, dialogue_of};
 
 use crate::capabilities::answer_initialize;

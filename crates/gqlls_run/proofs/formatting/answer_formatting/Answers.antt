@@ -3,4 +3,4 @@ use Rattle.gqlls_run.proofs.formatting.answer_formatting.Goals as goal
 
 pub returns-clause-formats : goal.returns-clause-formats
 returns-clause-formats c =
-    formatting _ _ _ _ _ _ _ c.in_ok-positions.ensures.encoding c.in_ok-positions.ensures.text c.in_ok-new.ensures c.in_ok-body.ensures.edits
+    formatting _ _ _ _ _ _ _ c.in_ok-positions.ensures.encoding c.in_ok-positions.ensures.text c.in_ok-layout.ensures c.in_ok-body.ensures.edits
