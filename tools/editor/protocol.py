@@ -23,7 +23,7 @@ type Pet {
 }
 """
 FEATURES = ["documentSymbol", "foldingRange", "selectionRange", "semanticTokens/full", "semanticTokens/range", "formatting", "rangeFormatting", "definition", "references", "documentHighlight", "rename", "hover",
-            "completion"]
+            "completion", "signatureHelp"]
 failed = 0
 
 
@@ -150,7 +150,7 @@ def capabilities():
     expect("all tokens and some", (tokens["full"], tokens["range"]), (True, True))
     names = {"semanticTokens/full": "semanticTokens", "semanticTokens/range": "semanticTokens", "formatting": "documentFormatting", "rangeFormatting": "documentRangeFormatting"}
     providers = {names.get(feature, feature) + "Provider" for feature in FEATURES}
-    expect("the features", {name for name in found if name.endswith("Provider")}, providers | {"workspaceSymbolProvider"})
+    expect("the features", {name for name in found if name.endswith("Provider")}, providers | {"workspaceSymbolProvider", "signatureHelpProvider"})
 
 
 # ---- changes and errors
@@ -342,7 +342,7 @@ def open_quotes():
     data = client.ask_about(URI, "semanticTokens/full")["data"]
     expect("colours of the first lines", data[:30],
            [0, 0, 4, 1, 0, 0, 5, 4, 6, 0, 1, 2, 9, 2, 0, 1, 2, 4, 7, 0, 0, 4, 1, 4, 0, 0, 2, 6, 6, 0])
-    expect("words after it", [it["label"] for it in client.ask_about(URI, "completion", **at(7, 9))], ["name"])
+    expect("words after it", [it["label"] for it in client.ask_about(URI, "completion", **at(7, 9))], ["name", *META])
     expect("an error that runs over the line", client.open(URI, OPEN)["diagnostics"][0]["range"], span(1, 2, 11))
     client.end()
 
@@ -357,6 +357,10 @@ fragment F on Hero { nick: name __typename unknown }
 PLACES = [("JEDI) {", (8, 28)), ("hero(", (3, 2)), ("episode: H", (3, 7)), ("HOPE, ", (8, 23)), ("like", (3, 25)), ("other", (9, 31)), ("episode: J", (9, 13)), ("JEDI }", (8, 28)),
           ("at: ", (11, 13)), ("HOPE)", (8, 23)), ("friends", (6, 25)), ("name }", (6, 12)), ("search", (4, 2)), ("height", (10, 19)), ("name __", (6, 12)),
           ("nick", None), ("__typename", None), ("unknown", None)]
+
+
+# what may be selected from each type
+META = ["__typename"]
 
 
 def members():
@@ -381,10 +385,10 @@ def members():
         lines = text.split("\n")
         return [it["label"] for it in client.ask_about(URI, "completion", **at(len(lines) - 1, len(lines[-1]))) if it["kind"] != 14]
 
-    for text, wanted in [("{ ", ["hero", "search"]), ("{ hero { na", ["name", "friends", "height"]), ("{ hero(", ["episode", "like"]), ("{ hero(episode: ", ["HOPE", "JEDI"]),
+    for text, wanted in [("{ ", ["hero", "search", *META, "__schema", "__type"]), ("{ hero { na", ["name", "friends", "height", *META]), ("{ hero(", ["episode", "like"]), ("{ hero(episode: ", ["HOPE", "JEDI"]),
                          ("{ hero(like: {other: {", ["episode", "other"]), ("{ hero(like: {episode: ", ["HOPE", "JEDI"]), ("query ($e: Episode = ", ["HOPE", "JEDI"]),
-                         ("{ hero @d(", ["at"]), ("{ hero @d(at: ", ["HOPE", "JEDI"]), ("fragment F on Hero { friends { ", ["name", "friends", "height"]),
-                         ("{ search { ... on Hero { ", ["name", "friends", "height"]), ("{ search { ... { ", []), ("{ other { ", []), ("mutation { ", [])]:
+                         ("{ hero @d(", ["at"]), ("{ hero @d(at: ", ["HOPE", "JEDI"]), ("fragment F on Hero { friends { ", ["name", "friends", "height", *META]),
+                         ("{ search { ... on Hero { ", ["name", "friends", "height", *META]), ("{ search { ... { ", META), ("{ other { ", []), ("mutation { ", META)]:
         expect(f"members after {text}", words(text), wanted)
     found = client.ask("workspace/symbol", query="HER")["result"]
     expect("symbols of all documents", [(it["name"], it["kind"], it["location"]) for it in found],
@@ -496,8 +500,76 @@ def refused_words():
         expect(f"the words {words}", (ended.returncode, ended.stdout, ended.stderr), (2, b"", usage))
 
 
+# ---- the standard, signatures, many changes
+
+
+def standard():
+    """The types, directives and meta-fields that need no definition (GraphQL, October 2021, sections 3.5, 3.13, 4.1 and 4.2)."""
+    client = started()
+    client.open("file:///types", TYPES)
+
+    def asked(feature, text, place):
+        client.open(URI, text)
+        return client.ask_about(URI, feature, **at(0, place))
+
+    def words(text):
+        return [it["label"] for it in asked("completion", text, len(text)) if it["kind"] != 14]
+
+    for text, wanted in [("{ hero @include(", ["if"]), ("{ hero @skip(i", ["if"]), ("type A { a: B @deprecated(", ["reason"]), ("scalar A @specifiedBy(", ["url"]),
+                         ("{ __schema { directives { ", ["name", "description", "locations", "args", "isRepeatable", *META]), ("{ __type(", ["name"]),
+                         ("subscription { hero { ", []), ("fragment F on __Type { fields(", ["includeDeprecated"])]:
+        expect(f"words of the standard after {text}", words(text), wanted)
+    for text, place, heading in [("{ __typename }", 4, "__typename: String!"), ("{ search { __typename } }", 12, "__typename: String!"), ("{ __schema { types { name } } }", 4, "__schema: __Schema!"),
+                                 ("{ __type(name: 1) { name } }", 9, "name: String!"), ("{ a @skip(if: true) }", 10, "if: Boolean!"), ("{ a @include(if: true) }", 13, "if: Boolean!"),
+                                 ('type A { a: B @deprecated(reason: "") }', 27, 'reason: String = "No longer supported"'), ("scalar A @specifiedBy(url: 1)", 22, "url: String!"),
+                                 ("scalar A @specifiedBy(url: 1)", 11, "directive @specifiedBy(url: String!) on SCALAR"), ("query ($a: ID) { a }", 12, "scalar ID")]:
+        found = asked("hover", text, place)
+        expect(f"hover in {text}", found and found["contents"]["value"].split("\n")[1], heading)
+        expect(f"no place of it, in {text}", asked("definition", text, place), None)
+    expect("no meta-field of a field's own type", asked("hover", "{ hero { __schema } }", 10), None)
+    client.end()
+
+
+def signatures():
+    client = started()
+    client.open("file:///types", TYPES)
+    client.open("file:///more", 'extend type Root {\n  "Finds."\n  find(id: ID!, in: [Episode!] = [] @d\n by: String): [Hero!]!\n}\n')
+    hero = {"label": "hero(episode: Episode, like: Like): Hero", "documentation": "A hero.", "parameters": [{"label": "episode: Episode"}, {"label": "like: Like"}]}
+    find = {"label": "find(id: ID!, in: [Episode!] = [], by: String): [Hero!]!", "documentation": "Finds.",
+            "parameters": [{"label": "id: ID!"}, {"label": "in: [Episode!] = []"}, {"label": "by: String"}]}
+    skip = {"label": "skip(if: Boolean!)", "documentation": "Leaves the selection out if the argument is true.", "parameters": [{"label": "if: Boolean!"}]}
+    for text, wanted, active in [("{ hero(|", hero, 0), ("{ hero(like: |", hero, 1), ("{ hero(like: {episode: JEDI}, |", hero, 0), ("{ hero(episode: A like: {}, |", hero, 2),
+                                 ("{ hero(epi|) { name } }", hero, 0), ("{ find(id: 1, in: [A, |]) }", find, 1), ("{ find(in: A, |) }", find, 0), ("{ find(id: 1, by: |) }", find, 2),
+                                 ("query @skip(|", skip, 0), ("{ hero @skip(if: |true)", skip, 0), ("{ find(id: 1) @skip(|", skip, 0), ("{ hero|", None, 0), ("{ hero(episode: A) |", None, 0),
+                                 ("{ nothing(|", None, 0), ("type T { a(|", None, 0)]:
+        place = text.index("|")
+        client.open(URI, text.replace("|", ""))
+        found = client.ask_about(URI, "signatureHelp", **at(0, place))
+        expect(f"the signature at {text}", found, wanted and {"signatures": [wanted], "activeSignature": 0, "activeParameter": active})
+    client.end()
+
+
+def many_changes():
+    """Changes of one message, each of the text that the one before it left: the errors are those of the last text."""
+    lines = [f"type T{i} {{ é: [A!]! # 😀" + ("\r\n}" if i % 3 else "\n}") for i in range(300)]
+    for encoding in ["utf-16", "utf-8"]:
+        for order in [1, -1]:
+            text = Text("\n".join(lines), encoding)
+            client = opened(text.text, encoding)
+            sent = []
+            for number in range(0, 300, 7)[::order]:
+                start = text.text.index(f"T{number} ")
+                for new in ["\n", "é\r", f"T{number}9\n"]:
+                    change = {"range": text.range(text.boundary(start), text.boundary(start + 1)), "text": new}
+                    sent.append(change)
+                    text = Text(text.changed([{"range": change["range"], "newText": new}]), encoding)
+            client.change(URI, 1, sent)
+            expect(f"the outline after many changes, {encoding}, {order}", client.ask_about(URI, "documentSymbol"), opened(text.text, encoding).ask_about(URI, "documentSymbol"))
+            client.end()
+
+
 TESTS = [states, statuses_without_shutdown, faulty_messages, pieces_of_input, capabilities, changes, positions, diagnostics, violations, lambda: names("utf-16", 0), lambda: names("utf-8", 2), other_documents, members, open_quotes,
-         lambda: parts("utf-16", 0), lambda: parts("utf-8", 2), names_of_symbols, more_folds, completion, layout, long_layout, limits, refused_words]
+         lambda: parts("utf-16", 0), lambda: parts("utf-8", 2), names_of_symbols, more_folds, completion, layout, long_layout, limits, refused_words, standard, signatures, many_changes]
 for test in TESTS:
     test()
 print(f"protocol: {len(TESTS)} tests, {failed} differences")

@@ -24,6 +24,7 @@ CAPABILITIES = {
     **{name: True for name in SERVED},
     "textDocumentSync": {"openClose": True, "change": 2, "save": True},
     "completionProvider": {"triggerCharacters": ["$", "@", ".", ":", "(", "{"]},
+    "signatureHelpProvider": {"triggerCharacters": ["(", ","]},
     "semanticTokensProvider": {"full": True, "range": True, "legend": {"tokenModifiers": [], "tokenTypes": TYPES}},
 }
 

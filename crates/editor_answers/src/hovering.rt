@@ -77,7 +77,7 @@ pub(crate) fn heading_of<'t>(source: &'t str, node: SyntaxNode<'_>) -> &'t str {
 }
 
 /// The value of a definition's description, empty where it has none. It fails only where memory is refused.
-pub(crate) fn description_of(alloc: Global, node: SyntaxNode<'_>) -> Result<String, AllocError> {
+pub fn description_of(alloc: Global, node: SyntaxNode<'_>) -> Result<String, AllocError> {
     if let Some(description) = child::<Description<'_>>(&node)
         && let Some(value) = description.string_value()
     {

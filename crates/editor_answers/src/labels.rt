@@ -73,8 +73,8 @@ fn identifier<'t>(leaf: SyntaxToken<'t>) -> Option<SyntaxToken<'t>>
     }
 }
 
-/// The identifier at an offset, or that ends there.
-pub(crate) fn identifier_at<'t>(root: SyntaxNode<'t>, offset: usize) -> Option<SyntaxToken<'t>>
+/// The identifier at a byte offset of a tree's text, or that ends there.
+pub fn identifier_at<'t>(root: SyntaxNode<'t>, offset: usize) -> Option<SyntaxToken<'t>>
     ensures { option_map token_place result ≡ identifier_at (node_place root.entry) offset }
 {
     match root.token_at_offset(offset) {

@@ -8,7 +8,6 @@
 #![tactic(auto)]
 
 mod answers;
-mod built_in;
 mod coloring;
 mod folding;
 mod hovering;
@@ -23,10 +22,10 @@ pub use answers::{
     Elsewhere, answer_hover, answer_symbols, answer_tokens, push_folds, push_highlights,
     push_location, push_range, push_references, push_rename, push_selections,
 };
-pub use built_in::{BUILT_INS, BuiltIn};
 pub use coloring::{SemanticToken, TOKEN_TYPES, TokenType, semantic_tokens};
 pub use folding::fold_of;
-pub use hovering::{Hover, hover_at};
+pub use hovering::{Hover, description_of, hover_at};
+pub use labels::identifier_at;
 pub use names::{Meaning, NameKind, meaning_of};
 pub use outline::{Symbol, SymbolKind, symbol_of};
 pub use selecting::selection;

@@ -15,7 +15,7 @@ use rpc_messages::{Piece, answer};
 use std::alloc::{AllocError, Global};
 
 // What is served, up to the types of tokens.
-const SERVED: [Piece<'static>; 56] = [
+const SERVED: [Piece<'static>; 64] = [
     Piece::Key("documentSymbolProvider"),
     Piece::Flag(true),
     Piece::Key("foldingRangeProvider"),
@@ -57,6 +57,14 @@ const SERVED: [Piece<'static>; 56] = [
     Piece::Text(":"),
     Piece::Text("("),
     Piece::Text("{"),
+    Piece::EndArray,
+    Piece::EndObject,
+    Piece::Key("signatureHelpProvider"),
+    Piece::Object,
+    Piece::Key("triggerCharacters"),
+    Piece::Array,
+    Piece::Text("("),
+    Piece::Text(","),
     Piece::EndArray,
     Piece::EndObject,
     Piece::Key("semanticTokensProvider"),

@@ -2,11 +2,11 @@
 use apollo_parser::{
     DocumentRoot, Limits, Parser, SyntaxKind, SyntaxNode, SyntaxToken, SyntaxTree,
 };
-use editor_answers::{BUILT_INS, NameKind, meaning_of, span_of};
+use editor_answers::{NameKind, meaning_of, span_of};
 use editor_diagnostics::Positions;
 use open_quotes::closed;
 use rpc_messages::Piece;
-use schema_members::{Member, Schema, members_at};
+use schema_members::{Call, Member, Schema, call_at, members_at};
 use std::alloc::{AllocError, Global};
 use std::collections::BTreeSet;
 
@@ -122,6 +122,17 @@ impl Front<'_> {
         Ok(taken_at(&tree, front.len()))
     }
 
+    // The field or the directive whose arguments may come after the text, by the types of some documents.
+    fn call<'t>(self, roots: &[SyntaxNode<'t>]) -> Result<Option<Call<'t>>, AllocError> {
+        let front = self.text;
+        let text = format!(in self.alloc; "{front}x")?;
+        let tree = Parser::within(text.as_str(), self.limits).parse(self.alloc)?;
+        match leaf_from(&tree, front.len()) {
+            Some(leaf) => call_at(self.alloc, Schema { roots }, leaf),
+            None => Ok(None),
+        }
+    }
+
     // The fields, arguments and values that may come after the text, by the types of some documents.
     fn members<'t>(self, roots: &[SyntaxNode<'t>]) -> Result<Vec<Member<'t>>, AllocError> {
         let front = self.text;
@@ -176,7 +187,7 @@ fn name_number(kind: NameKind) -> usize {
     }
 }
 
-// Adds the names of a kind that a document defines and that are not known yet.
+// Adds the names of a kind that a document defines and that are not known yet, but for those of introspection.
 fn push_names<'t>(
     root: SyntaxNode<'t>,
     kind: NameKind,
@@ -188,6 +199,7 @@ fn push_names<'t>(
             && let Some(meaning) = meaning_of(leaf)
             && meaning.defines
             && meaning.kind == kind
+            && !leaf.text().starts_with("__")
             && known.insert(leaf.text())?
         {
             found.push(Candidate {
@@ -214,19 +226,6 @@ fn push_all_names<'t>(
     }
     for root in others {
         push_names(*root, kind, &mut known, found)?;
-    }
-    Ok(())
-}
-
-// Adds the names of a kind that need no definition.
-fn push_built_in<'t>(kind: NameKind, found: &mut Vec<Candidate<'t>>) -> Result<(), AllocError> {
-    for built_in in &BUILT_INS {
-        if built_in.kind == kind {
-            found.push(Candidate {
-                label: built_in.name,
-                number: name_number(kind),
-            })?;
-        }
     }
     Ok(())
 }
@@ -296,7 +295,6 @@ fn completions<'t>(
     push_keywords(front, &mut found)?;
     if let Some(kind) = front.name()? {
         push_all_names(alloc, root, roots, kind, &mut found)?;
-        push_built_in(kind, &mut found)?;
     }
     Ok(found)
 }
@@ -346,6 +344,45 @@ fn closed_before(alloc: Global, text: &str) -> Result<Option<String>, AllocError
     Ok(Some(front))
 }
 
+// What is in front of a place: the text without the word there, and the same with strings closed that its lines leave open, if there are any.
+#[derive(Drop)]
+struct Before<'t> {
+    text: &'t str,
+    closed: Option<String>,
+}
+
+impl<'t> Before<'t> {
+    // What is in front of a byte offset.
+    fn new(alloc: Global, source: &'t str, offset: usize) -> Result<Before<'t>, AllocError> {
+        let text = front_of(source, offset);
+        let closed = closed_before(alloc, text)?;
+        Ok(Before { text, closed })
+    }
+
+    // The text that is parsed.
+    fn parsed(&self) -> &str {
+        match &self.closed {
+            Some(text) => text.as_str(),
+            None => self.text,
+        }
+    }
+}
+
+/// The field or the directive whose arguments a byte offset of a text is in, by the types of some documents. It fails only where memory is refused.
+pub(crate) fn call_around<'t>(
+    alloc: Global,
+    source: &str,
+    offset: usize,
+    roots: &[SyntaxNode<'t>],
+    limits: Limits,
+) -> Result<Option<Call<'t>>, AllocError> {
+    let before = Before::new(alloc, source, offset)?;
+    match last_front(alloc, before.parsed(), limits)? {
+        Some(front) => front.call(roots),
+        None => Ok(None),
+    }
+}
+
 /// Adds the result of completion at a byte offset: the words that may be there instead of the one that ends there. The root is the document's, and
 /// the roots are those of all, whose names may be there too.
 pub(crate) fn push_completions<'p>(
@@ -357,13 +394,8 @@ pub(crate) fn push_completions<'p>(
     offset: usize,
     limits: Limits,
 ) -> Result<(), AllocError> {
-    let before = front_of(positions.text, offset);
-    let closed = closed_before(alloc, before)?;
-    let text = match &closed {
-        Some(text) => text.as_str(),
-        None => before,
-    };
-    let found = completions(alloc, text, root, roots, limits)?;
-    let range = positions.range(before.len(), offset);
+    let before = Before::new(alloc, positions.text, offset)?;
+    let found = completions(alloc, before.parsed(), root, roots, limits)?;
+    let range = positions.range(before.text.len(), offset);
     push_candidates(pieces, &range, found.as_slice())
 }

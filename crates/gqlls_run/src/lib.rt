@@ -15,6 +15,7 @@ mod questions;
 mod running;
 mod searching;
 mod server;
+mod signature;
 
 pub use apollo_parser::Limits;
 pub use running::run;

@@ -4,20 +4,22 @@ ghost use Rattle.json.specs.Tree.{HasNumbers};
 ghost use Rattle.json.specs.Value.{value_view};
 ghost use Rattle.rpc_messages.specs.Messages.{IsAnswer};
 
-use crate::completing::push_completions;
+use crate::completing::{call_around, push_completions};
 use crate::documents::Document;
 use crate::formatting::answer_layout;
 use crate::layout::format_part;
 use crate::parameters::{asks_for_definition, new_name_of, offset_of, offsets_of, span_of};
-use apollo_parser::{Limits, SyntaxKind, SyntaxNode, SyntaxToken, TokenAtOffset};
+use crate::signature::answer_signature;
+use apollo_parser::{Limits, Parser, SyntaxNode};
 use editor_answers::{
     Elsewhere, Span, answer_hover, answer_symbols, answer_tokens, definition, definition_elsewhere,
-    push_folds, push_highlights, push_location, push_references, push_rename, push_selections,
+    identifier_at, push_folds, push_highlights, push_location, push_references, push_rename,
+    push_selections,
 };
 use editor_diagnostics::Positions;
 use json::Value;
 use rpc_messages::{Piece, answer, code, refusal};
-use schema_members::{Schema, member_at};
+use schema_members::{STANDARD, Schema, member_at};
 use std::alloc::{AllocError, Global};
 use std::collections::BTreeMap;
 
@@ -35,9 +37,10 @@ pub(crate) enum Question {
     Rename,
     Hover,
     Completion,
+    Signature,
 }
 
-const QUESTIONS: [(&str, Question); 12] = [
+const QUESTIONS: [(&str, Question); 13] = [
     ("textDocument/documentSymbol", Question::Symbols),
     ("textDocument/foldingRange", Question::Folds),
     ("textDocument/selectionRange", Question::Selections),
@@ -50,6 +53,7 @@ const QUESTIONS: [(&str, Question); 12] = [
     ("textDocument/rename", Question::Rename),
     ("textDocument/hover", Question::Hover),
     ("textDocument/completion", Question::Completion),
+    ("textDocument/signatureHelp", Question::Signature),
 ];
 
 // For how many positions a client gets the parts of the text around them: each answer is as long as the tree is deep there.
@@ -65,10 +69,11 @@ pub(crate) fn question_of(method: &str) -> Option<Question> {
     None
 }
 
-// What a question is about: a document, and parameters; and the limits of each parse for its answer.
+// What a question is about: a document, and parameters; and the limits of each parse for its answer, and the tree of `STANDARD`.
 #[derive(Clone, Copy)]
 struct Asked<'a, 'd, 'v> {
     alloc: Global,
+    standard: SyntaxNode<'a>,
     root: SyntaxNode<'a>,
     positions: &'a Positions<'d>,
     uri: &'a str,
@@ -77,70 +82,55 @@ struct Asked<'a, 'd, 'v> {
     limits: Limits,
 }
 
-// Another open document that defines a name, the document's name, and where it defines it.
+// What defines a name, and where: an open document, with its name, or the standard.
 #[derive(Clone, Copy)]
 struct Definer<'a> {
-    uri: &'a str,
-    document: &'a Document,
+    document: Option<(&'a str, &'a Document)>,
     span: Span,
 }
 
-// The name at a byte offset, or that ends there.
-fn name_at<'a>(root: SyntaxNode<'a>, offset: usize) -> Option<SyntaxToken<'a>> {
-    let leaf = match root.token_at_offset(offset) {
-        TokenAtOffset::None => return None,
-        TokenAtOffset::Single(leaf) => leaf,
-        TokenAtOffset::Between(left, right) => {
-            if left.kind().is(SyntaxKind::IDENT) {
-                left
-            } else {
-                right
-            }
-        }
-    };
-    Some(leaf)
-}
-
 impl<'a> Asked<'a, '_, '_> {
-    // The first open document that defines the name at a byte offset, which this one doesn't define.
+    // The first open document that defines the name at a byte offset, which this one doesn't define, or the standard.
     fn definer(self, offset: usize) -> Option<Definer<'a>> {
         for (uri, document) in self.documents {
             if let Some(span) = definition_elsewhere(self.root, offset, document.root()) {
                 return Some(Definer {
-                    uri: uri.as_str(),
-                    document,
+                    document: Some((uri.as_str(), document)),
                     span,
                 });
             }
         }
-        None
+        Some(Definer {
+            document: None,
+            span: definition_elsewhere(self.root, offset, self.standard)?,
+        })
     }
 
-    // The open document that defines the field, the argument or the value at a byte offset, by the types of all.
+    // What defines the field, the argument or the value at a byte offset, by the types of all open documents and of the standard.
     fn definer_of_member(self, offset: usize) -> Result<Option<Definer<'a>>, AllocError> {
         let roots = self.roots()?;
         let schema = Schema {
             roots: roots.as_slice(),
         };
-        let Some(leaf) = name_at(self.root, offset) else {
+        let Some(leaf) = identifier_at(self.root, offset) else {
             return Ok(None);
         };
         let Some(member) = member_at(self.alloc, schema, leaf)? else {
             return Ok(None);
         };
-        let Some((uri, document)) = self.documents.iter().nth(member.document) else {
-            return Ok(None);
-        };
         let start = member.offset();
         let end = start.saturating_add(member.name().len());
+        let document = match self.documents.iter().nth(member.document) {
+            Some((uri, document)) => Some((uri.as_str(), document)),
+            None => None,
+        };
         Ok(Some(Definer {
-            uri: uri.as_str(),
             document,
             span: Span { start, end },
         }))
     }
 
-    // The document that defines the name at a byte offset, which this one doesn't define by the name alone.
+    // What defines the name at a byte offset, which this document doesn't define by the name alone.
     fn any_definer(self, offset: usize) -> Result<Option<Definer<'a>>, AllocError> {
         match self.definer(offset) {
             Some(definer) => Ok(Some(definer)),
@@ -153,16 +143,16 @@ impl<'a> Asked<'a, '_, '_> {
         if let Some(span) = definition(self.root, offset) {
             return push_location(pieces, self.positions, self.uri, span);
         }
-        match self.any_definer(offset)? {
-            Some(definer) => {
-                let positions = definer.document.positions(self.alloc)?;
-                push_location(pieces, &positions, definer.uri, definer.span)
-            }
-            None => pieces.extend_from_slice(&[Piece::Null]),
+        if let Some(definer) = self.any_definer(offset)?
+            && let Some((uri, document)) = definer.document
+        {
+            let positions = document.positions(self.alloc)?;
+            return push_location(pieces, &positions, uri, definer.span);
         }
+        pieces.extend_from_slice(&[Piece::Null])
     }
 
-    // Where a document defines the name at a byte offset, if this one doesn't by the name alone.
+    // Where the name at a byte offset is defined, if this document doesn't define it by the name alone.
     fn elsewhere(self, offset: usize) -> Result<Option<Elsewhere<'a>>, AllocError> {
         if definition(self.root, offset).is_some() {
             return Ok(None);
@@ -170,19 +160,24 @@ impl<'a> Asked<'a, '_, '_> {
         let Some(definer) = self.any_definer(offset)? else {
             return Ok(None);
         };
+        let (source, root) = match definer.document {
+            Some((_, document)) => (document.content.text(), document.root()),
+            None => (STANDARD, self.standard),
+        };
         Ok(Some(Elsewhere {
-            source: definer.document.content.text(),
-            root: definer.document.root(),
+            source,
+            root,
             offset: definer.span.start,
         }))
     }
 
-    // The roots of the trees of all documents, in the order of their names.
+    // The roots of the trees of all documents, in the order of their names, and the standard's.
     fn roots(self) -> Result<Vec<SyntaxNode<'a>>, AllocError> {
         let mut roots = Vec::new(self.alloc);
         for document in self.documents.values() {
             roots.push(document.root())?;
         }
+        roots.push(self.standard)?;
         Ok(roots)
     }
 
@@ -242,8 +237,8 @@ impl<'a> Asked<'a, '_, '_> {
             return self.refused(id);
         };
         let text = self.positions.text;
-        let new = format_part(self.alloc, text, self.root, within, self.limits)?;
-        answer_layout(self.alloc, id, self.positions, &new)
+        let layout = format_part(self.alloc, text, self.root, within, self.limits)?;
+        answer_layout(self.alloc, id, self.positions, &layout)
     }
 
     fn definition(self, id: &Value<'_>) -> Result<Vec<u8>, AllocError>
@@ -345,6 +340,22 @@ impl<'a> Asked<'a, '_, '_> {
         answer(self.alloc, id, pieces.as_slice())
     }
 
+    fn signature(self, id: &Value<'_>) -> Result<Vec<u8>, AllocError>
+        requires { HasNumbers (value_view id.now) }
+        ensures { IfOk result (λ body. IsAnswer (value_view id.now) body.items) }
+    {
+        let Some(offset) = offset_of(self.positions, self.params) else {
+            return self.refused(id);
+        };
+        let roots = self.roots()?;
+        let text = self.positions.text;
+        let call = call_around(self.alloc, text, offset, roots.as_slice(), self.limits)?;
+        match call {
+            Some(call) => answer_signature(self.alloc, id, call),
+            None => answer(self.alloc, id, &[Piece::Null]),
+        }
+    }
+
     // The answer to a question, whichever it is.
     fn answered(self, id: &Value<'_>, question: Question) -> Result<Vec<u8>, AllocError>
         requires { HasNumbers (value_view id.now) }
@@ -362,6 +373,7 @@ impl<'a> Asked<'a, '_, '_> {
             Question::Rename => self.rename(id),
             Question::Hover => self.hover(id),
             Question::Completion => self.completion(id),
+            Question::Signature => self.signature(id),
         }
     }
 }
@@ -381,8 +393,10 @@ pub(crate) fn answer_question(
     ensures { IfOk result (λ body. IsAnswer (value_view id.now) body.items) }
 {
     let positions = document.positions(alloc)?;
+    let standard = Parser::new(STANDARD).parse(alloc)?;
     let asked = Asked {
         alloc,
+        standard: standard.root(),
         root: document.root(),
         positions: &positions,
         uri,

@@ -1,16 +1,18 @@
 // The definitions of some documents.
+use crate::standard::{EACH_TYPE, QUERY_ROOT};
 use apollo_cst_core::{CstNode, child};
 use apollo_cst_executable::{EnumValue, Name, NamedType};
 use apollo_tree::{SyntaxKind, SyntaxNode};
 use std::alloc::{AllocError, Global};
 
-/// The roots of the trees of some documents, in which types and directives are looked for. The first that defines a name counts.
+/// The roots of the trees of some documents, in which types and directives are looked for. The first that defines a name counts. Where one of them is the
+/// tree of `STANDARD`, the types, directives and meta-fields of the standard are found too.
 #[derive(Clone, Copy)]
 pub struct Schema<'s, 't> {
     pub roots: &'s [SyntaxNode<'t>],
 }
 
-/// A field, an argument, an input field or a value, where it is defined, and the index of the root that this is below.
+/// A field, an argument, an input field, a value or a directive, where it is defined, and the index of the root that this is below.
 #[derive(Clone, Copy)]
 pub struct Member<'t> {
     pub document: usize,
@@ -78,6 +80,13 @@ impl<'t> Member<'t> {
         }
     }
 
+    /// The arguments of a field or a directive, in their order. It fails only where memory is refused.
+    pub fn arguments(self, alloc: Global) -> Result<Vec<Member<'t>>, AllocError> {
+        let mut found = Vec::new(alloc);
+        push_members(self, &mut found)?;
+        Ok(found)
+    }
+
     /// The name of its type, whatever lists it is in; empty for a value.
     pub(crate) fn type_name(self) -> &'t str {
         type_in(self.node)
@@ -128,17 +137,16 @@ fn push_block<'t>(
 
 /// Adds the members of a definition: the fields or values of a type, the arguments of a field or of a directive.
 pub(crate) fn push_members<'t>(
-    document: usize,
-    definition: SyntaxNode<'t>,
+    definition: Member<'t>,
     found: &mut Vec<Member<'t>>,
 ) -> Result<(), AllocError> {
-    for block in definition.children() {
-        push_block(document, block, found)?;
+    for block in definition.node.children() {
+        push_block(definition.document, block, found)?;
     }
     Ok(())
 }
 
-// Adds the members of the definitions of some kinds that have a name, in one document.
+// Adds the definitions of some kinds that have a name, in one document.
 fn push_named<'t>(
     document: usize,
     root: SyntaxNode<'t>,
@@ -146,9 +154,9 @@ fn push_named<'t>(
     name: &str,
     found: &mut Vec<Member<'t>>,
 ) -> Result<(), AllocError> {
-    for definition in root.children() {
-        if is_one_of(definition.kind(), kinds) && name_in(definition) == name {
-            push_members(document, definition, found)?;
+    for node in root.children() {
+        if is_one_of(node.kind(), kinds) && name_in(node) == name {
+            found.push(Member { document, node })?;
         }
     }
     Ok(())
@@ -179,8 +187,8 @@ fn root_type_of<'t>(root: SyntaxNode<'t>, operation: &str) -> Option<&'t str> {
 }
 
 impl<'t> Schema<'_, 't> {
-    // The members of all definitions of some kinds that have a name.
-    fn members_named(
+    // All definitions of some kinds that have a name.
+    fn definitions(
         self,
         alloc: Global,
         kinds: &[SyntaxKind],
@@ -193,22 +201,52 @@ impl<'t> Schema<'_, 't> {
         Ok(found)
     }
 
+    // Adds the members of a type, and of its extensions, by its name.
+    fn push_members_of(
+        self,
+        alloc: Global,
+        name: &str,
+        found: &mut Vec<Member<'t>>,
+    ) -> Result<(), AllocError> {
+        for definition in &self.definitions(alloc, &TYPES, name)? {
+            push_members(*definition, found)?;
+        }
+        Ok(())
+    }
+
     /// The members of a type, and of its extensions, by its name.
     pub(crate) fn members_of_type(
         self,
         alloc: Global,
         name: &str,
     ) -> Result<Vec<Member<'t>>, AllocError> {
-        self.members_named(alloc, &TYPES, name)
+        let mut found = Vec::new(alloc);
+        self.push_members_of(alloc, name, &mut found)?;
+        Ok(found)
     }
 
-    /// The arguments of a directive, by its name.
-    pub(crate) fn arguments_of_directive(
+    /// The fields that may be selected from a type, by its name: its own, and the meta-fields of the standard.
+    pub(crate) fn fields_of_type(
         self,
         alloc: Global,
         name: &str,
     ) -> Result<Vec<Member<'t>>, AllocError> {
-        self.members_named(alloc, &DIRECTIVES, name)
+        let mut found = self.members_of_type(alloc, name)?;
+        self.push_members_of(alloc, EACH_TYPE, &mut found)?;
+        if name == self.root_type("query") {
+            self.push_members_of(alloc, QUERY_ROOT, &mut found)?;
+        }
+        Ok(found)
+    }
+
+    /// The first definition of a directive, by its name.
+    pub(crate) fn directive(
+        self,
+        alloc: Global,
+        name: &str,
+    ) -> Result<Option<Member<'t>>, AllocError> {
+        let found = self.definitions(alloc, &DIRECTIVES, name)?;
+        Ok(found.as_slice().first().copied())
     }
 
     /// The name of the type in which an operation begins: `query`, `mutation` or `subscription` (GraphQL, October 2021, section 3.3.1).

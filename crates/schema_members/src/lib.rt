@@ -3,11 +3,13 @@
 //! These names have no definition by their text alone: `name` may be a field of many types. So the types of the places around a name are found first, from
 //! the operation, the fragment or the argument that it is in. Where the documents lack a type, there is no answer.
 //!
-//! `gqlls_run` calls `members_at` for completions, and `member_at` for a definition.
+//! `gqlls_run` calls `members_at` for completions, `member_at` for a definition and `call_at` for a signature.
 #![tactic(auto)]
 
 mod definitions;
 mod places;
+mod standard;
 
 pub use definitions::{Member, Schema};
-pub use places::{member_at, members_at};
+pub use places::{Call, call_at, member_at, members_at};
+pub use standard::STANDARD;

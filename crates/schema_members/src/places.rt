@@ -1,5 +1,5 @@
 // The types of the places in a document.
-use crate::definitions::{Member, Schema, name_in, push_members, type_in};
+use crate::definitions::{Member, Schema, name_in, type_in};
 use apollo_cst_core::{CstNode, child};
 use apollo_cst_executable::OperationType;
 use apollo_tree::{SyntaxKind, SyntaxNode, SyntaxToken};
@@ -18,6 +18,7 @@ fn named<'t>(members: &[Member<'t>], name: &str) -> Option<Member<'t>> {
 // The nodes of a kind that a node is or is in, the innermost first, up to a node of another list, and that node.
 #[derive(Drop)]
 struct Path<'t> {
+    step: SyntaxKind,
     nodes: Vec<SyntaxNode<'t>>,
     end: Option<SyntaxNode<'t>>,
 }
@@ -45,6 +46,7 @@ fn path_from<'t>(
     for node in from.ancestors() {
         if says_type(node) {
             return Ok(Path {
+                step,
                 nodes,
                 end: Some(node),
             });
@@ -53,7 +55,11 @@ fn path_from<'t>(
             nodes.push(node)?;
         }
     }
-    Ok(Path { nodes, end: None })
+    Ok(Path {
+        step,
+        nodes,
+        end: None,
+    })
 }
 
 // What a search needs: memory, and the documents with the types.
@@ -64,18 +70,23 @@ struct Search<'s, 't> {
 }
 
 impl<'t> Search<'_, 't> {
-    // The members of the type that is reached from another by its members of some names, the last of them first.
-    fn members_below(
-        self,
-        start: &str,
-        nodes: &[SyntaxNode<'_>],
-    ) -> Result<Vec<Member<'t>>, AllocError> {
-        let mut members = self.schema.members_of_type(self.alloc, start)?;
-        for node in nodes.iter().rev() {
+    // The members of a type, as a path goes on: in a selection set the fields that each type has too.
+    fn members_of(self, name: &str, step: SyntaxKind) -> Result<Vec<Member<'t>>, AllocError> {
+        if step.is(SyntaxKind::FIELD) {
+            self.schema.fields_of_type(self.alloc, name)
+        } else {
+            self.schema.members_of_type(self.alloc, name)
+        }
+    }
+
+    // The members of the type that is reached from another by the names on a path, the last of them first.
+    fn members_below(self, start: &str, path: &Path<'_>) -> Result<Vec<Member<'t>>, AllocError> {
+        let mut members = self.members_of(start, path.step)?;
+        for node in path.nodes.iter().rev() {
             let Some(member) = named(members.as_slice(), name_in(*node)) else {
                 return Ok(Vec::new(self.alloc));
             };
-            members = self.schema.members_of_type(self.alloc, member.type_name())?;
+            members = self.members_of(member.type_name(), path.step)?;
         }
         Ok(members)
     }
@@ -88,31 +99,36 @@ impl<'t> Search<'_, 't> {
         };
         if end.kind().is(SyntaxKind::OPERATION_DEFINITION) {
             let root = self.schema.root_type(operation_word(end));
-            return self.members_below(root, path.nodes.as_slice());
+            return self.members_below(root, &path);
         }
-        self.members_below(type_in(end), path.nodes.as_slice())
+        self.members_below(type_in(end), &path)
     }
 
-    // The arguments of a field.
-    fn arguments_of_field(self, field: SyntaxNode<'_>) -> Result<Vec<Member<'t>>, AllocError> {
-        let mut found = Vec::new(self.alloc);
+    // The definition of a field of a selection set.
+    fn field(self, field: SyntaxNode<'_>) -> Result<Option<Member<'t>>, AllocError> {
         let Some(set) = field.parent() else {
-            return Ok(found);
+            return Ok(None);
         };
         let fields = self.selected(set)?;
-        if let Some(member) = named(fields.as_slice(), name_in(field)) {
-            push_members(member.document, member.node, &mut found)?;
-        }
-        Ok(found)
+        Ok(named(fields.as_slice(), name_in(field)))
     }
 
-    // The arguments that may be where an argument is: of its field or of its directive.
+    // The definition of the field or the directive that some arguments are for.
+    fn owner(self, arguments: SyntaxNode<'_>) -> Result<Option<Member<'t>>, AllocError> {
+        match arguments.parent() {
+            Some(owner) if owner.kind().is(SyntaxKind::FIELD) => self.field(owner),
+            Some(owner) => self.schema.directive(self.alloc, name_in(owner)),
+            None => Ok(None),
+        }
+    }
+
+    // The arguments that may be where an argument is.
     fn arguments(self, argument: SyntaxNode<'_>) -> Result<Vec<Member<'t>>, AllocError> {
-        match owner_of(argument) {
-            Some(owner) if owner.kind().is(SyntaxKind::FIELD) => self.arguments_of_field(owner),
-            Some(owner) => self
-                .schema
-                .arguments_of_directive(self.alloc, name_in(owner)),
+        let Some(list) = argument.parent() else {
+            return Ok(Vec::new(self.alloc));
+        };
+        match self.owner(list)? {
+            Some(owner) => owner.arguments(self.alloc),
             None => Ok(Vec::new(self.alloc)),
         }
     }
@@ -124,11 +140,11 @@ impl<'t> Search<'_, 't> {
             return Ok(Vec::new(self.alloc));
         };
         if !end.kind().is(SyntaxKind::ARGUMENT) {
-            return self.members_below(type_in(end), path.nodes.as_slice());
+            return self.members_below(type_in(end), &path);
         }
         let arguments = self.arguments(end)?;
         match named(arguments.as_slice(), name_in(end)) {
-            Some(argument) => self.members_below(argument.type_name(), path.nodes.as_slice()),
+            Some(argument) => self.members_below(argument.type_name(), &path),
             None => Ok(Vec::new(self.alloc)),
         }
     }
@@ -161,11 +177,6 @@ fn operation_word<'p>(operation: SyntaxNode<'p>) -> &'p str {
     }
 }
 
-// The field or the directive that an argument is for.
-fn owner_of<'p>(argument: SyntaxNode<'p>) -> Option<SyntaxNode<'p>> {
-    argument.parent()?.parent()
-}
-
 /// The members that may be at the place of a name, a leaf of any tree: the fields of the type that it selects from, the arguments of its field or its
 /// directive, the fields of its input object, or the values of its enum. They are in the order of the documents. There are none at another place, or where
 /// the documents lack a type. It fails only where memory is refused.
@@ -191,4 +202,70 @@ pub fn member_at<'t>(
 ) -> Result<Option<Member<'t>>, AllocError> {
     let members = members_at(alloc, schema, leaf)?;
     Ok(named(members.as_slice(), leaf.text()))
+}
+
+/// A field or a directive whose arguments a place is in.
+#[derive(Clone, Copy)]
+pub struct Call<'t> {
+    /// Its definition.
+    pub definition: Member<'t>,
+    /// The index of the argument at the place: the one whose value is there, or else the first that isn't given yet; or how many there are.
+    pub active: usize,
+}
+
+// The node of a kind that a leaf is in.
+fn around<'p>(leaf: SyntaxToken<'p>, kind: SyntaxKind) -> Option<SyntaxNode<'p>> {
+    for node in leaf.parent()?.ancestors() {
+        if node.kind().is(kind) {
+            return Some(node);
+        }
+    }
+    None
+}
+
+// Whether one of some arguments has a name.
+fn gives(arguments: SyntaxNode<'_>, name: &str) -> bool {
+    for argument in arguments.children() {
+        if name_in(argument) == name {
+            return true;
+        }
+    }
+    false
+}
+
+// The index of the parameter that a leaf in some arguments is about.
+fn active_in(parameters: &[Member<'_>], arguments: SyntaxNode<'_>, leaf: SyntaxToken<'_>) -> usize {
+    let value_of = match around(leaf, SyntaxKind::ARGUMENT) {
+        Some(argument) if argument.text_range().start() < leaf.text_range().start() => {
+            name_in(argument)
+        }
+        _ => "",
+    };
+    for (index, parameter) in parameters.iter().enumerate() {
+        let name = parameter.name();
+        if name == value_of || (value_of.is_empty() && !gives(arguments, name)) {
+            return index;
+        }
+    }
+    parameters.len()
+}
+
+/// The field or the directive whose arguments a leaf of any tree is in. `None` at another place, or where the documents lack a definition. It fails only
+/// where memory is refused.
+pub fn call_at<'t>(
+    alloc: Global,
+    schema: Schema<'_, 't>,
+    leaf: SyntaxToken<'_>,
+) -> Result<Option<Call<'t>>, AllocError> {
+    let Some(arguments) = around(leaf, SyntaxKind::ARGUMENTS) else {
+        return Ok(None);
+    };
+    let Some(definition) = Search { alloc, schema }.owner(arguments)? else {
+        return Ok(None);
+    };
+    let parameters = definition.arguments(alloc)?;
+    Ok(Some(Call {
+        definition,
+        active: active_in(parameters.as_slice(), arguments, leaf),
+    }))
 }

@@ -5,7 +5,6 @@ ghost use Rattle.json.specs.Value.{value_view};
 ghost use Rattle.rpc_messages.specs.Messages.{IsAnswer};
 
 use crate::answers::ranges::push_range;
-use crate::built_in::built_in_at;
 use crate::hovering::{description_of, heading_of, hover_at};
 use crate::labels::identifier_at;
 use crate::span::{Span, span_of};
@@ -161,20 +160,7 @@ fn said_elsewhere(
     }
 }
 
-// What the standard says of the name at a byte offset, and where the name is.
-fn said_by_standard(
-    alloc: Global,
-    root: SyntaxNode<'_>,
-    offset: usize,
-) -> Result<Option<(Span, String)>, AllocError> {
-    let Some((span, built_in)) = built_in_at(root, offset) else {
-        return Ok(None);
-    };
-    let text = markdown(alloc, built_in.heading, built_in.description)?;
-    Ok(Some((span, text)))
-}
-
-// What is said of the name at a byte offset, and where the name is: by the document, by another, or by the standard.
+// What is said of the name at a byte offset, and where the name is: by the document, or by another.
 fn said(
     alloc: Global,
     source: &str,
@@ -187,7 +173,7 @@ fn said(
     }
     match elsewhere {
         Some(elsewhere) => said_elsewhere(alloc, root, offset, elsewhere),
-        None => said_by_standard(alloc, root, offset),
+        None => Ok(None),
     }
 }
 
@@ -213,8 +199,7 @@ fn push_markdown<'p>(
     pieces.extend_from_slice(&[Piece::EndObject])
 }
 
-/// The answer to hover: what the document says of the name at a byte offset, or else another one that defines it, or else the standard; or null. It fails
-/// only where memory is refused.
+/// The answer to hover: what the document says of the name at a byte offset, or else another one that defines it; or null. It fails only where memory is refused.
 pub fn answer_hover(
     alloc: Global,
     id: &Value<'_>,
