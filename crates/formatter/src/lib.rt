@@ -2,7 +2,7 @@
 //!
 //! `format` parses the text and writes it anew. It keeps significant tokens and comments, in their order; only block strings may be spelled
 //! anew, with the same value. `format_within` has a bound on the formatted text, and `format_comments` is for texts without definitions. `gqlls_run` and
-//! `dumyroke_flat` call `format`. `gqlfmt_run` has the others through the trait `DocumentFormatter`, so that it is proved without the code of the parser.
+//! `dumyroke_flat` call `format_within`. `gqlfmt_run` has both through the trait `DocumentFormatter`, so that it is proved without the code of the parser.
 #![tactic(auto)]
 
 ghost use Rattle.std.specs.Prelude.{◌≡◌, ◌<◌, ◌≤◌, ℕ, true, false, List, None, length, IfErr, IfOk, IfSome, OnOk, string_bytes};
