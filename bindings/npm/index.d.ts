@@ -19,14 +19,14 @@ export const STATUS: {
   readonly NO_MEMORY: number;
   readonly NOT_A_STRING: number;
   readonly NOT_A_DOCUMENT: number;
+  /** The formatted text has too many bytes. */
+  readonly NO_ROOM: number;
   /** Two fragments have one name. */
   readonly SAME_NAME: number;
   /** An operation leads to a cycle of fragments. */
   readonly CYCLE: number;
   /** An operation leads to a spread of no fragment. */
   readonly UNDEFINED: number;
-  /** The formatted text has too many bytes. */
-  readonly NO_ROOM: number;
 };
 
 export interface Limits {
