@@ -1,4 +1,4 @@
-use Rattle.std.proofs.Common.{◌∙◌, List, ℕ, ap, length, sym, string_bytes, None, arith}
+use Rattle.std.proofs.Common.{◌∙◌, List, ℕ, ap, length, sym, None, arith}
 use Rattle.document_grammar.specs.Forests.{count, text}
 use Rattle.apollo_tree.specs.declared.record.Record.{Record}
 use Rattle.apollo_tree.specs.Compact.{compact_elements}
