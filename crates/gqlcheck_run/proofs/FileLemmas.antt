@@ -10,7 +10,7 @@ use Rattle.named_files.specs.Finding.{Place}
 use Rattle.program_words.specs.Gqlfmt.{texts}
 use Rattle.gqlcheck_run.specs.declared.ending.FileFault.{FileFault}
 use Rattle.gqlcheck_run.specs.Ending.{status_of}
-use Rattle.gqlcheck_run.specs.Program.{ChecksFiles, ChecksPath, ChecksPaths, ChecksTexts, Desk, HandlesPlace, IsQuiet, SaysOnlyFaults, State, desk}
+use Rattle.gqlcheck_run.specs.Program.{ChecksFiles, ChecksPath, ChecksPaths, Desk, HandlesPlace, IsQuiet, SaysOnlyFaults}
 
 ord_max-nat : (a b : ℕ) → ord_max nat_cmp a b ≡ max a b
 ord_max-nat a b = grind (arith, nat_tests)
@@ -73,10 +73,3 @@ module _ {S : Type 0} (lists : S → List ℕ → Listing → S → Type 0) (rea
       subst (λ (n : ℕ). ChecksPaths lists reads asked figures (texts (take (i + 1) items)) n old new) (sym top)
       (subst (λ (paths : List (List ℕ)). ChecksPaths lists reads asked figures paths (max status one) old new) (sym more)
       (paths_more (texts (take i items)) status (get_or items i d).now one old middle new h last))
-
-  -- a run over some paths
-  pub checks_paths : (paths : List (Bor (List ℕ))) (status : ℕ) (old new : State S) → 0 < length paths
-      → ChecksPaths lists reads asked figures (texts paths) status (desk old) (desk new) → new.input ≡ old.input
-      → ChecksTexts lists reads asked figures (texts paths) status old new
-  checks_paths [] status old new some all input = absurd (omega (arith, some))
-  checks_paths (p ∷ paths) status old new some all input = (all, input)
