@@ -14,13 +14,13 @@ use Rattle.format_strings.specs.Respelled.{SameWord, AreSameWords, Respelled}
 use Rattle.format_layout.proofs.Derivations.{alike-derivation}
 use Rattle.format_layout.proofs.Relabeled.{SameToken, AreSame, relabel}
 
-both-same : (xs ys more others : List Word) → AreSameWords xs ys → AreSameWords more others → AreSameWords (xs ++ more) (ys ++ others)
+pub both-same : (xs ys more others : List Word) → AreSameWords xs ys → AreSameWords more others → AreSameWords (xs ++ more) (ys ++ others)
 both-same [] [] more others a b = b
 both-same [] (y ∷ ys) more others a b = absurd a
 both-same (x ∷ xs) [] more others a b = absurd a
 both-same (x ∷ xs) (y ∷ ys) more others a b = (a.0, both-same xs ys more others a.1 b)
 
-same-refl : (xs : List Word) → AreSameWords xs xs
+pub same-refl : (xs : List Word) → AreSameWords xs xs
 same-refl [] = tt
 same-refl (x ∷ xs) = (inl refl, same-refl xs)
 

@@ -125,11 +125,11 @@ ignored-of (item ∷ items) h e =
     let empty = both-empty (significant_word item.kind item.text) (Significant items) e in
     and_from _ _ (ignored item.kind item.text q.0 empty.0) (ignored-of items q.1 empty.1)
 
-abbrev is_comment : TokenKind → Bool
+abbrev pub is_comment : TokenKind → Bool
 is_comment Comment = true
 is_comment _ = false
 
-abbrev are_comments : List Word → Bool
+abbrev pub are_comments : List Word → Bool
 are_comments words = list_all (λ word. is_comment word.kind) words
 
 kept-comment : (kind : TokenKind) (text : List ℕ) → not (is_significant_kind kind) ≡ true
@@ -144,7 +144,7 @@ comments-item : (kind : Option TokenKind) (text : List ℕ) → is_ignored_kind 
 comments-item None text h = refl
 comments-item (Some kind) text h = kept-comment kind text h
 
-comments-kept : (items : List Item) → are_ignored items ≡ true → are_comments (Kept items) ≡ true
+pub comments-kept : (items : List Item) → are_ignored items ≡ true → are_comments (Kept items) ≡ true
 comments-kept [] h = refl
 comments-kept (item ∷ items) h =
     let q = and_parts _ _ h in
@@ -156,7 +156,7 @@ same-word a b h (inl e) = sym e
 same-word a b h (inr s) = let no : false ≡ true = sym (ap is_comment s.0) ∙ h in absurd (cc)
 
 -- comments are spelled as they are
-same-words : (words others : List Word) → are_comments words ≡ true → AreSameWords words others → others ≡ words
+pub same-words : (words others : List Word) → are_comments words ≡ true → AreSameWords words others → others ≡ words
 same-words [] [] h s = refl
 same-words [] (b ∷ bs) h s = absurd s
 same-words (a ∷ more) [] h s = absurd s
