@@ -1,0 +1,7 @@
+pub mod Ends
+pub mod Unbroken
+pub mod Blanks
+pub mod Blocks
+pub mod Turning
+pub mod Items
+pub mod Documents
