@@ -11,6 +11,7 @@ as_settings set = record {
   mode = set.mode;
   limits = set.limits;
   most_output = set.most_output;
+  line_endings = set.line_endings;
   name = option_map (λ (name : Bor (List ℕ)). name.now) set.name;
   input = set.input;
 }
@@ -20,6 +21,7 @@ as_plan plan = record {
   mode = plan.mode;
   limits = plan.limits;
   most_output = plan.most_output;
+  line_endings = plan.line_endings;
   name = plan.name.now;
   files = texts plan.files.items;
 }

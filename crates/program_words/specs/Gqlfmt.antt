@@ -11,6 +11,8 @@ use Rattle.program_words.specs.declared.information.Information.{Information}
 use Rattle.program_words.specs.Information.{information_of}
 use Rattle.program_words.specs.declared.gqlfmt.Request.{Request}
 use Rattle.program_words.specs.declared.gqlfmt.Request.TheVariants.{Print, Process}
+use Rattle.program_words.specs.declared.gqlfmt.LineEndings.{LineEndings}
+use Rattle.program_words.specs.declared.gqlfmt.LineEndings.TheVariants.{Lf, Crlf, Keep}
 use Rattle.program_words.specs.declared.limits.SetLimits.{SetLimits}
 use Rattle.program_words.specs.declared.misuse.WordsError.{WordsError}
 use Rattle.program_words.specs.declared.misuse.WordsError.TheVariants.{Usage, Memory}
@@ -33,12 +35,20 @@ pub record Settings : Type 0 where
   pub mode : Option Mode
   pub limits : SetLimits
   pub most_output : Option ℕ
+  pub line_endings : Option LineEndings
   pub name : Option (List ℕ)
   pub input : Bool
 
 -- before the first option
 abbrev pub no_settings : Settings
-no_settings = record { mode = None; limits = record { recursion = None; tokens = None }; most_output = None; name = None; input = false }
+no_settings = record {
+  mode = None;
+  limits = record { recursion = None; tokens = None };
+  most_output = None;
+  line_endings = None;
+  name = None;
+  input = false;
+}
 
 -- the options that need no other word, of which one is taken
 abbrev pub mode_of : List ℕ → Option Mode
@@ -59,21 +69,33 @@ with_input set = if set.input then None else Some (record set { input = true })
 abbrev pub with_most_output : Settings → ℕ → Option Settings
 with_most_output set n = if is_some set.most_output then None else Some (record set { most_output = Some n })
 
+abbrev pub line_endings_of : List ℕ → Option LineEndings
+line_endings_of word =
+    if bytes_eq word (codes "lf") then Some Lf
+    else (if bytes_eq word (codes "crlf") then Some Crlf
+    else (if bytes_eq word (codes "keep") then Some Keep
+    else None))
+
+abbrev pub with_line_endings : Settings → LineEndings → Option Settings
+with_line_endings set endings = if is_some set.line_endings then None else Some (record set { line_endings = Some endings })
+
 abbrev pub with_name : List ℕ → Settings → Option Settings
 with_name name set = if is_some set.name then None else Some (record set { name = Some name })
 
 abbrev pub with_value : List ℕ → List ℕ → Settings → Option Settings
 with_value name value set =
     if bytes_eq name (codes "--max-output") then option_and_then (with_most_output set) (number_of value)
+    else (if bytes_eq name (codes "--line-endings") then option_and_then (with_line_endings set) (line_endings_of value)
     else (if bytes_eq name (codes "--stdin-filepath") then with_name value set
-    else option_map (λ limits. record set { limits = limits }) (with_limit name value set.limits))
+    else option_map (λ limits. record set { limits = limits }) (with_limit name value set.limits)))
 
 -- A run over files, or over standard input where there are none: what is done with a text that formatting changes, the parser's limits, the greatest
--- number of bytes of a formatted text if one is given, and what standard input is called.
+-- number of bytes of a formatted text if one is given, how its lines end, and what standard input is called.
 pub record Run : Type 0 where
   pub mode : Mode
   pub limits : Limits
   pub most_output : Option ℕ
+  pub line_endings : LineEndings
   pub name : List ℕ
   pub files : List (List ℕ)
 
@@ -85,6 +107,7 @@ run_set set files = record {
   mode = unwrap_or set.mode Write;
   limits = limits_set set.limits;
   most_output = set.most_output;
+  line_endings = unwrap_or set.line_endings Lf;
   name = unwrap_or set.name input_name;
   files = files;
 }

@@ -1,8 +1,8 @@
 // The words of `gqlfmt`.
 ghost use Rattle.std.specs.Prelude.{◌≡◌, ◌≤◌, [], length, IfOk, option_map};
 ghost use Rattle.program_words.specs.FormatReading.{as_plan, as_settings};
-ghost use Rattle.program_words.specs.Gqlfmt.{IsRead, is_input, is_option, mode_of, no_settings, request_map, request_of, run_from, run_unless, texts};
-ghost use Rattle.program_words.specs.Gqlfmt.{with_input, with_mode, with_most_output, with_name, with_value};
+ghost use Rattle.program_words.specs.Gqlfmt.{IsRead, is_input, is_option, line_endings_of, mode_of, no_settings, request_map, request_of, run_from, run_unless};
+ghost use Rattle.program_words.specs.Gqlfmt.{texts, with_input, with_line_endings, with_mode, with_most_output, with_name, with_value};
 ghost use Rattle.program_words.specs.Reading.{IsTakenFrom};
 
 use crate::information::{Information, information_of};
@@ -16,6 +16,17 @@ use std::alloc::Allocator;
 /// The name of standard input in messages, where no other is given.
 pub const INPUT: &str = "<stdin>";
 
+/// How the lines of a formatted text end.
+#[derive(Clone, Copy)]
+pub enum LineEndings {
+    /// With LF.
+    Lf,
+    /// With CR LF.
+    Crlf,
+    /// With CR LF where the first line of the source ends so, or else with LF.
+    Keep,
+}
+
 /// A run over files, or over standard input where there are none.
 #[derive(Drop)]
 pub struct Plan<'a, A: Allocator> {
@@ -24,6 +35,7 @@ pub struct Plan<'a, A: Allocator> {
     pub limits: Limits,
     /// How many bytes a formatted text may have, if a number is given.
     pub most_output: Option<usize>,
+    pub line_endings: LineEndings,
     /// What standard input is called in messages.
     pub name: &'a str,
     pub files: Vec<&'a str, A>,
@@ -42,6 +54,7 @@ struct Settings<'a> {
     mode: Option<Mode>,
     limits: SetLimits,
     most_output: Option<usize>,
+    line_endings: Option<LineEndings>,
     name: Option<&'a str>,
     // whether standard input is named by a dash
     input: bool,
@@ -70,10 +83,25 @@ fn mode_of(word: &str) -> Option<Mode>
     }
 }
 
+fn line_endings_of(word: &str) -> Option<LineEndings>
+    ensures { result ≡ line_endings_of word.now }
+{
+    match word {
+        "lf" => Some(LineEndings::Lf),
+        "crlf" => Some(LineEndings::Crlf),
+        "keep" => Some(LineEndings::Keep),
+        _ => None,
+    }
+}
+
 // What is wrong with an option and its value that give no settings.
 fn mistake_of(name: &str, value: &str) -> Mistake {
     match name {
         "--stdin-filepath" => Mistake::Again,
+        "--line-endings" => match line_endings_of(value) {
+            Some(_) => Mistake::Again,
+            None => Mistake::NoLineEnding,
+        },
         "--recursion" | "--tokens" | "--max-output" => match number_of(value) {
             Some(_) => Mistake::Again,
             None => Mistake::NoNumber,
@@ -85,7 +113,9 @@ fn mistake_of(name: &str, value: &str) -> Mistake {
 // What is wrong with an option that no word follows.
 fn mistake_at_end(name: &str) -> Mistake {
     match name {
-        "--stdin-filepath" | "--recursion" | "--tokens" | "--max-output" => Mistake::NoValue,
+        "--stdin-filepath" | "--line-endings" | "--recursion" | "--tokens" | "--max-output" => {
+            Mistake::NoValue
+        }
         _ => Mistake::Unknown,
     }
 }
@@ -99,6 +129,7 @@ impl<'a> Settings<'a> {
             mode: None,
             limits: SetLimits::NONE,
             most_output: None,
+            line_endings: None,
             name: None,
             input: false,
         }
@@ -143,6 +174,19 @@ impl<'a> Settings<'a> {
         }
     }
 
+    // The settings with line endings, or nothing where they have some.
+    fn with_line_endings(self, line_endings: LineEndings) -> Option<Settings<'a>>
+        ensures { option_map as_settings result ≡ with_line_endings (as_settings self.entry) line_endings }
+    {
+        match self.line_endings {
+            Some(_) => None,
+            None => Some(Settings {
+                line_endings: Some(line_endings),
+                ..self
+            }),
+        }
+    }
+
     // The settings with the name of standard input, or nothing where they have one.
     fn with_name(self, name: &'a str) -> Option<Settings<'a>>
         ensures { option_map as_settings result ≡ with_name name.now (as_settings self.entry) }
@@ -163,6 +207,10 @@ impl<'a> Settings<'a> {
         if name == "--max-output" {
             let most = number_of(value)?;
             return self.with_most_output(most);
+        }
+        if name == "--line-endings" {
+            let line_endings = line_endings_of(value)?;
+            return self.with_line_endings(line_endings);
         }
         if name == "--stdin-filepath" {
             return self.with_name(value);
@@ -227,6 +275,7 @@ fn finished<'a, A: Allocator>(read: Read<'a, A>) -> Result<Plan<'a, A>, WordsErr
         mode: settings.mode.unwrap_or(Mode::Write),
         limits: settings.limits.limits(),
         most_output: settings.most_output,
+        line_endings: settings.line_endings.unwrap_or(LineEndings::Lf),
         name: settings.name.unwrap_or(INPUT),
         files: read.files,
     })

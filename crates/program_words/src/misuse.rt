@@ -14,6 +14,8 @@ pub enum Mistake {
     NoValue,
     /// The value is no number, or one that is too large.
     NoNumber,
+    /// The value is not one of the three line endings.
+    NoLineEnding,
     /// The option is given twice, or with another one that excludes it.
     Again,
     /// Standard input is given beside files.
@@ -34,6 +36,7 @@ impl Misuse<'_> {
             Mistake::Unknown => ("unknown option ", ""),
             Mistake::NoValue => ("", " has no value"),
             Mistake::NoNumber => ("", " takes a number"),
+            Mistake::NoLineEnding => ("", " takes lf, crlf or keep"),
             Mistake::Again => ("", " is given twice, or beside an option that excludes it"),
             Mistake::BesideFiles => ("", " is given beside files"),
         }
