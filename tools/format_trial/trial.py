@@ -7,7 +7,8 @@
                                              with comments, which have no known layout
 
 Of each text there is one without comments, with other white space and commas, for which layout.py has to give the same output, and one with comments at
-random places. The recorded texts are tried as they are, with other white space and line ends, and with comments besides. Everywhere the second formatting must change nothing, the tokens and comments and the values of block strings must be those of the input by graphql-core's
+random places. The recorded texts are tried as they are, with other white space and line ends, and with comments besides. Everywhere the second formatting must change nothing,
+`--line-endings crlf` must change the line ends alone, the tokens and comments and the values of block strings must be those of the input by graphql-core's
 lexer, and between two tokens there may be nothing, a space, a comma and a space, or one or two line feeds and an indent; after a comment `gqlfmt-ignore` anything
 may."""
 
@@ -27,11 +28,12 @@ from documents import Documents, commented, meaning, shaken, tokens_of
 from layout import laid_out
 
 GAP = re.compile(r"(,? |\n\n?(?:  )*)?")
+LINE_END = re.compile(r"\r\n|\n|\r")
 # How many files are formatted in one run.
 AT_ONCE = 200
 
 
-def formatted(program, texts):
+def formatted(program, texts, *options):
     """The texts formatted, each in a file of its own; None where one is refused."""
     found = []
     with tempfile.TemporaryDirectory() as folder:
@@ -40,7 +42,7 @@ def formatted(program, texts):
             names = [f"{number}.graphql" for number in range(len(some))]
             for name, text in zip(names, some):
                 (Path(folder) / name).write_bytes(text.encode())
-            told = subprocess.run([program, *names], cwd=folder, stderr=subprocess.PIPE).stderr.decode()
+            told = subprocess.run([program, *options, *names], cwd=folder, stderr=subprocess.PIPE).stderr.decode()
             refused = set(re.findall(r"^(?:gqlfmt: )?(\d+\.graphql):", told, re.MULTILINE))
             found += [None if name in refused else (Path(folder) / name).read_bytes().decode() for name in names]
     return found
@@ -55,7 +57,7 @@ def has_odd_gap(text):
     return text[last:] != "\n"
 
 
-def fault(text, output, again, wanted):
+def fault(text, output, again, crlf, wanted):
     """What is wrong with an output, or nothing."""
     if output is None:
         return "refused"
@@ -65,6 +67,8 @@ def fault(text, output, again, wanted):
         return "an odd gap"
     if again != output:
         return "formatted otherwise the second time"
+    if crlf != LINE_END.sub("\r\n", output):
+        return "other line ends"
     return "another layout" if wanted is not None and output != wanted else ""
 
 
@@ -73,8 +77,10 @@ def tried(program, name, texts, layouts):
     outputs = formatted(program, texts)
     found = {}
     faults = 0
-    for text, output, again, wanted in zip(texts, outputs, formatted(program, [it or "" for it in outputs]), layouts):
-        if wrong := fault(text, output, again, wanted):
+    seconds = formatted(program, [it or "" for it in outputs])
+    crlfs = formatted(program, texts, "--line-endings", "crlf")
+    for text, output, again, crlf, wanted in zip(texts, outputs, seconds, crlfs, layouts):
+        if wrong := fault(text, output, again, crlf, wanted):
             faults += 1
             found[wrong] = min(found.get(wrong, (text, output, again, wanted)), (text, output, again, wanted), key=lambda it: len(it[0]))
     print(f"{name}: {len(texts)} texts, {faults} failed")

@@ -4,6 +4,11 @@ use Rattle.formatter.specs.Formatted as format
 use Rattle.formatter.specs.Within.{IsFormattedWithin, IsOutgrown, HasCommentsAlone, AreCommentsWithin, AreCommentsOutgrown}
 use Rattle.apollo_parser.specs.Diagnostics.{Diagnostic}
 use Rattle.apollo_parser.specs.declared.Limits.{Limits}
+use Rattle.line_ends.specs.declared.LineEnd.{LineEnd}
+use Rattle.line_ends.specs.declared.LineEnd.TheVariants as end
+use Rattle.line_ends.specs.LineEnds.{HasLineEnd, first_line_end}
+use Rattle.program_words.specs.declared.gqlfmt.LineEndings.{LineEndings}
+use Rattle.program_words.specs.declared.gqlfmt.LineEndings.TheVariants.{Lf, Crlf, Keep}
 use Rattle.gqlfmt_run.specs.declared.job.Bounds.{Bounds}
 use Rattle.gqlfmt_run.specs.declared.formatting.Refusal.{Refusal}
 use Rattle.gqlfmt_run.specs.declared.formatting.Refusal.TheVariants.{Errors, Outgrown, TooLong}
@@ -17,10 +22,18 @@ abbrev pub most_of : Option ℕ → List ℕ → ℕ
 most_of (Some most) source = most
 most_of None source = max (min (16 * length source) (2 ^ 64 - 1)) 67108864
 
--- This is the formatted text of the source, a document or comments alone, within the limits, and no longer than is allowed.
+-- how the lines of its formatted text end
+abbrev pub line_end_of : LineEndings → List ℕ → LineEnd
+line_end_of Lf source = end.Lf
+line_end_of Crlf source = end.Crlf
+line_end_of Keep source = first_line_end source
+
+-- This is the formatted text of the source, a document or comments alone, within the limits, and no longer than is allowed. Its line
+-- ends are those that are wanted.
 pub record IsLaidOut (bounds : Bounds) (source text : List ℕ) : Type 0 where
   pub within : IsFormattedWithin bounds.limits source text ⊎ AreCommentsWithin bounds.limits source text
   pub short : length text ≤ most_of bounds.most_output source
+  pub ends : HasLineEnd (line_end_of bounds.line_endings source) text
 
 -- the source is no document within both limits, and no text of comments alone within them
 pub record HasErrors (limits : Limits) (source : List ℕ) : Type 0 where

@@ -49,7 +49,7 @@ IsPrinted text status old new = ((status ≡ 0) × (new ≡ moved old text)) ⊎
 
 -- what a run keeps to
 abbrev pub bounds_of : Run → Bounds
-bounds_of run = record { limits = run.limits; most_output = run.most_output }
+bounds_of run = record { limits = run.limits; most_output = run.most_output; line_endings = run.line_endings }
 
 -- Standard input is read, what comes of it is written, and why it was not formatted is said, under this name.
 pub record FormatsInput (mode : Mode) (bounds : Bounds) (name : List ℕ) (status : ℕ) (old new : Streams) : Type 0 where

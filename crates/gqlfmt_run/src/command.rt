@@ -25,6 +25,9 @@ symbolic links.
                  comments, before and after (no limit if not given)
   --max-output N how many bytes a formatted text may have (64 MiB if not given,
                  or 16 for each byte of its source)
+  --line-endings lf|crlf|keep
+                 how its lines end: with LF (if not given), with CR LF, or as
+                 the first line of its source does
   --stdin-filepath NAME
                  what messages call standard input
   --help         print this text

@@ -4,11 +4,13 @@ ghost use Rattle.lexical_grammar.specs.Reads.{items_of};
 ghost use Rattle.apollo_parser.specs.Diagnostics.{Diagnostic};
 ghost use Rattle.formatter.specs.Comments.{HasSameComments};
 ghost use Rattle.formatter.specs.Formatted as format;
-ghost use Rattle.gqlfmt_run.specs.Formatting.{IsRevised, most_of};
+ghost use Rattle.line_ends.specs.LineEnds.{HasLineEnd};
+ghost use Rattle.gqlfmt_run.specs.Formatting.{IsRevised, line_end_of, most_of};
 
 use crate::job::{Bounds, Job};
 use formatter::{DocumentFormatter, WriteError, stays_within};
 use gqlfmt_files::Revised;
+use line_ends::{keeps_document, with_line_end};
 use std::alloc::{AllocError, Allocator};
 
 /// Why a text is left as it is.
@@ -25,9 +27,11 @@ pub enum Refusal {
 // What a formatted text is to its source.
 fn compared<A: Allocator>(source: &str, text: String<A>, bounds: Bounds) -> Revised<A, Refusal>
     ensures document { format.IsFormatted source.now bounds.limits.recursion bounds.limits.tokens (string_bytes text)
-        → length (string_bytes text) ≤ most_of bounds.most_output source.now → IsRevised bounds source.now result }
+        → length (string_bytes text) ≤ most_of bounds.most_output source.now → HasLineEnd (line_end_of bounds.line_endings source.now) (string_bytes text)
+        → IsRevised bounds source.now result }
     ensures comments { HasSameComments source.now (string_bytes text) → length (items_of source.now) ≤ bounds.limits.tokens
-        → length (string_bytes text) ≤ most_of bounds.most_output source.now → IsRevised bounds source.now result }
+        → length (string_bytes text) ≤ most_of bounds.most_output source.now → HasLineEnd (line_end_of bounds.line_endings source.now) (string_bytes text)
+        → IsRevised bounds source.now result }
 {
     if text.as_str() == source {
         return Revised::Same;
@@ -40,6 +44,26 @@ fn compared<A: Allocator>(source: &str, text: String<A>, bounds: Bounds) -> Revi
 }
 
 impl<A: Allocator + Copy, L: DocumentFormatter> Job<'_, A, L> {
+    // What a formatted text is to its source, with the line ends that are wanted.
+    fn compared_with_ends(
+        &self,
+        source: &str,
+        text: String<A>,
+    ) -> Result<Revised<A, Refusal>, AllocError>
+        ensures document { IfOk result (λ revised. format.IsFormatted source.now self.now.bounds.limits.recursion self.now.bounds.limits.tokens (string_bytes text)
+            → length (string_bytes text) ≤ most_of self.now.bounds.most_output source.now → IsRevised self.now.bounds source.now revised) }
+        ensures comments { IfOk result (λ revised. HasSameComments source.now (string_bytes text) → length (items_of source.now) ≤ self.now.bounds.limits.tokens
+            → length (string_bytes text) ≤ most_of self.now.bounds.most_output source.now → IsRevised self.now.bounds source.now revised) }
+    {
+        let end = self.bounds.line_end_of(source);
+        let ended = with_line_end(self.alloc, text, end)?;
+        if ended.len() > self.bounds.most_of(source) {
+            return Ok(Revised::Refused(Refusal::TooLong));
+        }
+        keeps_document();
+        Ok(compared(source, ended, self.bounds))
+    }
+
     // Formats a text that is no document: one of comments alone, or else it has errors.
     fn revise_comments(&self, source: &str) -> Result<Revised<A, Refusal>, AllocError>
         ensures { IfOk result (λ revised. (errors : List Diagnostic)
@@ -50,7 +74,7 @@ impl<A: Allocator + Copy, L: DocumentFormatter> Job<'_, A, L> {
         }
         let most = self.bounds.most_of(source);
         match self.formatter.format_comments(self.alloc, source, most) {
-            Ok(Some(text)) => Ok(compared(source, text, self.bounds)),
+            Ok(Some(text)) => self.compared_with_ends(source, text),
             Ok(None) => Ok(Revised::Refused(Refusal::Errors)),
             Err(WriteError::TooLong) => Ok(Revised::Refused(Refusal::TooLong)),
             Err(WriteError::Memory) => Err(AllocError),
@@ -66,7 +90,7 @@ impl<A: Allocator + Copy, L: DocumentFormatter> Job<'_, A, L> {
             .formatter
             .format_within(self.alloc, source, self.bounds.limits, most)
         {
-            Ok(Ok(text)) => Ok(compared(source, text, self.bounds)),
+            Ok(Ok(text)) => self.compared_with_ends(source, text),
             Ok(Err(_)) => self.revise_comments(source),
             Err(WriteError::TooLong) => Ok(Revised::Refused(Refusal::TooLong)),
             Err(WriteError::Memory) => Err(AllocError),

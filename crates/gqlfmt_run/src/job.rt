@@ -1,9 +1,11 @@
 // What a run does with each text.
 ghost use Rattle.std.specs.Prelude.{◌≡◌};
-ghost use Rattle.gqlfmt_run.specs.Formatting.{most_of};
+ghost use Rattle.gqlfmt_run.specs.Formatting.{line_end_of, most_of};
 
 use apollo_parser::Limits;
 use gqlfmt_files::Mode;
+use line_ends::{LineEnd, first_line_end};
+use program_words::gqlfmt::LineEndings;
 use std::alloc::Allocator;
 
 // How many bytes a formatted text may have where no number is said, in all or for each byte of its source, whichever is more.
@@ -11,11 +13,12 @@ const MOST_OUTPUT: usize = 64 * 1024 * 1024;
 
 const MOST_RATIO: usize = 16;
 
-/// What texts and formatted texts keep to: the parser's limits, and how many bytes a formatted text may have, if a number is said.
+/// What texts and formatted texts keep to: the parser's limits, how many bytes a formatted text may have, if a number is said, and how its lines end.
 #[derive(Clone, Copy)]
 pub struct Bounds {
     pub limits: Limits,
     pub most_output: Option<usize>,
+    pub line_endings: LineEndings,
 }
 
 impl Bounds {
@@ -26,6 +29,17 @@ impl Bounds {
         match self.most_output {
             Some(most) => most,
             None => source.len().saturating_mul(MOST_RATIO).max(MOST_OUTPUT),
+        }
+    }
+
+    /// How the lines of the formatted text of a source end.
+    pub fn line_end_of(self, source: &str) -> LineEnd
+        ensures { result ≡ line_end_of self.line_endings source.now }
+    {
+        match self.line_endings {
+            LineEndings::Lf => LineEnd::Lf,
+            LineEndings::Crlf => LineEnd::Crlf,
+            LineEndings::Keep => first_line_end(source),
         }
     }
 }

@@ -115,6 +115,7 @@ pub fn run<
                 bounds: Bounds {
                     limits: plan.limits,
                     most_output: plan.most_output,
+                    line_endings: plan.line_endings,
                 },
             };
             job.format(

@@ -3,7 +3,7 @@ use Rattle.formatter.specs.Formatted as format
 use Rattle.gqlfmt_run.proofs.formatting.compared.Goals as goal
 
 pub returns-then-stays_within-clause-document : goal.returns-then-stays_within-clause-document
-returns-then-stays_within-clause-document g c = λ formatted short.
+returns-then-stays_within-clause-document g c = λ formatted short ends.
     let limits = c.args.bounds.limits in
     let same = c.as_str-2.ensures.value in
     record {
@@ -15,6 +15,7 @@ returns-then-stays_within-clause-document g c = λ formatted short.
               (subst (λ (t : List ℕ). format.IsFormatted c.args.source.now limits.recursion limits.tokens t) (sym same) formatted));
         });
         short = short;
+        ends = ends;
       };
       other = search rules;
     }
