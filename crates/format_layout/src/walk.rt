@@ -9,6 +9,29 @@ use apollo_tree::IndexedElement;
 use document_grammar::SyntaxKind;
 use std::alloc::{AllocError, Allocator};
 
+// What the walk reads of an element. The rest is never worked out where `Elements::element` is inlined.
+#[derive(Clone, Copy)]
+struct Met {
+    kind: SyntaxKind,
+    is_node: bool,
+    // the byte offset at which its text begins
+    start: usize,
+    // the index of the first element after it and all below it
+    after: usize,
+}
+
+impl Met {
+    #[inline(always)]
+    fn of(element: IndexedElement) -> Met {
+        Met {
+            kind: element.kind,
+            is_node: element.is_node,
+            start: element.start,
+            after: element.after_subtree,
+        }
+    }
+}
+
 // A group that has ended, while it is not known where the next line may end.
 #[derive(Clone, Copy)]
 struct Ended {
@@ -38,9 +61,9 @@ pub struct Frame {
 
 impl Frame {
     // The frame of a root.
-    fn of_root(root: IndexedElement) -> Frame {
+    fn of_root(root: Met) -> Frame {
         Frame {
-            after: root.after_subtree,
+            after: root.after,
             first: 0,
             start: 0,
             level: 0,
@@ -76,6 +99,17 @@ struct Walk<'t, E, A: Allocator> {
     last_line: usize,
     // where the last token ends, in columns while nothing breaks; it is counted only while a group is open, or one that has ended waits
     place: usize,
+}
+
+// Adds an item, mostly where there is room: then without a call.
+#[inline(always)]
+fn add<T: Copy, A: Allocator>(items: &mut Vec<T, A>, item: T) -> Result<(), AllocError> {
+    if items.len() < items.capacity() {
+        items.push_reserved(item);
+        return Ok(());
+    }
+    items.push(item)?;
+    Ok(())
 }
 
 impl<'t, E: Elements, A: Allocator + Copy> Walk<'t, E, A> {
@@ -190,7 +224,7 @@ impl<'t, E: Elements, A: Allocator + Copy> Walk<'t, E, A> {
             }
             self.place = self.place.saturating_add(slot.separator.width());
         }
-        self.slots.push(slot)?;
+        add(&mut self.slots, slot)?;
         Ok(())
     }
 
@@ -204,7 +238,7 @@ impl<'t, E: Elements, A: Allocator + Copy> Walk<'t, E, A> {
         self.is_after_group = false;
         self.last_line = self.slots.len();
         self.may_end_line();
-        self.slots.push(slot)?;
+        add(&mut self.slots, slot)?;
         let is_between = match parent.previous {
             Some(left) => is_between_items(parent.inside, left),
             None => true,
@@ -302,6 +336,19 @@ impl<'t, E: Elements, A: Allocator + Copy> Walk<'t, E, A> {
         self.token(kind, width, parent)
     }
 
+    // Whether an element is a comma or white space, of which nothing but its line ends is kept.
+    #[inline(always)]
+    fn passes_over(&mut self, element: Met, index: usize) -> bool {
+        let is_white = element.kind == SyntaxKind::WHITESPACE;
+        if !is_white && element.kind != SyntaxKind::COMMA {
+            return false;
+        }
+        if is_white && index >= self.written_until {
+            self.comments.meet_white_space(self.source, element.start);
+        }
+        true
+    }
+
     // A leaf.
     #[inline(always)]
     fn leaf(
@@ -310,14 +357,6 @@ impl<'t, E: Elements, A: Allocator + Copy> Walk<'t, E, A> {
         index: usize,
         open: &mut Vec<Frame, A>,
     ) -> Result<(), AllocError> {
-        match kind {
-            SyntaxKind::COMMA => return Ok(()),
-            SyntaxKind::WHITESPACE => {
-                self.comments.meet_white_space(self.source, self.here);
-                return Ok(());
-            }
-            _ => {}
-        }
         self.leave_before(index, open)?;
         let Some(parent) = open.last_mut() else {
             return Ok(());
@@ -337,13 +376,13 @@ impl<'t, E: Elements, A: Allocator + Copy> Walk<'t, E, A> {
     #[inline(always)]
     fn node(
         &mut self,
-        element: IndexedElement,
+        element: Met,
         index: usize,
         open: &mut Vec<Frame, A>,
     ) -> Result<usize, AllocError> {
         self.leave_before(index, open)?;
         let Some(parent) = open.last_mut() else {
-            return Ok(element.after_subtree);
+            return Ok(element.after);
         };
         let kind = element.kind;
         if self.comments.ignores_next() {
@@ -352,15 +391,15 @@ impl<'t, E: Elements, A: Allocator + Copy> Walk<'t, E, A> {
         }
         if is_word(kind) {
             self.word(index, kind, parent)?;
-            return Ok(element.after_subtree);
+            return Ok(element.after);
         }
         let frame = self.enter(element, index, parent)?;
-        open.push(frame)?;
+        add(open, frame)?;
         Ok(index.saturating_add(1))
     }
 
     // A node that stays as it is, after a comment that says so.
-    fn ignored(&mut self, element: IndexedElement, parent: &mut Frame) -> Result<(), AllocError> {
+    fn ignored(&mut self, element: Met, parent: &mut Frame) -> Result<(), AllocError> {
         let level = self.level(parent, element.kind);
         self.slot(parent, element.kind, level)?;
         if let Some(slot) = self.slots.last_mut() {
@@ -368,13 +407,13 @@ impl<'t, E: Elements, A: Allocator + Copy> Walk<'t, E, A> {
         }
         parent.previous = Some(element.kind);
         self.is_pending = true;
-        self.written_until = element.after_subtree;
+        self.written_until = element.after;
         Ok(())
     }
 
     // An element of an item that stays as it is.
-    fn written(&mut self, element: IndexedElement) -> Result<(), AllocError> {
-        if element.is_node || matches!(element.kind, SyntaxKind::WHITESPACE | SyntaxKind::COMMA) {
+    fn written(&mut self, element: Met) -> Result<(), AllocError> {
+        if element.is_node {
             return Ok(());
         }
         if !self.is_pending {
@@ -390,7 +429,7 @@ impl<'t, E: Elements, A: Allocator + Copy> Walk<'t, E, A> {
     #[inline(always)]
     fn enter(
         &mut self,
-        element: IndexedElement,
+        element: Met,
         index: usize,
         parent: &mut Frame,
     ) -> Result<Frame, AllocError> {
@@ -413,7 +452,7 @@ impl<'t, E: Elements, A: Allocator + Copy> Walk<'t, E, A> {
         self.comments.meet_node();
         parent.previous = Some(kind);
         Ok(Frame {
-            after: element.after_subtree,
+            after: element.after,
             first: self.slots.len().saturating_sub(1),
             start: self.place,
             level,
@@ -506,7 +545,7 @@ impl<'t, E: Elements, A: Allocator + Copy> Walk<'t, E, A> {
     #[inline(always)]
     fn element(
         &mut self,
-        element: IndexedElement,
+        element: Met,
         index: usize,
         open: &mut Vec<Frame, A>,
     ) -> Result<usize, AllocError> {
@@ -536,14 +575,19 @@ pub fn slots_of<E: Elements, A: Allocator + Copy>(
     let mut index = 0;
     // no node holds the root, so it is not met again
     if let Some(root) = elements.element(0) {
-        open.push(Frame::of_root(root))?;
+        open.push(Frame::of_root(Met::of(root)))?;
         index = 1;
     }
     for _ in 0..element_count {
         let Some(element) = elements.element(index) else {
             break;
         };
-        index = walk.element(element, index, &mut open)?;
+        let element = Met::of(element);
+        index = if walk.passes_over(element, index) {
+            index.saturating_add(1)
+        } else {
+            walk.element(element, index, &mut open)?
+        };
     }
     walk.leave_before(element_count, &mut open)?;
     walk.may_end_line();
