@@ -1,7 +1,8 @@
 /* Loaded before the C library (LD_PRELOAD), it counts the calls of one sort, and lets one of them fail.
  *
  * FAULT is SORT NUMBER: `memory` for requests of memory, `read`, `write` or `file` (all other calls on files), or `pieces`, with which each read gives at
- * most one byte and each write takes at most three. The file that FAULT_COUNT names holds how many calls there were. */
+ * most one byte and each write takes at most three. With `on` after the number all later calls of the sort fail too. The file that FAULT_COUNT names holds
+ * how many calls there were. */
 #define _GNU_SOURCE
 #include <dlfcn.h>
 #include <errno.h>
@@ -19,14 +20,14 @@
 
 extern void *__libc_malloc(size_t), *__libc_realloc(void *, size_t);
 
-static char sort[16];
+static char sort[16], onward[4];
 static long wanted, *count;
 
 __attribute__((constructor)) static void begin(void)
 {
     const char *fault = getenv("FAULT"), *path = getenv("FAULT_COUNT");
     int file = path ? (int)syscall(SYS_openat, AT_FDCWD, path, O_RDWR, 0) : -1;
-    if (!fault || file < 0 || sscanf(fault, "%15s %ld", sort, &wanted) != 2)
+    if (!fault || file < 0 || sscanf(fault, "%15s %ld %3s", sort, &wanted, onward) < 2)
         _exit(99);
     count = mmap(NULL, sizeof *count, PROT_READ | PROT_WRITE, MAP_SHARED, file, 0);
     syscall(SYS_close, file);
@@ -35,7 +36,7 @@ __attribute__((constructor)) static void begin(void)
 /* Whether this call, of this sort, is the one that fails. */
 static int fails(const char *name, int error)
 {
-    if (!count || strcmp(sort, name) != 0 || ++*count != wanted)
+    if (!count || strcmp(sort, name) != 0 || ++*count < wanted || (*count > wanted && !*onward))
         return 0;
     errno = error;
     return 1;
@@ -70,8 +71,11 @@ FILE_CALL(fdatasync, (int file), file)
 FILE_CALL(flock, (int file, int operation), file, operation)
 FILE_CALL(fchmod, (int file, mode_t mode), file, mode)
 FILE_CALL(chown, (const char *path, uid_t owner, gid_t group), path, owner, group)
-FILE_CALL(rename, (const char *from, const char *to), from, to)
+FILE_CALL(unlink, (const char *path), path)
+FILE_CALL(ftruncate, (int file, off_t size), file, size)
 FILE_CALL(statx, (int folder, const char *path, int flags, unsigned mask, struct statx *found), folder, path, flags, mask, found)
+
+off_t lseek(int file, off_t to, int from) { return fails("file", EIO) ? -1 : syscall(SYS_lseek, file, to, from); }
 
 int open(const char *path, int flags, ...)
 {

@@ -31,10 +31,11 @@ pub trait Files {
     fn read<A: Allocator>(&mut self, alloc: A, path: &str) -> io::Result<Vec<u8, A>>
         ensures { reads self.old path.now (option_map (λ bytes. bytes.items) (result_ok result)) self.new };
 
-    /// Puts a new file with this text in the place of the one at a path, or leaves that as it is.
+    /// Gives the file at a path this text, or leaves its own as it is. Where an error keeps it from both, a copy has the file's own text.
     fn replace(&mut self, path: &str, text: &str) -> io::Result<()>
         ensures { replaces self.old path.now text.now (is_ok result) self.new };
 
-    /// The path of the new file that `replace` makes before it takes the place of the one at a path.
-    fn new_path<A: Allocator>(&self, alloc: A, path: &str) -> io::Result<String<A>>;
+    /// The path of the copy that `replace` makes of the file at a path before it changes that, if the copy is there: while a call is at work, or after one
+    /// that was cut off or left it.
+    fn copy_path<A: Allocator>(&self, alloc: A, path: &str) -> io::Result<Option<String<A>>>;
 }

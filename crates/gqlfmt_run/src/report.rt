@@ -14,7 +14,7 @@ use gqlfmt_files::{Files, Settled};
 use line_index::LineIndex;
 use marked_lines::{Remark, complaint, push_message, push_more};
 use std::alloc::{AllocError, Allocator};
-use std::io::{self, ErrorKind};
+use std::io;
 
 // How many errors of a text are shown at most.
 const SHOWN: usize = 20;
@@ -120,27 +120,23 @@ fn tell_error<A: Allocator + Copy, E: Sink>(
     }
 }
 
-// Tells which file of another run keeps the one at a path from being replaced, if one does.
-fn tell_left_over<A: Allocator + Copy, F: Files, E: Sink>(
+// Tells which copy of the file at a path is there, if one is.
+fn tell_of_copy<A: Allocator + Copy, F: Files, E: Sink>(
     alloc: A,
     files: &F,
     complaints: &mut E,
     path: &str,
-    error: &io::Error,
 ) {
-    if error.kind() != ErrorKind::AlreadyExists {
-        return;
-    }
-    let reason = "the new file of another run: remove it if none is at work";
-    if let Ok(name) = files.new_path(alloc, path)
-        && let Ok(line) = complaint(alloc, "gqlfmt", name.as_str(), reason)
+    let advice =
+        "a copy of the file: once no run is at work, restore the file from it if need be, and remove it";
+    if let Ok(Some(copy)) = files.copy_path(alloc, path)
+        && let Ok(line) = complaint(alloc, "gqlfmt", copy.as_str(), advice)
     {
         say(complaints, line.as_str());
     }
 }
 
-/// Tells why the file at a path was not formatted, if it was not, and which file of another run keeps it from being replaced. What the sink does not
-/// take is lost.
+/// Tells why the file at a path was not formatted, if it was not, and which copy of it is there. What the sink does not take is lost.
 #[tactic(auto, using(crate::proofs::Saying::silent_says))]
 pub fn tell_of_file<A: Allocator + Copy, F: Files, E: Sink>(
     alloc: A,
@@ -156,7 +152,7 @@ pub fn tell_of_file<A: Allocator + Copy, F: Files, E: Sink>(
         Err(FileFault::NotRead(error)) => tell_error(alloc, complaints, path, "cannot read", error),
         Err(FileFault::NotReplaced(error)) => {
             tell_error(alloc, complaints, path, "cannot replace", error);
-            tell_left_over(alloc, files, complaints, path, error);
+            tell_of_copy(alloc, files, complaints, path);
         }
         Err(FileFault::Device(fault)) => tell(alloc, complaints, path, *fault),
     }

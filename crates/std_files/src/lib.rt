@@ -1,7 +1,8 @@
 //! The files of a runtime, as `gqlfmt` finds, reads and replaces them and `gqlcheck` finds and reads them.
 //!
-//! A file is replaced by renaming a new one over it, which has its owner, its group and its permissions before it has a text. A file that can't be
-//! replaced so, or has changed since it was read, is left as it is.
+//! A file is replaced by writing over it, so that it stays the same file, after a copy of its text is stored beside it under a hidden name. Where that
+//! fails, the old text is written back; the copy stays only where this fails too, or where the program is ended in between. A file that has changed since it
+//! was read is left as it is.
 #![tactic(auto)]
 
 ghost use Rattle.std.specs.Prelude.{◌≡◌, None};
@@ -12,7 +13,7 @@ mod state;
 
 use gqlfmt_files::{Entry, Files};
 use listing::entries_of;
-use replacing::{fill, hidden_path, readable, replaceable};
+use replacing::{create_private, hidden_path, open_writable, overwrite, readable, restore};
 use state::State;
 use std::alloc::Allocator;
 use std::fs::{File, OpenFile};
@@ -55,27 +56,38 @@ impl<'a, R> StdFiles<'a, R> {
 }
 
 impl<'a, R: rt::Files> StdFiles<'a, R> {
-    // Gives the new file the name of the target, if that is as it was when it was read.
-    fn rename(&self, fresh: Path<'_>, target: Path<'_>) -> io::Result<()> {
-        let metadata = fs::metadata(self.runtime, target)?;
-        if self.seen != Some(State::of(&metadata)) {
-            return Err(Error::new(ErrorKind::Other, "it has changed since it was read"));
+    // Fails where a file is not as it was when it was read.
+    fn check_unchanged(&self, file: &R::File) -> io::Result<()> {
+        if self.seen == Some(State::of(&file.metadata()?)) {
+            Ok(())
+        } else {
+            Err(Error::new(ErrorKind::Other, "it has changed since it was read"))
         }
-        fs::rename(self.runtime, fresh, target)
     }
 
-    // Makes a new file with this text, which takes the name of the target when it is stored. If it cannot, it is removed.
-    fn store(&self, target: Path<'_>, fresh: Path<'_>, text: &str) -> io::Result<()> {
-        let metadata = replaceable(self.runtime, target)?;
-        let mut file = File::create_new(self.runtime, fresh)?;
-        let stored = match fill(self.runtime, &mut file, fresh, &metadata, text) {
-            Ok(()) => self.rename(fresh, target),
+    // Stores the text that was read of a file in a copy.
+    fn save(&self, file: &mut R::File, copy: &mut R::File) -> io::Result<()> {
+        self.check_unchanged(file)?;
+        io::copy(file, copy)?;
+        copy.sync_all()?;
+        self.check_unchanged(file)
+    }
+
+    // Writes a text over a file's, of which there is a copy in the meantime. If it cannot, it writes the old one back.
+    fn write(&self, target: Path<'_>, beside: Path<'_>, text: &str) -> io::Result<()> {
+        let mut file = open_writable(self.runtime, target)?;
+        let had = file.metadata()?;
+        let mut copy = create_private(self.runtime, beside)?;
+        let saved = self.save(&mut file, &mut copy);
+        let written = match saved {
+            Ok(()) => overwrite(&mut file, &had, text),
             Err(error) => Err(error),
         };
-        if stored.is_err() {
-            let _ = fs::remove_file(self.runtime, fresh);
+        if saved.is_ok() && written.is_err() && restore(&mut file, &had, &mut copy).is_err() {
+            return written;
         }
-        stored
+        let removed = fs::remove_file(self.runtime, beside);
+        written.and(removed)
     }
 }
 
@@ -108,17 +120,20 @@ impl<'a, R: rt::Files + Alloc + Clone + Drop> Files for StdFiles<'a, R> {
         Ok(bytes)
     }
 
-    // The new file is made beside the old one, under a hidden name.
     fn replace(&mut self, path: &str, text: &str) -> io::Result<()> {
         let runtime = self.runtime;
         let target = fs::canonicalize(runtime, path)?;
-        let fresh = hidden_path(runtime, target.as_path(), runtime.alloc())?;
-        self.store(target.as_path(), fresh.as_path(), text)
+        let beside = hidden_path(runtime, target.as_path(), runtime.alloc())?;
+        self.write(target.as_path(), beside.as_path(), text)
     }
 
-    fn new_path<A: Allocator>(&self, alloc: A, path: &str) -> io::Result<String<A>> {
+    fn copy_path<A: Allocator>(&self, alloc: A, path: &str) -> io::Result<Option<String<A>>> {
         let target = fs::canonicalize(self.runtime, path)?;
-        let fresh = hidden_path(self.runtime, target.as_path(), alloc)?;
-        Ok(fresh.into_string())
+        let beside = hidden_path(self.runtime, target.as_path(), alloc)?;
+        if fs::exists(self.runtime, beside.as_path())? {
+            Ok(Some(beside.into_string()))
+        } else {
+            Ok(None)
+        }
     }
 }
