@@ -1,0 +1,4 @@
+pub mod TableLemmas
+pub mod ReadingLemmas
+pub mod PartLemmas
+pub mod RuleLemmas

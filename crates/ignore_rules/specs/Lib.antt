@@ -1,0 +1,6 @@
+pub mod Fits
+pub mod Tables
+pub mod Reading
+pub mod Lines
+pub mod Paths
+pub mod Ignored
