@@ -1,9 +1,10 @@
 -- Files, one after the other.
 use Rattle.std.proofs.Common.{◌≡◌, ℕ, ◌+◌, ◌<◌, Bool, List, [], ◌∷◌, ◌++◌, length, take, get_or, map}
-use Rattle.std.proofs.Common.{max, refl, sym, ap, ◌∙◌, subst, arith, Option, Result, Bor}
+use Rattle.std.proofs.Common.{max, refl, sym, ap, ◌∙◌, subst, arith, Result, Bor}
 use Rattle.std.specs.Ordering.{ord_max, nat_cmp}
 use Rattle.std.proofs.lemmas.Bool.Decides.{nat_tests}
 use Rattle.std.proofs.lemmas.List.{take_more, map-append}
+use Rattle.std.specs.declared.io.Error.{Error}
 use Rattle.document_checks.specs.Checking.{Asked}
 use Rattle.gqlfmt_files.specs.Listing.{Listing}
 use Rattle.named_files.specs.Finding.{Place}
@@ -15,7 +16,7 @@ use Rattle.gqlcheck_run.specs.Program.{ChecksFiles, ChecksPath, ChecksPaths, Des
 ord_max-nat : (a b : ℕ) → ord_max nat_cmp a b ≡ max a b
 ord_max-nat a b = grind (arith, nat_tests)
 
-module _ {S : Type 0} (reads : S → List ℕ → Option (List ℕ) → S → Type 0) (asked : Asked) (figures : Bool) where
+module _ {S : Type 0} (reads : S → List ℕ → Result (List ℕ) Error → S → Type 0) (asked : Asked) (figures : Bool) where
   abbrev Ends : Place → Result Bool FileFault → Desk S → Desk S → Type 0
   Ends place ended old new =
       HandlesPlace reads asked place ended old.files new.files × IsQuiet figures ended old.output new.output
@@ -48,7 +49,7 @@ module _ {S : Type 0} (reads : S → List ℕ → Option (List ℕ) → S → Ty
       (subst (λ (places : List Place). ChecksFiles reads asked figures places (max status (status_of ended)) old new) (sym more)
       (handles_more (map f (take i items)) status (f x) ended old middle new h (place, quiet, said)))
 
-module _ {S : Type 0} (lists : S → List ℕ → Listing → S → Type 0) (reads : S → List ℕ → Option (List ℕ) → S → Type 0)
+module _ {S : Type 0} (lists : S → List ℕ → Listing → S → Type 0) (reads : S → List ℕ → Result (List ℕ) Error → S → Type 0)
     (asked : Asked) (figures : Bool) where
   -- one path more
   paths_more : (paths : List (List ℕ)) (status : ℕ) (path : List ℕ) (one : ℕ) (old middle new : Desk S)

@@ -1,5 +1,6 @@
 -- What a run of the program does, by the request in its words.
 use Rattle.std.specs.Prelude.{◌≡◌, ◌⊎◌, ℕ, max, Bool, true, false, List, [], ◌∷◌, ◌++◌, Option, Some, None, Result, Ok, Err, ⊤}
+use Rattle.std.specs.declared.io.Error.{Error}
 use Rattle.byte_devices.specs.Devices.{Account, moved}
 use Rattle.byte_devices.specs.Runs.{Reads}
 use Rattle.byte_devices.specs.Writing.{EndsWriting}
@@ -91,18 +92,18 @@ OnlySays text status old new =
 -- ---- files
 
 -- the files, as a trait tells what reading one does
-module _ {S : Type 0} (reads : S → List ℕ → Option (List ℕ) → S → Type 0) where
+module _ {S : Type 0} (reads : S → List ℕ → Result (List ℕ) Error → S → Type 0) where
   -- What follows a read: the bytes that it gave are checked.
-  abbrev pub FollowsRead : Asked → Option (List ℕ) → Result Bool FileFault → Type 0
-  FollowsRead asked (Some bytes) (Ok passes) = Ends asked bytes (Ok passes)
-  FollowsRead asked (Some bytes) (Err (Device fault)) = Ends asked bytes (Err fault)
-  FollowsRead asked (Some bytes) (Err (NotRead error)) = ⊥
-  FollowsRead asked None (Err (NotRead error)) = ⊤
-  FollowsRead asked None _ = ⊥
+  abbrev pub FollowsRead : Asked → Result (List ℕ) Error → Result Bool FileFault → Type 0
+  FollowsRead asked (Ok bytes) (Ok passes) = Ends asked bytes (Ok passes)
+  FollowsRead asked (Ok bytes) (Err (Device fault)) = Ends asked bytes (Err fault)
+  FollowsRead asked (Ok bytes) (Err (NotRead error)) = ⊥
+  FollowsRead asked (Err error) (Err (NotRead error')) = error' ≡ error
+  FollowsRead asked (Err error) _ = ⊥
 
   -- The file was read once, and what that gave was checked. Nothing else is done with files.
   pub record Handles (asked : Asked) (path : List ℕ) (ended : Result Bool FileFault) (old new : S) : Type 0 where
-    pub given : Option (List ℕ)
+    pub given : Result (List ℕ) Error
     pub read : reads old path given new
     pub follows : FollowsRead asked given ended
 
@@ -121,12 +122,12 @@ module _ {S : Type 0} (reads : S → List ℕ → Option (List ℕ) → S → Ty
       × SaysOnlyFaults ended old.complaints next.complaints × ChecksFiles asked figures found rest next new
 
 -- the same, as a trait tells what listing a folder does, too
-module _ {S : Type 0} (lists : S → List ℕ → Listing → S → Type 0) (reads : S → List ℕ → Option (List ℕ) → S → Type 0) where
+module _ {S : Type 0} (lists : S → List ℕ → Listing → S → Type 0) (reads : S → List ℕ → Result (List ℕ) Error → S → Type 0) where
   -- The files that a path names are found, and then checked.
   pub record ChecksNamed (asked : Asked) (figures : Bool) (path : List ℕ) (status : ℕ) (old new : Desk S) : Type 0 where
     pub found : List Place
     pub middle : S
-    pub named : IsNamed lists path found old.files middle
+    pub named : IsNamed lists [] path found old.files middle
     pub checked : ChecksFiles reads asked figures found status (record old { files = middle }) new
 
   -- Memory is refused before they are all found, and nothing is done with them.

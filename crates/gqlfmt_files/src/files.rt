@@ -1,7 +1,8 @@
 // Files and folders.
-ghost use Rattle.std.specs.Prelude.{ℕ, List, Bool, Option, option_map, is_ok, IfOk, IfSome};
-ghost use Rattle.std.specs.Result.{result_ok};
+ghost use Rattle.std.specs.Prelude.{ℕ, List, Bool, Result, is_ok, IfOk, IfSome};
+ghost use Rattle.std.specs.declared.io.Error.{Error};
 ghost use Rattle.gqlfmt_files.specs.Listing.{AreInOrder, Listing, listing_of};
+ghost use Rattle.gqlfmt_files.specs.Reading.{bytes_of};
 
 use crate::listing::Entry;
 use std::alloc::Allocator;
@@ -12,8 +13,8 @@ pub trait Files {
     // the outcome of a call of `list` at a path: what it gives, and what is left
     ghost lists: { Self → List ℕ → Listing → Self → Type 0 };
 
-    // the outcome of a call of `read` at a path: the bytes that it gives, if it gives any, and what is left
-    ghost reads: { Self → List ℕ → Option (List ℕ) → Self → Type 0 };
+    // the outcome of a call of `read` at a path: the bytes that it gives or the error, and what is left
+    ghost reads: { Self → List ℕ → Result (List ℕ) Error → Self → Type 0 };
 
     // the outcome of a call of `replace` at a path with a text: whether it was done, and what is left
     ghost replaces: { Self → List ℕ → List ℕ → Bool → Self → Type 0 };
@@ -27,9 +28,9 @@ pub trait Files {
         ensures lists { lists self.old path.now (listing_of result) self.new }
         ensures ordered { IfOk result (λ found. IfSome found (λ entries. AreInOrder entries.items)) };
 
-    /// All bytes of the file at a path.
+    /// All bytes of the file at a path. Where no file is there, the error is of the kind `NotFound`.
     fn read<A: Allocator>(&mut self, alloc: A, path: &str) -> io::Result<Vec<u8, A>>
-        ensures { reads self.old path.now (option_map (λ bytes. bytes.items) (result_ok result)) self.new };
+        ensures { reads self.old path.now (bytes_of result) self.new };
 
     /// Gives the file at a path this text, or leaves its own as it is. Where an error keeps it from both, a copy has the file's own text.
     fn replace(&mut self, path: &str, text: &str) -> io::Result<()>

@@ -1,8 +1,9 @@
 -- Files, one after the other.
 use Rattle.std.proofs.Common.{◌≡◌, ℕ, ◌+◌, ◌<◌, Bool, List, [], ◌∷◌, ◌++◌, length, take, get_or, map}
-use Rattle.std.proofs.Common.{max, refl, sym, ap, ◌∙◌, subst, arith, Option, Result, inl, inr}
-use Rattle.std.specs.Prelude.{Some, Ok}
+use Rattle.std.proofs.Common.{max, refl, sym, ap, ◌∙◌, subst, arith, Result, inl, inr}
+use Rattle.std.specs.Prelude.{Ok}
 use Rattle.std.specs.Str.{IsUtf8}
+use Rattle.std.specs.declared.io.Error.{Error}
 use Rattle.std.specs.Ordering.{ord_max, nat_cmp}
 use Rattle.std.proofs.lemmas.Bool.Decides.{nat_tests}
 use Rattle.std.proofs.lemmas.List.{take_more, map-append}
@@ -26,7 +27,7 @@ use Rattle.gqlfmt_run.specs.Showing.{Shows}
 pub ord_max-nat : (a b : ℕ) → ord_max nat_cmp a b ≡ max a b
 ord_max-nat a b = grind (arith, nat_tests)
 
-module _ {S : Type 0} (reads : S → List ℕ → Option (List ℕ) → S → Type 0) (replaces : S → List ℕ → List ℕ → Bool → S → Type 0) where
+module _ {S : Type 0} (reads : S → List ℕ → Result (List ℕ) Error → S → Type 0) (replaces : S → List ℕ → List ℕ → Bool → S → Type 0) where
   found : {A : Type 0} (X : Type 0) (mode : Mode) (bounds : Bounds) (path source : List ℕ) (revised : Revised A Refusal) (old new : S)
       (out out' : Account) → IsUtf8 source
       → IsRevised bounds source revised → Settles replaces {X = X} mode path revised (Ok Found) old new → Shows mode path source revised (Ok tt) out out'
@@ -40,11 +41,11 @@ module _ {S : Type 0} (reads : S → List ℕ → Option (List ℕ) → S → Ty
   -- A file whose text is refused or shown. The text is known as it was read, as a slice and as a text.
   pub found-handled : {A : Type 0} (X : Type 0) (mode : Mode) (bounds : Bounds) (path bytes slice source : List ℕ) (revised : Revised A Refusal)
       (old middle new : S) (out out' : Account)
-      → reads old path (Some bytes) middle → slice ≡ bytes → (source ≡ slice) × IsUtf8 slice → IsRevised bounds source revised
+      → reads old path (Ok bytes) middle → slice ≡ bytes → (source ≡ slice) × IsUtf8 slice → IsRevised bounds source revised
       → Settles replaces {X = X} mode path revised (Ok Found) middle new → Shows mode path source revised (Ok tt) out out'
       → Handles reads replaces mode bounds path (Ok Found) old out new out'
   found-handled X mode bounds path bytes slice source revised old middle new out out' read same text made settled shown = record {
-    given = Some bytes;
+    given = Ok bytes;
     middle = middle;
     read = read;
     follows =

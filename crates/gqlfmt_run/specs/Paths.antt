@@ -1,6 +1,7 @@
 -- What happens to a file, and what is written of it.
-use Rattle.std.specs.Prelude.{◌≡◌, ◌⊎◌, ℕ, max, Bool, true, false, List, [], ◌∷◌, Option, Some, None, Result, Ok, Err}
+use Rattle.std.specs.Prelude.{◌≡◌, ◌⊎◌, ℕ, max, Bool, true, false, List, [], ◌∷◌, Result, Ok, Err}
 use Rattle.std.specs.Str.{IsUtf8}
+use Rattle.std.specs.declared.io.Error.{Error}
 use Rattle.byte_devices.specs.Devices.{Account, moved}
 use Rattle.byte_devices.specs.Writing.{IsBroken}
 use Rattle.byte_devices.specs.Runs.{Writes}
@@ -26,7 +27,7 @@ pub record Desk (S : Type 0) : Type 0 where
   pub complaints : Account
 
 -- the files, as a trait tells what its two calls do
-module _ {S : Type 0} (reads : S → List ℕ → Option (List ℕ) → S → Type 0) (replaces : S → List ℕ → List ℕ → Bool → S → Type 0) where
+module _ {S : Type 0} (reads : S → List ℕ → Result (List ℕ) Error → S → Type 0) (replaces : S → List ℕ → List ℕ → Bool → S → Type 0) where
   -- The file was asked to be replaced, in mode write, by the formatted text of its own, which is another one.
   pub record IsRewritten (mode : Mode) (bounds : Bounds) (path source : List ℕ) (done : Bool) (old new : S) : Type 0 where
     pub writes : mode ≡ Write
@@ -52,32 +53,32 @@ module _ {S : Type 0} (reads : S → List ℕ → Option (List ℕ) → S → Ty
       IsUtf8 source × (output' ≡ output) × IsRewritten mode bounds path source false old new
 
   -- What follows a read. Where it gave nothing, that is all that happens.
-  abbrev pub FollowsRead : Mode → Bounds → List ℕ → Option (List ℕ) → Result Settled FileFault → S → Account → S → Account → Type 0
-  FollowsRead mode bounds path (Some source) ended old output new output' = FollowsText mode bounds path source ended old output new output'
-  FollowsRead mode bounds path None (Err (NotRead error)) old output new output' = (new ≡ old) × (output' ≡ output)
-  FollowsRead mode bounds path None _ old output new output' = ⊥
+  abbrev pub FollowsRead : Mode → Bounds → List ℕ → Result (List ℕ) Error → Result Settled FileFault → S → Account → S → Account → Type 0
+  FollowsRead mode bounds path (Ok source) ended old output new output' = FollowsText mode bounds path source ended old output new output'
+  FollowsRead mode bounds path (Err error) (Err (NotRead error')) old output new output' = (error' ≡ error) × (new ≡ old) × (output' ≡ output)
+  FollowsRead mode bounds path (Err error) _ old output new output' = ⊥
 
   -- In any other mode, the file was read once, and then left alone or rewritten.
   pub record Handles (mode : Mode) (bounds : Bounds) (path : List ℕ) (ended : Result Settled FileFault)
       (old : S) (output : Account) (new : S) (output' : Account) : Type 0 where
-    pub given : Option (List ℕ)
+    pub given : Result (List ℕ) Error
     pub middle : S
     pub read : reads old path given middle
     pub follows : FollowsRead mode bounds path given ended middle output new output'
 
   -- What is written of a text that was read, in mode print: its formatted text.
-  abbrev pub FollowsPrint : Bounds → List ℕ → Option (List ℕ) → Result Settled FileFault → Account → Account → Type 0
-  FollowsPrint bounds path (Some source) (Ok settled) output output' = Writes (IsOutput Print bounds path) (Ok settled) source output output'
-  FollowsPrint bounds path (Some source) (Err (Device fault)) output output' = Writes (IsOutput Print bounds path) (Err fault) source output output'
-  FollowsPrint bounds path (Some source) (Err (NotRead error)) output output' = ⊥
-  FollowsPrint bounds path (Some source) (Err (NotReplaced error)) output output' = ⊥
-  FollowsPrint bounds path None (Err (NotRead error)) output output' = output' ≡ output
-  FollowsPrint bounds path None _ output output' = ⊥
+  abbrev pub FollowsPrint : Bounds → List ℕ → Result (List ℕ) Error → Result Settled FileFault → Account → Account → Type 0
+  FollowsPrint bounds path (Ok source) (Ok settled) output output' = Writes (IsOutput Print bounds path) (Ok settled) source output output'
+  FollowsPrint bounds path (Ok source) (Err (Device fault)) output output' = Writes (IsOutput Print bounds path) (Err fault) source output output'
+  FollowsPrint bounds path (Ok source) (Err (NotRead error)) output output' = ⊥
+  FollowsPrint bounds path (Ok source) (Err (NotReplaced error)) output output' = ⊥
+  FollowsPrint bounds path (Err error) (Err (NotRead error')) output output' = (error' ≡ error) × (output' ≡ output)
+  FollowsPrint bounds path (Err error) _ output output' = ⊥
 
   -- The file was read once, and its formatted text written to standard output.
   pub record Prints (bounds : Bounds) (path : List ℕ) (ended : Result Settled FileFault) (old : S) (output : Account) (new : S) (output' : Account)
       : Type 0 where
-    pub given : Option (List ℕ)
+    pub given : Result (List ℕ) Error
     pub read : reads old path given new
     pub follows : FollowsPrint bounds path given ended output output'
 

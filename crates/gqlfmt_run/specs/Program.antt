@@ -1,5 +1,6 @@
 -- What a run of the program does, by the request in its words.
 use Rattle.std.specs.Prelude.{◌≡◌, ◌⊎◌, ℕ, Bool, List, [], ◌∷◌, ◌++◌, Option, Some, None, Result}
+use Rattle.std.specs.declared.io.Error.{Error}
 use Rattle.byte_devices.specs.Devices.{Account, moved}
 use Rattle.byte_devices.specs.Writing.{IsBroken}
 use Rattle.byte_devices.specs.Runs.{Reads, Writes}
@@ -18,7 +19,7 @@ use Rattle.gqlfmt_run.specs.Complaints.{IsWritten, Says}
 use Rattle.gqlfmt_run.specs.Input.{IsOutput}
 use Rattle.gqlfmt_files.specs.Listing.{Listing}
 use Rattle.gqlfmt_run.specs.Paths.{Desk}
-use Rattle.gqlfmt_run.specs.Folders.{HandlesPaths}
+use Rattle.gqlfmt_run.specs.Folders.{FormatsPaths, ignore_files}
 
 abbrev pub information_text : Information → List ℕ
 information_text Help = USAGE.now ++ HELP.now
@@ -66,13 +67,13 @@ OnlySays text status old new =
     (status ≡ 2) × IsWritten text old.complaints new.complaints × (new.output ≡ old.output) × (new.input ≡ old.input) × (new.files ≡ old.files)
 
 -- the files, as a trait tells what its three calls do
-module _ {S : Type 0} (lists : S → List ℕ → Listing → S → Type 0) (reads : S → List ℕ → Option (List ℕ) → S → Type 0)
+module _ {S : Type 0} (lists : S → List ℕ → Listing → S → Type 0) (reads : S → List ℕ → Result (List ℕ) Error → S → Type 0)
     (replaces : S → List ℕ → List ℕ → Bool → S → Type 0) where
   -- the files that these paths name are handled, or standard input where there are none
   abbrev pub Formats : Mode → Bounds → List ℕ → List (List ℕ) → ℕ → State S → State S → Type 0
   Formats mode bounds name [] status old new = FormatsInput mode bounds name status (streams old) (streams new) × (new.files ≡ old.files)
-  Formats mode bounds name (path ∷ paths) status old new = HandlesPaths lists reads replaces mode bounds (path ∷ paths) status (desk old) (desk new)
-      × (new.input ≡ old.input)
+  Formats mode bounds name (path ∷ paths) status old new =
+      (new.input ≡ old.input) × FormatsPaths lists reads replaces mode bounds (path ∷ paths) ignore_files [] status (desk old) (desk new)
 
   -- What a run does for a request. Where there is none, it says on standard error what is wrong and how the program is called, and nothing else. The words
   -- about a mistake are not stated.

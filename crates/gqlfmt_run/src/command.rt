@@ -15,7 +15,8 @@ Puts GraphQL documents into one layout. Without FILE, or where FILE is -, it
 reads standard input and writes to standard output; otherwise each FILE that
 changes is replaced. A FILE that is a folder means the files below it that
 end in .graphql, .graphqls or .gql, but for hidden names, node_modules and
-symbolic links.
+symbolic links. A .gqlfmtignore and a .prettierignore in the working folder say,
+in the form of a .gitignore, which files and folders are left alone.
 
   --check        change nothing; list the files that would change
   --diff         change nothing; show what would change, as a unified diff

@@ -11,6 +11,7 @@ mod edits;
 mod fault;
 mod folders;
 mod formatting;
+mod ignoring;
 mod input;
 mod job;
 mod misuse;

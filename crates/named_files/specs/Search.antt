@@ -1,6 +1,7 @@
 -- How far a search for files has come.
 use Rattle.std.specs.Prelude.{◌≡◌, ◌++◌, ℕ, List, map, reverse, string_bytes}
 use Rattle.gqlfmt_files.specs.Listing.{Listing}
+use Rattle.ignore_rules.specs.Lines.{Rule}
 use Rattle.named_files.specs.declared.finding.Place.{Place as PlaceToLookAt}
 use Rattle.named_files.specs.declared.finding.Place.TheVariants as place
 use Rattle.named_files.specs.declared.finding.Search.{Search}
@@ -18,8 +19,8 @@ abbrev pub found_by : {A : Type 0} → Search A → List Place
 found_by search = map as_named search.found.items
 
 -- From some places and what was found before, a search came to other places and has found more: what is found from there on is found after that.
-pub record Advances {S : Type 0} (lists : S → List ℕ → Listing → S → Type 0)
+pub record Advances {S : Type 0} (lists : S → List ℕ → Listing → S → Type 0) (ignored : List (List Rule))
     (places found : List Place) (old : S) (places' found' : List Place) (new : S) : Type 0 where
   pub added : List Place
   pub is : found' ≡ found ++ added
-  pub onward : (rest : List Place) (final : S) → Finds lists places' rest new final → Finds lists places (added ++ rest) old final
+  pub onward : (rest : List Place) (final : S) → Finds lists ignored places' rest new final → Finds lists ignored places (added ++ rest) old final
