@@ -78,16 +78,16 @@ def tokens(view):
 
 
 def names(view):
-    """What is found of a name has that name. The uses are among the uses and definitions, and one of these is at the offset."""
+    """What is found of a name in the document has that name. The uses are among the uses and definitions, and one of these is at the offset."""
     at = view.position()
     definition, hover = view.ask("definition", position=at), view.ask("hover", position=at)
-    uses = [it["range"] for it in view.ask("references", position=at, context={"includeDeclaration": False})]
-    found = [it["range"] for it in view.ask("references", position=at, context={"includeDeclaration": True})]
+    uses, found = ([it["range"] for it in view.ask("references", position=at, context={"includeDeclaration": wanted}) if it["uri"] == view.uri] for wanted in (False, True))
     parts = [view.text.part(it) for it in found]
     if None in parts or parts and not any(start <= view.offset <= end for start, end in parts):
         return False
-    texts = {view.text.of(it) for it in [*found, *(answer["range"] for answer in [definition, hover] if answer)]}
-    return len(texts) <= 1 and None not in texts and all(it in found for it in uses) and (not definition or definition["range"] in found)
+    defined = [definition["range"]] if definition and definition["uri"] == view.uri else []
+    texts = {view.text.of(it) for it in [*found, *defined, *([hover["range"]] if hover else [])]}
+    return len(texts) <= 1 and None not in texts and all(it in found for it in [*uses, *defined])
 
 
 def completions(view):

@@ -2,6 +2,7 @@
 """Tests what the protocol says of a server's states, errors and answers: protocol.py PROGRAM. The expected values are those of JSON-RPC 2.0, of the Language
 Server Protocol 3.17 and of the texts here, counted by hand."""
 import json
+import re
 import subprocess
 import sys
 
@@ -283,7 +284,9 @@ def other_documents():
     expect("hover on a built-in directive", heading(0, 29), "directive @skip(if: Boolean!) on FIELD | FRAGMENT_SPREAD | INLINE_FRAGMENT")
     labels = [it["label"] for it in client.ask_about(URI, "completion", **at(0, 17))]
     expect("types of another document", labels, ["Pet", "Boolean", "Float", "ID", "Int", "String"])
-    expect("its uses stay in this one", client.ask_about(URI, "rename", newName="Cat", **at(0, 14)), None)
+    expect("another name for it", client.ask_about(URI, "rename", newName="Cat", **at(0, 14)),
+           {"changes": {URI: [{"range": span(0, 14, 17), "newText": "Cat"}], "file:///schema": [{"range": span(1, 5, 8), "newText": "Cat"}]}})
+    expect("another name for a built-in type", client.ask_about(URI, "rename", newName="Cat", **at(1, 13)), None)
     expect("too many positions", code(client.ask("textDocument/selectionRange", textDocument=DOCUMENT, positions=[{"line": 0, "character": 0}] * 101)), -32602)
     expect("the end", client.end(), 0)
 
@@ -395,6 +398,59 @@ def members():
            [("Hero", 5, {"uri": "file:///types", "range": span(6, 5, 9)}), ("Hero", 5, {"uri": "file:///types", "range": span(10, 12, 16)})])
     expect("all symbols", len(client.ask("workspace/symbol", query="")["result"]), 9)
     client.end()
+
+
+# Two documents: the names in «» mean the same, which is defined by the name in ‹›. Others are spelled alike. The last word says whether it is renamed.
+USES = [
+    ("type Root { ‹hero›(hero: ID): Hero search: [Thing!]! } schema { query: Root } type Hero { hero: [Hero] } union Thing = Hero extend type Root { other: Root }",
+     "{ «hero» { hero { hero } } hero: «hero»(hero: 1) { hero } search { ... on Hero { hero } } other { «hero» ...F } } fragment F on Root { ... @skip(if: true) { «hero» } hero: other { «hero» } }", True),
+    ("extend type Hero { ‹height›: Int } type Hero { name: Int } type Query { hero: Hero height: Int }", "{ height hero { name «height» } } mutation { height }", True),
+    ("type Query { a(b: [E] = [«HOPE»], i: I = { e: «HOPE», f: HOPE }): Int } enum E { ‹HOPE› JEDI } enum F { HOPE } input I { e: E = «HOPE» f: F = HOPE } directive @d(e: E, f: F) on FIELD",
+     "query ($e: E = «HOPE», $f: F = HOPE @d(e: «HOPE»)) { a(b: [«HOPE», JEDI], i: { e: «HOPE» }) @d(e: «HOPE», f: HOPE) HOPE a(b: HOPE_) }", True),
+    ("type Query { a(i: I, other: I): Int } input I { ‹other›: I episode: Int = 1 }", "query ($i: I = { «other»: null }) { a(other: { «other»: { episode: 1 «other»: {} } }) }", True),
+    ("type Query { a(‹id›: ID, b: ID): Query  b(id: ID): Query } directive @d(id: ID) on FIELD", "query ($id: ID) { a(«id»: 1) { b(id: 1) @d(id: 2) { a(b: 1, «id»: $id) } } id }", True),
+    ("type Query { a(id: ID): Query } directive @d(‹id›: ID) on FIELD | SCALAR scalar ID @d(«id»: 1)", "{ a(id: 1) @d(«id»: 2) } fragment F on Query @d(«id»: 3) { a(id: 1) @e(id: 1) }", True),
+    ("interface Named { ‹name›: Int } type Pet implements Named { name: Int } type Query { pet: Pet named: Named }", "{ named { «name» } pet { name ... on Named { «name» } } }", False),
+    ("interface Named { name: Int } type Pet { ‹name›: Int } extend type Pet implements Named type Query { pet: Pet named: Named }", "{ named { name ... on Pet { «name» } } pet { «name» } }", False),
+    ("type ‹Pet› { Pet: «Pet» } directive @Pet on FIELD extend type «Pet» { a: Int }", "fragment Pet on «Pet» { a @Pet ...Pet } query ($Pet: «Pet») { ... on «Pet» { Pet } }", True),
+    ("directive @‹d› on FIELD type d { d: Int @«d» }", "{ d @«d» ... @«d» { d } }", True),
+    ("fragment ‹F› on Query { ...«F» }", "{ ...«F» F }", True),
+    ("type ‹T› { a: «T» }", "type T { a: T } { T }", True),
+    ("{ a }", "query ($‹a›: Int) { a(a: $«a») } query ($a: Int) { a(a: $a) }", True),
+    ("type Query { a: Int }", "{ a @include(«if»: true) @skip(if: true) ... @include(«if»: true) { a } }", False),
+]
+
+
+def marked(text):
+    """A text without its marks, and the ranges of the names that are marked as uses and as definitions."""
+    plain, uses, definitions = "", [], []
+    for before, use, definition in re.findall("([^«‹]*)(?:«(.*?)»|‹(.*?)›|$)", text):
+        start = len(plain) + len(before)
+        plain += before + use + definition
+        (uses if use else definitions).extend([(start, len(plain))] if use or definition else [])
+    return Text(plain, "utf-16"), uses, definitions
+
+
+def uses_of_names():
+    """References, marks and new names, across two documents."""
+    types = "file:///types"
+    for schema, document, is_renamed in USES:
+        client = started()
+        texts = {URI: marked(document), types: marked(schema)}
+        for uri, (text, _, _) in texts.items():
+            client.open(uri, text.text)
+        uses = [{"uri": uri, "range": text.range(*it)} for uri, (text, found, _) in texts.items() for it in found]
+        both = [{"uri": uri, "range": text.range(*it)} for uri, (text, *found) in texts.items() for it in sorted(sum(found, []))]
+        for place in both:
+            uri, here = place["uri"], {"position": place["range"]["start"]}
+            for wanted, with_definition in [(uses, False), (both, True)]:
+                expect(f"the uses of {place}", client.ask_about(uri, "references", context={"includeDeclaration": with_definition}, **here), wanted)
+            expect(f"the marks of {place}", client.ask_about(uri, "documentHighlight", **here), [{"range": it["range"]} for it in both if it["uri"] == uri])
+            changes = {}
+            for it in both:
+                changes.setdefault(it["uri"], []).append({"range": it["range"], "newText": "fresh"})
+            expect(f"a new name for {place}", client.ask_about(uri, "rename", newName="fresh", **here), {"changes": changes} if is_renamed else None)
+        client.end()
 
 
 def names_of_symbols():
@@ -568,7 +624,7 @@ def many_changes():
             client.end()
 
 
-TESTS = [states, statuses_without_shutdown, faulty_messages, pieces_of_input, capabilities, changes, positions, diagnostics, violations, lambda: names("utf-16", 0), lambda: names("utf-8", 2), other_documents, members, open_quotes,
+TESTS = [states, statuses_without_shutdown, faulty_messages, pieces_of_input, capabilities, changes, positions, diagnostics, violations, lambda: names("utf-16", 0), lambda: names("utf-8", 2), other_documents, members, uses_of_names, open_quotes,
          lambda: parts("utf-16", 0), lambda: parts("utf-8", 2), names_of_symbols, more_folds, completion, layout, long_layout, limits, refused_words, standard, signatures, many_changes]
 for test in TESTS:
     test()

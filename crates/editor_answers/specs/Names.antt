@@ -99,25 +99,36 @@ wanted_by root leaf = option_map (λ kind. wanted kind (text_at leaf) (scope_of 
 abbrev pub wanted_at : Place → ℕ → Option Wanted
 wanted_at root offset = option_and_then (wanted_by root) (identifier_at root offset)
 
--- the definition of the name at an offset: the first one in its scope
+-- the search for the name at an offset in another document; a variable's is in none
+abbrev pub wanted_in : Place → Wanted → Option Wanted
+wanted_in other w = if is_variable w.kind then None else Some (wanted w.kind w.text other)
+
+abbrev pub wanted_elsewhere : Place → ℕ → Place → Option Wanted
+wanted_elsewhere root offset other = option_and_then (wanted_in other) (wanted_at root offset)
+
+-- the definition that is looked for: the first one in its scope
+abbrev pub definition_of : Option Wanted → Option Place
+definition_of = option_and_then (λ w. find (is_definition w.kind w.text) (at_or_below w.scope))
+
 abbrev pub definition_in : Place → ℕ → Option Place
-definition_in root offset = option_and_then (λ w. find (is_definition w.kind w.text) (at_or_below w.scope)) (wanted_at root offset)
+definition_in root offset = definition_of (wanted_at root offset)
 
--- the definition in another document of the name at an offset, which is no variable's: the first one there
-abbrev pub defined_in : Place → Wanted → Option Place
-defined_in other w = if is_variable w.kind then None else find (is_definition w.kind w.text) (at_or_below other)
-
+-- the definition in another document
 abbrev pub definition_elsewhere : Place → ℕ → Place → Option Place
-definition_elsewhere root offset other = option_and_then (defined_in other) (wanted_at root offset)
+definition_elsewhere root offset other = definition_of (wanted_elsewhere root offset other)
 
 -- a use of the name, or a definition where these count too
 abbrev pub is_reference : Bool → NameKind → List ℕ → Place → Bool
 is_reference with_definition kind text leaf = is_name kind text leaf && (with_definition || not (is_definition kind text leaf))
 
+-- the uses that are looked for: all that are in its scope, in their order
 abbrev pub references_of : Bool → Option Wanted → List Place
 references_of with_definition None = []
 references_of with_definition (Some w) = filter (is_reference with_definition w.kind w.text) (at_or_below w.scope)
 
--- the uses of the name at an offset, all that are in its scope and in their order
 abbrev pub references_in : Place → ℕ → Bool → List Place
 references_in root offset with_definition = references_of with_definition (wanted_at root offset)
+
+-- the uses in another document
+abbrev pub references_elsewhere : Place → ℕ → Place → Bool → List Place
+references_elsewhere root offset other with_definition = references_of with_definition (wanted_elsewhere root offset other)

@@ -5,9 +5,7 @@ mod ranges;
 mod symbols;
 mod tokens;
 
-pub use names::{
-    Elsewhere, answer_hover, push_highlights, push_location, push_references, push_rename,
-};
+pub use names::{Elsewhere, answer_hover, push_changes, push_location, push_locations, push_marks};
 pub use parts::{push_folds, push_selections};
 pub use ranges::push_range;
 pub use symbols::answer_symbols;

@@ -19,8 +19,8 @@ mod span;
 mod usage;
 
 pub use answers::{
-    Elsewhere, answer_hover, answer_symbols, answer_tokens, push_folds, push_highlights,
-    push_location, push_range, push_references, push_rename, push_selections,
+    Elsewhere, answer_hover, answer_symbols, answer_tokens, push_changes, push_folds,
+    push_location, push_locations, push_marks, push_range, push_selections,
 };
 pub use coloring::{SemanticToken, TOKEN_TYPES, TokenType, semantic_tokens};
 pub use folding::fold_of;
@@ -30,4 +30,4 @@ pub use names::{Meaning, NameKind, meaning_of};
 pub use outline::{Symbol, SymbolKind, symbol_of};
 pub use selecting::selection;
 pub use span::{Span, span_of};
-pub use usage::{definition, definition_elsewhere, references};
+pub use usage::{definition, definition_elsewhere, references, references_elsewhere};

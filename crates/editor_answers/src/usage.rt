@@ -1,13 +1,13 @@
 // Where a name is defined and where it is used.
 ghost use Rattle.std.specs.Prelude.{◌≡◌, IfOk, map, option_map};
-ghost use Rattle.std.specs.List.{find};
+ghost use Rattle.std.specs.List.{filter, find};
 ghost use Rattle.apollo_tree.specs.Above.{at_or_above};
 ghost use Rattle.apollo_tree.specs.Below.{at_or_below};
 ghost use Rattle.apollo_tree.specs.Order.{parent_place, range_at};
 ghost use Rattle.apollo_tree.specs.References.{node_place, token_place};
 ghost use Rattle.apollo_tree.specs.Yields.{element_place};
 ghost use Rattle.document_grammar.specs.declared.kind.SyntaxKind.TheVariants.{OPERATION_DEFINITION};
-ghost use Rattle.editor_answers.specs.Names.{above, definition_elsewhere, definition_in, is_definition, is_name, is_of, is_reference, references_in, scope_of, wanted, wanted_at};
+ghost use Rattle.editor_answers.specs.Names.{above, definition_elsewhere, definition_in, is_definition, is_name, is_of, is_reference, references_elsewhere, references_in, scope_of, wanted, wanted_at, wanted_elsewhere};
 ghost use Rattle.editor_answers.specs.Parts.{bounds};
 
 use crate::labels::identifier_at;
@@ -121,6 +121,25 @@ pub fn definition(root: SyntaxNode<'_>, offset: usize) -> Option<Span>
     first_definition(sought_at(root, offset)?)
 }
 
+// The name at an offset, as it is looked for in another document.
+fn sought_elsewhere<'t>(
+    root: SyntaxNode<'t>,
+    offset: usize,
+    other: SyntaxNode<'t>,
+) -> Option<Sought<'t>>
+    ensures { option_map (λ sought. wanted sought.kind sought.text.now (node_place sought.scope)) result ≡ wanted_elsewhere (node_place root.entry) offset (node_place other.entry) }
+{
+    let sought = sought_at(root, offset)?;
+    match sought.kind {
+        NameKind::Variable => None,
+        NameKind::Fragment | NameKind::Type | NameKind::Directive => Some(Sought {
+            kind: sought.kind,
+            text: sought.text,
+            scope: other,
+        }),
+    }
+}
+
 /// Where a document, by the root of its tree, defines the name at an offset of another; `None` where it doesn't, and for the name of a variable.
 pub fn definition_elsewhere(
     root: SyntaxNode<'_>,
@@ -129,15 +148,25 @@ pub fn definition_elsewhere(
 ) -> Option<Span>
     ensures { option_map bounds result ≡ option_map range_at (definition_elsewhere (node_place root.entry) offset (node_place other.entry)) }
 {
-    let sought = sought_at(root, offset)?;
-    match sought.kind {
-        NameKind::Variable => None,
-        NameKind::Fragment | NameKind::Type | NameKind::Directive => first_definition(Sought {
-            kind: sought.kind,
-            text: sought.text,
-            scope: other,
-        }),
+    first_definition(sought_elsewhere(root, offset, other)?)
+}
+
+// Where the name is used that is looked for, in the order of the text.
+fn all_references(
+    alloc: Global,
+    sought: Sought<'_>,
+    with_definition: bool,
+) -> Result<Vec<Span>, AllocError>
+    ensures { IfOk result (λ found. map bounds found.items ≡ map range_at
+        (filter (is_reference with_definition sought.entry.kind sought.entry.text.now) (at_or_below (node_place sought.entry.scope)))) }
+{
+    let mut found = Vec::new(alloc);
+    for element in sought.scope.descendants_with_tokens() {
+        if is_reference(element, sought, with_definition) {
+            found.push(span_of(element.text_range()))?;
+        }
     }
+    Ok(found)
 }
 
 /// Where the name is used that is at an offset of a text, or ends there, in the order of the text; where it is defined too when `with_definition`
@@ -150,14 +179,26 @@ pub fn references(
 ) -> Result<Vec<Span>, AllocError>
     ensures { IfOk result (λ found. map bounds found.items ≡ map range_at (references_in (node_place root.entry) offset with_definition)) }
 {
-    let mut found = Vec::new(alloc);
-    let Some(sought) = sought_at(root, offset) else {
-        return Ok(found);
-    };
-    for element in sought.scope.descendants_with_tokens() {
-        if is_reference(element, sought, with_definition) {
-            found.push(span_of(element.text_range()))?;
-        }
+    match sought_at(root, offset) {
+        Some(sought) => all_references(alloc, sought, with_definition),
+        None => Ok(Vec::new(alloc)),
     }
-    Ok(found)
+}
+
+/// Where a document, by the root of its tree, uses the name at an offset of another, in the order of its text; where it defines it too when
+/// `with_definition` says so. The name of a variable is used in its own document alone. It fails only where memory is refused.
+pub fn references_elsewhere(
+    alloc: Global,
+    root: SyntaxNode<'_>,
+    offset: usize,
+    other: SyntaxNode<'_>,
+    with_definition: bool,
+) -> Result<Vec<Span>, AllocError>
+    ensures { IfOk result (λ found. map bounds found.items ≡ map range_at
+        (references_elsewhere (node_place root.entry) offset (node_place other.entry) with_definition)) }
+{
+    match sought_elsewhere(root, offset, other) {
+        Some(sought) => all_references(alloc, sought, with_definition),
+        None => Ok(Vec::new(alloc)),
+    }
 }

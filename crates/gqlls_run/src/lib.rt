@@ -10,6 +10,7 @@ mod completing;
 mod documents;
 mod formatting;
 mod layout;
+mod naming;
 mod parameters;
 mod questions;
 mod running;

@@ -8,18 +8,18 @@ use crate::completing::{call_around, push_completions};
 use crate::documents::Document;
 use crate::formatting::answer_layout;
 use crate::layout::format_part;
+use crate::naming::{Occurrence, Sought};
 use crate::parameters::{asks_for_definition, new_name_of, offset_of, offsets_of, span_of};
 use crate::signature::answer_signature;
 use apollo_parser::{Limits, Parser, SyntaxNode};
 use editor_answers::{
     Elsewhere, Span, answer_hover, answer_symbols, answer_tokens, definition, definition_elsewhere,
-    identifier_at, push_folds, push_highlights, push_location, push_references, push_rename,
-    push_selections,
+    identifier_at, push_folds, push_location, push_selections,
 };
 use editor_diagnostics::Positions;
 use json::Value;
 use rpc_messages::{Piece, answer, code, refusal};
-use schema_members::{STANDARD, Schema, member_at};
+use schema_members::{STANDARD, Schema, Uses, member_at, member_named};
 use std::alloc::{AllocError, Global};
 use std::collections::BTreeMap;
 
@@ -181,6 +181,78 @@ impl<'a> Asked<'a, '_, '_> {
         Ok(roots)
     }
 
+    // The index of this document among all.
+    fn index(self) -> usize {
+        let uri = self.uri;
+        self.documents
+            .keys()
+            .take_while(|name| name.as_str() != uri)
+            .count()
+    }
+
+    // The name of the document that defines the name at a byte offset by its text, if one does.
+    fn definer_uri(self, offset: usize) -> Option<&'a str> {
+        if definition(self.root, offset).is_some() {
+            return Some(self.uri);
+        }
+        let (uri, _) = self.definer(offset)?.document?;
+        Some(uri)
+    }
+
+    // What the name at a byte offset means: a member by the types in these trees, or what its text says.
+    fn sought<'s>(
+        self,
+        roots: &'s [SyntaxNode<'a>],
+        offset: usize,
+    ) -> Result<Sought<'s, 'a>, AllocError> {
+        let schema = Schema { roots };
+        if let Some(leaf) = identifier_at(self.root, offset)
+            && let Some(member) = member_named(self.alloc, schema, self.index(), leaf)?
+        {
+            return Ok(Sought::Member(Uses::new(self.alloc, schema, member)?));
+        }
+        Ok(Sought::Name(Occurrence {
+            uri: self.uri,
+            root: self.root,
+            offset,
+            definer: self.definer_uri(offset),
+        }))
+    }
+
+    // Adds the result of references.
+    fn push_references(self, pieces: &mut Vec<Piece<'a>>, offset: usize) -> Result<(), AllocError> {
+        let roots = self.roots()?;
+        let sought = self.sought(roots.as_slice(), offset)?;
+        let with_definition = asks_for_definition(self.params);
+        sought.push_references(self.alloc, pieces, self.documents, with_definition)
+    }
+
+    // Adds the result of documentHighlight.
+    fn push_highlights(self, pieces: &mut Vec<Piece<'a>>, offset: usize) -> Result<(), AllocError> {
+        let roots = self.roots()?;
+        let sought = self.sought(roots.as_slice(), offset)?;
+        sought.push_highlights(
+            self.alloc,
+            pieces,
+            self.index(),
+            self.uri,
+            self.root,
+            self.positions,
+        )
+    }
+
+    // Adds the result of rename.
+    fn push_changes(
+        self,
+        pieces: &mut Vec<Piece<'a>>,
+        offset: usize,
+        name: &'a str,
+    ) -> Result<(), AllocError> {
+        let roots = self.roots()?;
+        let sought = self.sought(roots.as_slice(), offset)?;
+        sought.push_changes(self.alloc, pieces, self.documents, name)
+    }
+
     // The answer that lacks a parameter.
     fn refused(self, id: &Value<'_>) -> Result<Vec<u8>, AllocError>
         requires { HasNumbers (value_view id.now) }
@@ -261,15 +333,7 @@ impl<'a> Asked<'a, '_, '_> {
             return self.refused(id);
         };
         let mut pieces = Vec::new(self.alloc);
-        push_references(
-            self.alloc,
-            &mut pieces,
-            self.root,
-            self.positions,
-            self.uri,
-            offset,
-            asks_for_definition(self.params),
-        )?;
+        self.push_references(&mut pieces, offset)?;
         answer(self.alloc, id, pieces.as_slice())
     }
 
@@ -281,7 +345,7 @@ impl<'a> Asked<'a, '_, '_> {
             return self.refused(id);
         };
         let mut pieces = Vec::new(self.alloc);
-        push_highlights(self.alloc, &mut pieces, self.root, self.positions, offset)?;
+        self.push_highlights(&mut pieces, offset)?;
         answer(self.alloc, id, pieces.as_slice())
     }
 
@@ -296,15 +360,7 @@ impl<'a> Asked<'a, '_, '_> {
             return refusal(self.alloc, id, code::INVALID_PARAMS, "no name of GraphQL");
         };
         let mut pieces = Vec::new(self.alloc);
-        push_rename(
-            self.alloc,
-            &mut pieces,
-            self.root,
-            self.positions,
-            self.uri,
-            offset,
-            name,
-        )?;
+        self.push_changes(&mut pieces, offset, name)?;
         answer(self.alloc, id, pieces.as_slice())
     }
 

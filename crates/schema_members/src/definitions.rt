@@ -19,7 +19,7 @@ pub struct Member<'t> {
     pub node: SyntaxNode<'t>,
 }
 
-const TYPES: [SyntaxKind; 10] = [
+pub(crate) const TYPES: [SyntaxKind; 10] = [
     SyntaxKind::OBJECT_TYPE_DEFINITION,
     SyntaxKind::INTERFACE_TYPE_DEFINITION,
     SyntaxKind::UNION_TYPE_DEFINITION,
@@ -32,17 +32,17 @@ const TYPES: [SyntaxKind; 10] = [
     SyntaxKind::INPUT_OBJECT_TYPE_EXTENSION,
 ];
 
-const DIRECTIVES: [SyntaxKind; 1] = [SyntaxKind::DIRECTIVE_DEFINITION];
+pub(crate) const DIRECTIVES: [SyntaxKind; 1] = [SyntaxKind::DIRECTIVE_DEFINITION];
 
 const SCHEMAS: [SyntaxKind; 2] = [SyntaxKind::SCHEMA_DEFINITION, SyntaxKind::SCHEMA_EXTENSION];
 
-const MEMBERS: [SyntaxKind; 3] = [
+pub(crate) const MEMBERS: [SyntaxKind; 3] = [
     SyntaxKind::FIELD_DEFINITION,
     SyntaxKind::INPUT_VALUE_DEFINITION,
     SyntaxKind::ENUM_VALUE_DEFINITION,
 ];
 
-fn is_one_of(kind: SyntaxKind, kinds: &[SyntaxKind]) -> bool {
+pub(crate) fn is_one_of(kind: SyntaxKind, kinds: &[SyntaxKind]) -> bool {
     kinds.iter().any(|one| kind.is(*one))
 }
 
@@ -62,6 +62,12 @@ impl<'t> Member<'t> {
         }
         let name = child::<Name<'t>>(&self.node)?;
         Some(*name.syntax())
+    }
+
+    /// Whether it is the same as another one, of the same documents.
+    pub(crate) fn is_same(self, other: Member<'_>) -> bool {
+        self.document == other.document
+            && self.node.text_range().start() == other.node.text_range().start()
     }
 
     /// Its name; empty where that is missing.

@@ -169,8 +169,8 @@ impl<'t> Search<'_, 't> {
     }
 }
 
-// The word with which an operation begins, `query` where there is none.
-fn operation_word<'p>(operation: SyntaxNode<'p>) -> &'p str {
+/// The word with which an operation begins, `query` where there is none.
+pub(crate) fn operation_word<'p>(operation: SyntaxNode<'p>) -> &'p str {
     match child::<OperationType<'p>>(&operation) {
         Some(word) => word.syntax().text(),
         None => "query",

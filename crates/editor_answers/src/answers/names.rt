@@ -8,7 +8,6 @@ use crate::answers::ranges::push_range;
 use crate::hovering::{description_of, heading_of, hover_at};
 use crate::labels::identifier_at;
 use crate::span::{Span, span_of};
-use crate::usage::{definition, references};
 use apollo_tree::SyntaxNode;
 use editor_diagnostics::Positions;
 use json::Value;
@@ -27,46 +26,27 @@ pub fn push_location<'p>(
     pieces.extend_from_slice(&[Piece::EndObject])
 }
 
-// Adds a list of locations in a document.
-fn push_locations<'p>(
+/// Adds locations in a document, without the brackets of their list. It fails only where memory is refused.
+pub fn push_locations<'p>(
     pieces: &mut Vec<Piece<'p>>,
     positions: &Positions<'_>,
     uri: &'p str,
     found: &[Span],
 ) -> Result<(), AllocError> {
-    pieces.extend_from_slice(&[Piece::Array])?;
     for span in found {
         push_location(pieces, positions, uri, *span)?;
     }
-    pieces.extend_from_slice(&[Piece::EndArray])
+    Ok(())
 }
 
-/// Adds the result of references: the locations of the name at a byte offset, its definitions too when `with_definition` says so. It fails only where
-/// memory is refused.
-pub fn push_references<'p>(
-    alloc: Global,
-    pieces: &mut Vec<Piece<'p>>,
-    root: SyntaxNode<'_>,
+/// Adds the result of documentHighlight: a list of parts of the text. It fails only where memory is refused.
+pub fn push_marks(
+    pieces: &mut Vec<Piece<'_>>,
     positions: &Positions<'_>,
-    uri: &'p str,
-    offset: usize,
-    with_definition: bool,
+    found: &[Span],
 ) -> Result<(), AllocError> {
-    let found = references(alloc, root, offset, with_definition)?;
-    push_locations(pieces, positions, uri, found.as_slice())
-}
-
-/// Adds the result of documentHighlight: the parts of the text where the name at a byte offset is used or defined. It fails only where memory is refused.
-pub fn push_highlights<'p>(
-    alloc: Global,
-    pieces: &mut Vec<Piece<'p>>,
-    root: SyntaxNode<'_>,
-    positions: &Positions<'_>,
-    offset: usize,
-) -> Result<(), AllocError> {
-    let found = references(alloc, root, offset, true)?;
     pieces.extend_from_slice(&[Piece::Array])?;
-    for span in &found {
+    for span in found {
         pieces.extend_from_slice(&[Piece::Object])?;
         push_range(pieces, positions, "range", *span)?;
         pieces.extend_from_slice(&[Piece::EndObject])?;
@@ -74,8 +54,8 @@ pub fn push_highlights<'p>(
     pieces.extend_from_slice(&[Piece::EndArray])
 }
 
-// Adds a list of changes, each of a part of the text to a name.
-fn push_changes<'p>(
+/// Adds a list of changes, each of a part of the text to a name. It fails only where memory is refused.
+pub fn push_changes<'p>(
     pieces: &mut Vec<Piece<'p>>,
     positions: &Positions<'_>,
     found: &[Span],
@@ -88,31 +68,6 @@ fn push_changes<'p>(
         pieces.extend_from_slice(&[Piece::Key("newText"), Piece::Text(name), Piece::EndObject])?;
     }
     pieces.extend_from_slice(&[Piece::EndArray])
-}
-
-/// Adds the result of rename: the changes that give the name at a byte offset another text wherever it is used or defined, or null where the document
-/// does not define it. It fails only where memory is refused.
-pub fn push_rename<'p>(
-    alloc: Global,
-    pieces: &mut Vec<Piece<'p>>,
-    root: SyntaxNode<'_>,
-    positions: &Positions<'_>,
-    uri: &'p str,
-    offset: usize,
-    name: &'p str,
-) -> Result<(), AllocError> {
-    if definition(root, offset).is_none() {
-        return pieces.extend_from_slice(&[Piece::Null]);
-    }
-    let found = references(alloc, root, offset, true)?;
-    pieces.extend_from_slice(&[
-        Piece::Object,
-        Piece::Key("changes"),
-        Piece::Object,
-        Piece::Key(uri),
-    ])?;
-    push_changes(pieces, positions, found.as_slice(), name)?;
-    pieces.extend_from_slice(&[Piece::EndObject, Piece::EndObject])
 }
 
 // What is shown of a definition, as Markdown.

@@ -1,0 +1,183 @@
+// Where the open documents have a name: references, marks, renaming.
+use crate::documents::Document;
+use apollo_parser::SyntaxNode;
+use editor_answers::{
+    Span, definition_elsewhere, push_changes, push_locations, push_marks, references,
+    references_elsewhere, span_of,
+};
+use editor_diagnostics::Positions;
+use rpc_messages::Piece;
+use schema_members::Uses;
+use std::alloc::{AllocError, Global};
+use std::collections::BTreeMap;
+
+/// A name in a document, which means what its text says: the document's name, the root of its tree, the name's byte offset, and which document defines it.
+#[derive(Clone, Copy)]
+pub(crate) struct Occurrence<'a> {
+    pub uri: &'a str,
+    pub root: SyntaxNode<'a>,
+    pub offset: usize,
+    pub definer: Option<&'a str>,
+}
+
+/// What is looked for in the open documents.
+#[derive(Drop)]
+pub(crate) enum Sought<'s, 'a> {
+    /// The names that mean a member by their places.
+    Member(Uses<'s, 'a>),
+    /// The names that have a meaning by their texts.
+    Name(Occurrence<'a>),
+}
+
+// Where a document, the one with an index, names a member.
+fn uses_in(
+    alloc: Global,
+    uses: &Uses<'_, '_>,
+    index: usize,
+    with_definition: bool,
+) -> Result<Vec<Span>, AllocError> {
+    let leaves = uses.in_document(alloc, index, with_definition)?;
+    leaves
+        .as_slice()
+        .iter()
+        .map(|leaf| span_of(leaf.text_range()))
+        .collect(alloc)
+}
+
+impl Occurrence<'_> {
+    // Whether a document has names that mean the same: not where it defines the name itself, and another definition counts.
+    fn is_shared_with(self, uri: &str, root: SyntaxNode<'_>) -> bool {
+        self.definer == Some(uri) || definition_elsewhere(self.root, self.offset, root).is_none()
+    }
+
+    // Where a document has the name.
+    fn references_in(
+        self,
+        alloc: Global,
+        uri: &str,
+        root: SyntaxNode<'_>,
+        with_definition: bool,
+    ) -> Result<Vec<Span>, AllocError> {
+        if uri == self.uri {
+            references(alloc, self.root, self.offset, with_definition)
+        } else if self.is_shared_with(uri, root) {
+            references_elsewhere(alloc, self.root, self.offset, root, with_definition)
+        } else {
+            Ok(Vec::new(alloc))
+        }
+    }
+}
+
+impl Sought<'_, '_> {
+    // Where a document has it, by its index, its name and the root of its tree.
+    fn spans_in(
+        &self,
+        alloc: Global,
+        index: usize,
+        uri: &str,
+        root: SyntaxNode<'_>,
+        with_definition: bool,
+    ) -> Result<Vec<Span>, AllocError> {
+        match self {
+            Sought::Member(uses) => uses_in(alloc, uses, index, with_definition),
+            Sought::Name(name) => name.references_in(alloc, uri, root, with_definition),
+        }
+    }
+
+    // Whether it may have another name: a document defines it, by how many there are, and it is no member that another type may have to have too.
+    fn may_be_renamed(&self, documents: usize) -> bool {
+        match self {
+            Sought::Member(uses) => uses.member.document < documents && !uses.is_shared(),
+            Sought::Name(name) => name.definer.is_some(),
+        }
+    }
+
+    /// Adds the result of references: the locations where the documents have it, with its definition when `with_definition` says so.
+    pub(crate) fn push_references<'p>(
+        &self,
+        alloc: Global,
+        pieces: &mut Vec<Piece<'p>>,
+        documents: &'p BTreeMap<String, Document>,
+        with_definition: bool,
+    ) -> Result<(), AllocError> {
+        pieces.extend_from_slice(&[Piece::Array])?;
+        for (index, (uri, document)) in documents.iter().enumerate() {
+            let root = document.root();
+            let found = self.spans_in(alloc, index, uri.as_str(), root, with_definition)?;
+            push_found(alloc, pieces, uri.as_str(), document, found.as_slice())?;
+        }
+        pieces.extend_from_slice(&[Piece::EndArray])
+    }
+
+    /// Adds the result of documentHighlight: the parts of a document that have it, by its index, its name, the root of its tree and its positions.
+    pub(crate) fn push_highlights(
+        &self,
+        alloc: Global,
+        pieces: &mut Vec<Piece<'_>>,
+        index: usize,
+        uri: &str,
+        root: SyntaxNode<'_>,
+        positions: &Positions<'_>,
+    ) -> Result<(), AllocError> {
+        let found = self.spans_in(alloc, index, uri, root, true)?;
+        push_marks(pieces, positions, found.as_slice())
+    }
+
+    /// Adds the result of rename: the changes that give it another name wherever the documents have it, or null where it may not have another.
+    pub(crate) fn push_changes<'p>(
+        &self,
+        alloc: Global,
+        pieces: &mut Vec<Piece<'p>>,
+        documents: &'p BTreeMap<String, Document>,
+        name: &'p str,
+    ) -> Result<(), AllocError> {
+        if !self.may_be_renamed(documents.len()) {
+            return pieces.extend_from_slice(&[Piece::Null]);
+        }
+        pieces.extend_from_slice(&[Piece::Object, Piece::Key("changes"), Piece::Object])?;
+        for (index, (uri, document)) in documents.iter().enumerate() {
+            let found = self.spans_in(alloc, index, uri.as_str(), document.root(), true)?;
+            push_changed(
+                alloc,
+                pieces,
+                uri.as_str(),
+                document,
+                found.as_slice(),
+                name,
+            )?;
+        }
+        pieces.extend_from_slice(&[Piece::EndObject, Piece::EndObject])
+    }
+}
+
+// Adds the locations of parts of a document. Its positions are only worked out where there are some.
+fn push_found<'p>(
+    alloc: Global,
+    pieces: &mut Vec<Piece<'p>>,
+    uri: &'p str,
+    document: &Document,
+    found: &[Span],
+) -> Result<(), AllocError> {
+    if found.is_empty() {
+        return Ok(());
+    }
+    let positions = document.positions(alloc)?;
+    push_locations(pieces, &positions, uri, found)
+}
+
+// Adds the changes of parts of a document, if there are some.
+fn push_changed<'p>(
+    alloc: Global,
+    pieces: &mut Vec<Piece<'p>>,
+    uri: &'p str,
+    document: &Document,
+    found: &[Span],
+    name: &'p str,
+) -> Result<(), AllocError> {
+    if found.is_empty() {
+        return Ok(());
+    }
+    let positions = document.positions(alloc)?;
+    pieces.extend_from_slice(&[Piece::Key(uri)])?;
+    push_changes(pieces, &positions, found, name)
+}
