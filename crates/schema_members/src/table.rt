@@ -6,40 +6,30 @@ use std::alloc::{AllocError, Global};
 
 // A definition or an extension, with its name.
 #[derive(Clone, Copy)]
-struct Row<'t> {
+struct Named<'t> {
     name: &'t str,
     definition: Member<'t>,
 }
 
-/// The types and the directives of a schema in the order of their names, and those of one name in the order of the documents.
+// A member with its name, its document and the byte offset at which the definition begins that has it.
+#[derive(Clone, Copy)]
+struct Owned<'t> {
+    document: usize,
+    owner: usize,
+    name: &'t str,
+    member: Member<'t>,
+}
+
+/// The types and the directives of a schema by their names, those of one name in the order of the documents; and the members of each definition by
+/// their names.
 #[derive(Drop)]
 pub(crate) struct Table<'t> {
-    rows: Vec<Row<'t>>,
+    definitions: Vec<Named<'t>>,
+    members: Vec<Owned<'t>>,
     // the names of the types in which operations begin
     query: &'t str,
     mutation: &'t str,
     subscription: &'t str,
-}
-
-// The member of a block that has a name.
-fn member_of<'t>(document: usize, block: SyntaxNode<'t>, name: &str) -> Option<Member<'t>> {
-    for node in block.children() {
-        let member = Member { document, node };
-        if is_one_of(node.kind(), &MEMBERS) && member.name() == name {
-            return Some(member);
-        }
-    }
-    None
-}
-
-/// The member of a definition that has a name: the field or the value of a type, the argument of a field or a directive.
-pub(crate) fn member_in<'t>(definition: Member<'t>, name: &str) -> Option<Member<'t>> {
-    for block in definition.node.children() {
-        if let Some(member) = member_of(definition.document, block, name) {
-            return Some(member);
-        }
-    }
-    None
 }
 
 // Whether a definition is of an interface, or names one that its type implements.
@@ -59,35 +49,120 @@ fn has_interface(definition: SyntaxNode<'_>) -> bool {
 }
 
 // Adds the types and the directives of a document.
-fn push_rows<'t>(
+fn push_definitions<'t>(
     document: usize,
     root: SyntaxNode<'t>,
-    rows: &mut Vec<Row<'t>>,
+    definitions: &mut Vec<Named<'t>>,
 ) -> Result<(), AllocError> {
     for node in root.children() {
         let kind = node.kind();
         let name = name_in(node);
         if (is_one_of(kind, &TYPES) || is_one_of(kind, &DIRECTIVES)) && !name.is_empty() {
             let definition = Member { document, node };
-            rows.push(Row { name, definition })?;
+            definitions.push(Named { name, definition })?;
         }
     }
     Ok(())
 }
 
+// The definition that has a member: a block is between them.
+fn owner_of<'t>(member: SyntaxNode<'t>) -> Option<SyntaxNode<'t>> {
+    member.parent()?.parent()
+}
+
+// Adds the members of a document.
+fn push_members<'t>(
+    document: usize,
+    root: SyntaxNode<'t>,
+    members: &mut Vec<Owned<'t>>,
+) -> Result<(), AllocError> {
+    for node in root.descendants() {
+        if is_one_of(node.kind(), &MEMBERS)
+            && let Some(owner) = owner_of(node)
+        {
+            let member = Member { document, node };
+            members.push(Owned {
+                document,
+                owner: owner.text_range().start(),
+                name: member.name(),
+                member,
+            })?;
+        }
+    }
+    Ok(())
+}
+
+// Whether a member comes before those of a definition that have a name.
+fn is_before(member: &Owned<'_>, document: usize, owner: usize, name: &str) -> bool {
+    if member.document != document {
+        member.document < document
+    } else if member.owner != owner {
+        member.owner < owner
+    } else {
+        member.name < name
+    }
+}
+
+// The definitions of a schema in the order of their names.
+fn sorted_definitions<'t>(
+    alloc: Global,
+    schema: Schema<'_, 't>,
+) -> Result<Vec<Named<'t>>, AllocError> {
+    let mut definitions = Vec::new(alloc);
+    for (document, root) in schema.roots.iter().enumerate() {
+        push_definitions(document, *root, &mut definitions)?;
+    }
+    definitions.sort_by(|one, other| one.name.cmp(other.name))?;
+    Ok(definitions)
+}
+
+// The members of a schema in the order of their documents, of the definitions that have them, and of their names.
+fn sorted_members<'t>(alloc: Global, schema: Schema<'_, 't>) -> Result<Vec<Owned<'t>>, AllocError> {
+    let mut members = Vec::new(alloc);
+    for (document, root) in schema.roots.iter().enumerate() {
+        push_members(document, *root, &mut members)?;
+    }
+    members.sort_by(|one, other| {
+        one.document
+            .cmp(&other.document)
+            .then(one.owner.cmp(&other.owner))
+            .then(one.name.cmp(other.name))
+    })?;
+    Ok(members)
+}
+
 impl<'t> Table<'t> {
     pub(crate) fn new(alloc: Global, schema: Schema<'_, 't>) -> Result<Table<'t>, AllocError> {
-        let mut rows = Vec::new(alloc);
-        for (document, root) in schema.roots.iter().enumerate() {
-            push_rows(document, *root, &mut rows)?;
-        }
-        rows.sort_by(|one, other| one.name.cmp(other.name))?;
         Ok(Table {
-            rows,
+            definitions: sorted_definitions(alloc, schema)?,
+            members: sorted_members(alloc, schema)?,
             query: schema.root_type("query"),
             mutation: schema.root_type("mutation"),
             subscription: schema.root_type("subscription"),
         })
+    }
+
+    // The definitions of a name.
+    fn named(&self, name: &str) -> &[Named<'t>] {
+        let all = self.definitions.as_slice();
+        let start = all.partition_point(|it| it.name < name);
+        let rest = all.get(start..).unwrap_or_default();
+        let count = rest.iter().take_while(|it| it.name == name).count();
+        rest.get(..count).unwrap_or_default()
+    }
+
+    /// The member of a definition that has a name: the field or the value of a type, the argument of a field or a directive.
+    pub(crate) fn member_in(&self, definition: Member<'_>, name: &str) -> Option<Member<'t>> {
+        let document = definition.document;
+        let owner = definition.node.text_range().start();
+        let all = self.members.as_slice();
+        let start = all.partition_point(|it| is_before(it, document, owner, name));
+        let found = all.get(start)?;
+        if found.document == document && found.owner == owner && found.name == name {
+            Some(found.member)
+        } else {
+            None
+        }
     }
 
     /// The name of the type in which an operation begins.
@@ -99,20 +174,11 @@ impl<'t> Table<'t> {
         }
     }
 
-    // The rows of a name.
-    fn named(&self, name: &str) -> &[Row<'t>] {
-        let rows = self.rows.as_slice();
-        let start = rows.partition_point(|row| row.name < name);
-        let rest = rows.get(start..).unwrap_or_default();
-        let count = rest.iter().take_while(|row| row.name == name).count();
-        rest.get(..count).unwrap_or_default()
-    }
-
     /// The first definition of a directive.
     pub(crate) fn directive(&self, name: &str) -> Option<Member<'t>> {
-        for row in self.named(name) {
-            if is_one_of(row.definition.node.kind(), &DIRECTIVES) {
-                return Some(row.definition);
+        for it in self.named(name) {
+            if is_one_of(it.definition.node.kind(), &DIRECTIVES) {
+                return Some(it.definition);
             }
         }
         None
@@ -120,9 +186,9 @@ impl<'t> Table<'t> {
 
     /// The member of a type that has a name: an input field or a value, or a field that isn't one of the standard's for each type.
     pub(crate) fn member(&self, type_name: &str, name: &str) -> Option<Member<'t>> {
-        for row in self.named(type_name) {
-            if is_one_of(row.definition.node.kind(), &TYPES)
-                && let Some(member) = member_in(row.definition, name)
+        for it in self.named(type_name) {
+            if is_one_of(it.definition.node.kind(), &TYPES)
+                && let Some(member) = self.member_in(it.definition, name)
             {
                 return Some(member);
             }
@@ -148,6 +214,6 @@ impl<'t> Table<'t> {
     pub(crate) fn has_interface(&self, type_name: &str) -> bool {
         self.named(type_name)
             .iter()
-            .any(|row| has_interface(row.definition.node))
+            .any(|it| has_interface(it.definition.node))
     }
 }

@@ -6,7 +6,7 @@ ghost use Rattle.schema_members.specs.Uses.{IsIdentifier};
 
 use crate::definitions::{Member, Schema, TYPES, is_one_of, name_in, type_in};
 use crate::places::{member_at, operation_word};
-use crate::table::{Table, member_in};
+use crate::table::Table;
 use apollo_cst_core::child;
 use apollo_cst_executable::Name;
 use apollo_tree::{SyntaxKind, SyntaxNode, SyntaxToken};
@@ -182,7 +182,7 @@ impl<'s, 't> Uses<'s, 't> {
         if kind.is(SyntaxKind::FIELD) {
             self.table.field(scope.selects, name_in(node))
         } else if kind.is(SyntaxKind::ARGUMENT) {
-            member_in(scope.owner?, name_in(node))
+            self.table.member_in(scope.owner?, name_in(node))
         } else if kind.is(SyntaxKind::OBJECT_FIELD) || kind.is(SyntaxKind::ENUM_VALUE) {
             self.table.member(scope.value, name_in(node))
         } else {
