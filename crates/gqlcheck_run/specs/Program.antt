@@ -1,5 +1,5 @@
 -- What a run of the program does, by the request in its words.
-use Rattle.std.specs.Prelude.{◌≡◌, ◌⊎◌, ℕ, max, Bool, true, false, List, [], ◌∷◌, ◌++◌, Option, Some, None, Result, Ok, Err, ⊤}
+use Rattle.std.specs.Prelude.{◌≡◌, ◌⊎◌, ℕ, max, Bool, true, false, List, [], ◌∷◌, ◌++◌, codes, Option, Some, None, Result, Ok, Err, ⊤}
 use Rattle.std.specs.declared.io.Error.{Error}
 use Rattle.byte_devices.specs.Devices.{Account, moved}
 use Rattle.byte_devices.specs.Runs.{Reads}
@@ -8,7 +8,9 @@ use Rattle.byte_devices.specs.declared.fault.Fault.{Fault}
 use Rattle.document_checks.specs.Checking.{Asked}
 use Rattle.gqlfmt_files.specs.Listing.{Listing}
 use Rattle.named_files.specs.Finding.{Place, file, unreadable, IsNamed, Lists}
-use Rattle.program_words.specs.Gqlcheck.{Run}
+use Rattle.program_words.specs.Gqlcheck.{Run, request_of}
+use Rattle.program_words.specs.Misuse.{IsAmong, complaint}
+use Rattle.program_words.specs.declared.misuse.Mistake.{Mistake}
 use Rattle.program_words.specs.declared.gqlfmt.Request.{Request}
 use Rattle.program_words.specs.declared.gqlfmt.Request.TheVariants.{Print, Process}
 use Rattle.program_words.specs.declared.information.Information.{Information}
@@ -57,6 +59,10 @@ desk state = record { files = state.files; output = state.output; complaints = s
 abbrev pub Says : List ℕ → Account → Account → Type 0
 Says text old new = (new ≡ moved old text) ⊎ ((fault : Fault) × EndsWriting fault text old new)
 
+-- What is wrong with a word is said, and how the program is called; only the latter where memory is refused.
+abbrev pub Explains : List ℕ → Mistake → Account → Account → Type 0
+Explains word mistake old new = Says (complaint (codes "gqlcheck") word mistake ++ USAGE.now) old new ⊎ Says USAGE.now old new
+
 -- the page is written, with the status for it
 abbrev pub IsPrinted : List ℕ → ℕ → Account → Account → Type 0
 IsPrinted text status old new = ((status ≡ 0) × (new ≡ moved old text)) ⊎ ((status ≡ 2) × ((fault : Fault) × EndsWriting fault text old new))
@@ -88,6 +94,12 @@ pub record ChecksInput (asked : Asked) (figures : Bool) (status : ℕ) (old new 
 abbrev pub OnlySays : {S : Type 0} → List ℕ → ℕ → State S → State S → Type 0
 OnlySays text status old new =
     (status ≡ 2) × Says text old.complaints new.complaints × (new.output ≡ old.output) × (new.input ≡ old.input) × (new.files ≡ old.files)
+
+-- What is wrong with one of the words is said there, and nothing else is done.
+abbrev pub OnlyExplains : {S : Type 0} → List (List ℕ) → ℕ → State S → State S → Type 0
+OnlyExplains words status old new =
+    (word : List ℕ) × (mistake : Mistake) × IsAmong words word × (status ≡ 2) × Explains word mistake old.complaints new.complaints
+    × (new.output ≡ old.output) × (new.input ≡ old.input) × (new.files ≡ old.files)
 
 -- ---- files
 
@@ -151,14 +163,13 @@ module _ {S : Type 0} (lists : S → List ℕ → Listing → S → Type 0) (rea
   ChecksTexts asked figures [] status old new = ChecksInput asked figures status (streams old) (streams new) × (new.files ≡ old.files)
   ChecksTexts asked figures (path ∷ paths) status old new = ChecksPaths asked figures (path ∷ paths) status (desk old) (desk new) × (new.input ≡ old.input)
 
-  -- What a run does for a request. Where there is none, it says on standard error what is wrong and how the program is called, and nothing
-  -- else. The words about a mistake are not stated.
-  abbrev pub Does : Option (Request Run) → ℕ → State S → State S → Type 0
-  Does (Some (Print page)) status old new =
+  -- What a run does for the request in its words. Where there is none, a word is wrong. Which one, if there are several, and how, is not stated.
+  abbrev pub Does : List (List ℕ) → Option (Request Run) → ℕ → State S → State S → Type 0
+  Does words (Some (Print page)) status old new =
       IsPrinted (information_text page) status old.output new.output × (new.complaints ≡ old.complaints) × (new.input ≡ old.input) × (new.files ≡ old.files)
-  Does (Some (Process run)) status old new = ChecksTexts (asked_by run) run.figures run.files status old new
-  Does None status old new = (wrong : List ℕ) × OnlySays (wrong ++ USAGE.now) status old new
+  Does words (Some (Process run)) status old new = ChecksTexts (asked_by run) run.figures run.files status old new
+  Does words None status old new = OnlyExplains words status old new
 
   -- What a run does: that, or it says that memory was refused before the last of its words was read, and nothing else.
-  abbrev pub Runs : Option (Request Run) → ℕ → State S → State S → Type 0
-  Runs request status old new = Does request status old new ⊎ OnlySays NO_MEMORY.now status old new
+  abbrev pub Runs : List (List ℕ) → ℕ → State S → State S → Type 0
+  Runs words status old new = Does words (request_of words) status old new ⊎ OnlySays NO_MEMORY.now status old new

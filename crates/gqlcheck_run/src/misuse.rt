@@ -1,7 +1,5 @@
 // What is said where the program is not called so.
-ghost use Rattle.std.specs.Prelude.{◌++◌, List, ℕ};
-ghost use Rattle.gqlcheck_run.specs.Program.{Says};
-ghost use Rattle.gqlcheck_run.specs.declared.command.TheConstants.{USAGE};
+ghost use Rattle.gqlcheck_run.specs.Program.{Explains};
 
 use crate::command::USAGE;
 use crate::telling::say;
@@ -11,7 +9,7 @@ use std::alloc::Allocator;
 
 /// Says which word is wrong, and how the program is called; only the latter where memory is refused. What the sink does not take is lost.
 pub fn explain<A: Allocator, E: Sink>(alloc: A, complaints: &mut E, misuse: Misuse<'_>)
-    ensures { (wrong : List ℕ) × Says (wrong ++ USAGE.now) (E.account complaints.old) (E.account complaints.new) }
+    ensures { Explains misuse.entry.word.now misuse.entry.mistake (E.account complaints.old) (E.account complaints.new) }
 {
     match misuse.explanation(alloc, "gqlcheck", USAGE) {
         Ok(text) => say(complaints, text.as_str()),

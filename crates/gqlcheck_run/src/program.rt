@@ -1,7 +1,6 @@
 // A run of the program.
 ghost use Rattle.std.specs.Prelude.{◌≡◌};
 ghost use Rattle.document_checks.specs.Checking.{as_asked};
-ghost use Rattle.program_words.specs.Gqlcheck.{request_of};
 ghost use Rattle.program_words.specs.Gqlfmt.{texts};
 ghost use Rattle.gqlcheck_run.specs.Program.{ChecksTexts, IsPrinted, Runs, information_text};
 
@@ -98,7 +97,7 @@ pub fn run<A: Allocator + Copy, C: DocumentChecker, R: Source, W: Sink, E: Sink,
     files: &mut F,
     words: &[&str],
 ) -> u8
-    ensures { Runs F.lists F.reads (request_of (texts words.now)) result
+    ensures { Runs F.lists F.reads (texts words.now) result
         (record { input = R.account reader.old; output = W.account writer.old; complaints = E.account complaints.old; files = files.old })
         (record { input = R.account reader.new; output = W.account writer.new; complaints = E.account complaints.new; files = files.new }) }
 {

@@ -7,13 +7,19 @@ use Rattle.byte_devices.specs.declared.fault.Fault.TheVariants.{Read, Utf8, Memo
 use Rattle.marked_lines.specs.Escaping.{shown}
 use Rattle.gqlfmt_files.specs.declared.settling.Settled.{Settled}
 use Rattle.gqlfmt_files.specs.declared.settling.Settled.TheVariants.{Done, Found}
-use Rattle.gqlfmt_run.specs.declared.command.TheConstants.{NO_MEMORY}
+use Rattle.program_words.specs.Misuse.{complaint}
+use Rattle.program_words.specs.declared.misuse.Mistake.{Mistake}
+use Rattle.gqlfmt_run.specs.declared.command.TheConstants.{NO_MEMORY, USAGE}
 use Rattle.gqlfmt_run.specs.declared.fault.FileFault.{FileFault}
 use Rattle.gqlfmt_run.specs.declared.fault.FileFault.TheVariants.{NotRead, NotReplaced, Device}
 
 -- All of the text is written, or the writer broke off.
 abbrev pub IsWritten : List ℕ → Account → Account → Type 0
 IsWritten text old new = (new ≡ moved old text) ⊎ IsBroken text old new
+
+-- What is wrong with a word is said, and how the program is called; only the latter where memory is refused.
+abbrev pub Explains : List ℕ → Mistake → Account → Account → Type 0
+Explains word mistake old new = IsWritten (complaint (codes "gqlfmt") word mistake ++ USAGE.now) old new ⊎ IsWritten USAGE.now old new
 
 abbrev pub reason_of : Fault → List ℕ
 reason_of Read = codes "cannot read"

@@ -5,7 +5,9 @@ use Rattle.byte_devices.specs.Devices.{Account, moved}
 use Rattle.byte_devices.specs.Writing.{IsBroken}
 use Rattle.byte_devices.specs.Runs.{Reads, Writes}
 use Rattle.byte_devices.specs.declared.fault.Fault.{Fault}
-use Rattle.program_words.specs.Gqlfmt.{Run}
+use Rattle.program_words.specs.Gqlfmt.{Run, request_of}
+use Rattle.program_words.specs.Misuse.{IsAmong}
+use Rattle.program_words.specs.declared.misuse.Mistake.{Mistake}
 use Rattle.gqlfmt_files.specs.declared.settling.Mode.{Mode}
 use Rattle.gqlfmt_files.specs.declared.settling.Settled.{Settled}
 use Rattle.program_words.specs.declared.information.Information.{Information}
@@ -15,7 +17,7 @@ use Rattle.program_words.specs.declared.gqlfmt.Request.TheVariants.{Print, Proce
 use Rattle.gqlfmt_run.specs.declared.job.Bounds.{Bounds}
 use Rattle.gqlfmt_run.specs.declared.command.TheConstants.{USAGE, HELP, VERSION, NO_MEMORY}
 use Rattle.gqlfmt_run.specs.Status.{status_of}
-use Rattle.gqlfmt_run.specs.Complaints.{IsWritten, Says}
+use Rattle.gqlfmt_run.specs.Complaints.{Explains, IsWritten, Says}
 use Rattle.gqlfmt_run.specs.Input.{IsOutput}
 use Rattle.gqlfmt_files.specs.Listing.{Listing}
 use Rattle.gqlfmt_run.specs.Paths.{Desk}
@@ -66,6 +68,12 @@ abbrev pub OnlySays : {S : Type 0} → List ℕ → ℕ → State S → State S 
 OnlySays text status old new =
     (status ≡ 2) × IsWritten text old.complaints new.complaints × (new.output ≡ old.output) × (new.input ≡ old.input) × (new.files ≡ old.files)
 
+-- What is wrong with one of the words is said there, and nothing else is done.
+abbrev pub OnlyExplains : {S : Type 0} → List (List ℕ) → ℕ → State S → State S → Type 0
+OnlyExplains words status old new =
+    (word : List ℕ) × (mistake : Mistake) × IsAmong words word × (status ≡ 2) × Explains word mistake old.complaints new.complaints
+    × (new.output ≡ old.output) × (new.input ≡ old.input) × (new.files ≡ old.files)
+
 -- the files, as a trait tells what its three calls do
 module _ {S : Type 0} (lists : S → List ℕ → Listing → S → Type 0) (reads : S → List ℕ → Result (List ℕ) Error → S → Type 0)
     (replaces : S → List ℕ → List ℕ → Bool → S → Type 0) where
@@ -75,14 +83,13 @@ module _ {S : Type 0} (lists : S → List ℕ → Listing → S → Type 0) (rea
   Formats mode bounds name (path ∷ paths) status old new =
       (new.input ≡ old.input) × FormatsPaths lists reads replaces mode bounds (path ∷ paths) ignore_files [] status (desk old) (desk new)
 
-  -- What a run does for a request. Where there is none, it says on standard error what is wrong and how the program is called, and nothing else. The words
-  -- about a mistake are not stated.
-  abbrev pub Does : Option (Request Run) → ℕ → State S → State S → Type 0
-  Does (Some (Print page)) status old new =
+  -- What a run does for the request in its words. Where there is none, a word is wrong. Which one, if there are several, and how, is not stated.
+  abbrev pub Does : List (List ℕ) → Option (Request Run) → ℕ → State S → State S → Type 0
+  Does words (Some (Print page)) status old new =
       IsPrinted (information_text page) status old.output new.output × (new.complaints ≡ old.complaints) × (new.input ≡ old.input) × (new.files ≡ old.files)
-  Does (Some (Process run)) status old new = Formats run.mode (bounds_of run) run.name run.files status old new
-  Does None status old new = (wrong : List ℕ) × OnlySays (wrong ++ USAGE.now) status old new
+  Does words (Some (Process run)) status old new = Formats run.mode (bounds_of run) run.name run.files status old new
+  Does words None status old new = OnlyExplains words status old new
 
   -- What a run does: that, or it says that memory was refused before the last of its words was read, and nothing else.
-  abbrev pub Runs : Option (Request Run) → ℕ → State S → State S → Type 0
-  Runs request status old new = Does request status old new ⊎ OnlySays NO_MEMORY.now status old new
+  abbrev pub Runs : List (List ℕ) → ℕ → State S → State S → Type 0
+  Runs words status old new = Does words (request_of words) status old new ⊎ OnlySays NO_MEMORY.now status old new

@@ -2,7 +2,7 @@
 ghost use Rattle.std.specs.Prelude.{◌≡◌, OnOk, OnErr};
 ghost use Rattle.byte_devices.specs.Devices.{moved};
 ghost use Rattle.byte_devices.specs.Writing.{IsBroken};
-ghost use Rattle.program_words.specs.Gqlfmt.{texts, request_of};
+ghost use Rattle.program_words.specs.Gqlfmt.{texts};
 ghost use Rattle.gqlfmt_run.specs.Program.{information_text, IsPrinted, FormatsInput, Formats, Runs};
 
 use crate::command::{HELP, NO_MEMORY, USAGE, VERSION};
@@ -101,7 +101,7 @@ pub fn run<
     files: &mut F,
     words: &[&str],
 ) -> u8
-    ensures { Runs F.lists F.reads F.replaces (request_of (texts words.now)) result
+    ensures { Runs F.lists F.reads F.replaces (texts words.now) result
         (record { input = R.account reader.old; output = W.account writer.old; complaints = E.account complaints.old; files = files.old })
         (record { input = R.account reader.new; output = W.account writer.new; complaints = E.account complaints.new; files = files.new }) }
 {

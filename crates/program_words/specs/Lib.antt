@@ -9,3 +9,4 @@ pub mod Reading
 pub mod Gqlcheck
 pub mod CheckReading
 pub mod FormatReading
+pub mod Misuse

@@ -1,7 +1,8 @@
 // The words of `gqlcheck`.
-ghost use Rattle.std.specs.Prelude.{◌≡◌, ◌≤◌, [], length, IfOk, option_map};
+ghost use Rattle.std.specs.Prelude.{◌≡◌, ◌≤◌, [], length, IfOk, option_map, codes};
 ghost use Rattle.program_words.specs.Gqlfmt.{texts, request_map, IsRead};
 ghost use Rattle.program_words.specs.Gqlcheck.{figure_set, figures_set, is_flag, limit_named, no_settings, put_figure, request_of, run_from, sets_limit};
+ghost use Rattle.program_words.specs.Misuse.{IsAbout, IsAmong};
 ghost use Rattle.program_words.specs.Reading.{IsTakenFrom};
 ghost use Rattle.program_words.specs.Gqlcheck.{run_unless, with_input, with_figure, with_flag, with_operation, with_value};
 ghost use Rattle.program_words.specs.CheckReading.{as_plan, as_settings};
@@ -285,6 +286,7 @@ fn take_first<'a, A: Allocator>(
     ensures taken { IsTakenFrom run_from word.now more.now (as_settings read.old.settings) (texts read.old.files.items)
         (as_settings read.new.settings) (texts read.new.files.items) result }
     ensures within { IfOk result (λ count. count ≤ length more.now) }
+    ensures about { IsAbout (λ wrong. wrong ≡ word.now) result }
 {
     if word == "--" {
         read.files.extend_from_slice(more)?;
@@ -314,7 +316,8 @@ fn take_first<'a, A: Allocator>(
 
 // The run of these settings and files.
 fn finished<'a, A: Allocator>(read: Read<'a, A>) -> Result<Plan<'a, A>, WordsError<'a>>
-    ensures { IsRead as_plan (run_unless (as_settings read.entry.settings) (texts read.entry.files.items)) result }
+    ensures run { IsRead as_plan (run_unless (as_settings read.entry.settings) (texts read.entry.files.items)) result }
+    ensures about { IsAbout (λ wrong. wrong ≡ codes "-") result }
 {
     let settings = read.settings;
     if settings.input && read.files.len() > 0 {
@@ -332,7 +335,8 @@ fn finished<'a, A: Allocator>(read: Read<'a, A>) -> Result<Plan<'a, A>, WordsErr
 
 // The run of the words.
 fn plan_of<'a, A: Allocator>(alloc: A, words: &[&'a str]) -> Result<Plan<'a, A>, WordsError<'a>>
-    ensures { IsRead as_plan (run_from no_settings [] (texts words.now)) result }
+    ensures run { IsRead as_plan (run_from no_settings [] (texts words.now)) result }
+    ensures about { IsAbout (IsAmong (texts words.now)) result }
 {
     let mut read = Read {
         settings: Settings::nothing(),
@@ -352,7 +356,8 @@ pub fn options<'a, A: Allocator>(
     alloc: A,
     words: &[&'a str],
 ) -> Result<Request<Plan<'a, A>>, WordsError<'a>>
-    ensures { IsRead (request_map as_plan) (request_of (texts words.now)) result }
+    ensures request { IsRead (request_map as_plan) (request_of (texts words.now)) result }
+    ensures about { IsAbout (IsAmong (texts words.now)) result }
 {
     if let Some(page) = information_of(words) {
         return Ok(Request::Print(page));

@@ -1,8 +1,9 @@
 // The words of `gqlfmt`.
-ghost use Rattle.std.specs.Prelude.{◌≡◌, ◌≤◌, [], length, IfOk, option_map};
+ghost use Rattle.std.specs.Prelude.{◌≡◌, ◌≤◌, [], length, IfOk, option_map, codes};
 ghost use Rattle.program_words.specs.FormatReading.{as_plan, as_settings};
 ghost use Rattle.program_words.specs.Gqlfmt.{IsRead, is_input, is_option, line_endings_of, mode_of, no_settings, request_map, request_of, run_from, run_unless};
 ghost use Rattle.program_words.specs.Gqlfmt.{texts, with_input, with_line_endings, with_mode, with_most_output, with_name, with_value};
+ghost use Rattle.program_words.specs.Misuse.{IsAbout, IsAmong};
 ghost use Rattle.program_words.specs.Reading.{IsTakenFrom};
 
 use crate::information::{Information, information_of};
@@ -236,6 +237,7 @@ fn take_first<'a, A: Allocator>(
     ensures taken { IsTakenFrom run_from word.now more.now (as_settings read.old.settings) (texts read.old.files.items)
         (as_settings read.new.settings) (texts read.new.files.items) result }
     ensures within { IfOk result (λ count. count ≤ length more.now) }
+    ensures about { IsAbout (λ wrong. wrong ≡ word.now) result }
 {
     if word == "--" {
         read.files.extend_from_slice(more)?;
@@ -265,7 +267,8 @@ fn take_first<'a, A: Allocator>(
 
 // The run of these settings and files.
 fn finished<'a, A: Allocator>(read: Read<'a, A>) -> Result<Plan<'a, A>, WordsError<'a>>
-    ensures { IsRead as_plan (run_unless (as_settings read.entry.settings) (texts read.entry.files.items)) result }
+    ensures run { IsRead as_plan (run_unless (as_settings read.entry.settings) (texts read.entry.files.items)) result }
+    ensures about { IsAbout (λ wrong. wrong ≡ codes "-") result }
 {
     let settings = read.settings;
     if settings.input && read.files.len() > 0 {
@@ -283,7 +286,8 @@ fn finished<'a, A: Allocator>(read: Read<'a, A>) -> Result<Plan<'a, A>, WordsErr
 
 // The run of the words.
 fn plan_of<'a, A: Allocator>(alloc: A, words: &[&'a str]) -> Result<Plan<'a, A>, WordsError<'a>>
-    ensures { IsRead as_plan (run_from no_settings [] (texts words.now)) result }
+    ensures run { IsRead as_plan (run_from no_settings [] (texts words.now)) result }
+    ensures about { IsAbout (IsAmong (texts words.now)) result }
 {
     let mut read = Read {
         settings: Settings::nothing(),
@@ -303,7 +307,8 @@ pub fn options<'a, A: Allocator>(
     alloc: A,
     words: &[&'a str],
 ) -> Result<Request<Plan<'a, A>>, WordsError<'a>>
-    ensures { IsRead (request_map as_plan) (request_of (texts words.now)) result }
+    ensures request { IsRead (request_map as_plan) (request_of (texts words.now)) result }
+    ensures about { IsAbout (IsAmong (texts words.now)) result }
 {
     if let Some(page) = information_of(words) {
         return Ok(Request::Print(page));

@@ -1,6 +1,7 @@
 // Why a program is not called so.
-ghost use Rattle.std.specs.Prelude.{◌≡◌, ◌++◌, ℕ, List, IfOk, string_bytes};
-ghost use Rattle.program_words.specs.declared.misuse.WordsError.TheVariants.{Memory};
+ghost use Rattle.std.specs.Prelude.{◌≡◌, ◌++◌, IfOk, string_bytes};
+ghost use Rattle.program_words.specs.Misuse.{after, before, complaint};
+ghost use Rattle.program_words.specs.declared.misuse.WordsError.TheVariants.{Memory, Usage};
 
 use marked_lines::push_escaped;
 use std::alloc::{AllocError, Allocator};
@@ -31,7 +32,10 @@ pub struct Misuse<'a> {
 
 impl Misuse<'_> {
     // The words around the word that is wrong, in a line about it.
-    fn words(&self) -> (&'static str, &'static str) {
+    fn words(&self) -> (&'static str, &'static str)
+        ensures before { result.0.now ≡ before self.now.mistake }
+        ensures after { result.1.now ≡ after self.now.mistake }
+    {
         match self.mistake {
             Mistake::Unknown => ("unknown option ", ""),
             Mistake::NoValue => ("", " has no value"),
@@ -50,7 +54,7 @@ impl Misuse<'_> {
         program: &str,
         usage: &str,
     ) -> Result<String<A>, AllocError>
-        ensures { IfOk result (λ text. (wrong : List ℕ) × (string_bytes text ≡ wrong ++ usage.now)) }
+        ensures { IfOk result (λ text. string_bytes text ≡ complaint program.now self.now.word.now self.now.mistake ++ usage.now) }
     {
         let (before, after) = self.words();
         let mut text = String::from_str(alloc, program)?;
@@ -83,7 +87,9 @@ impl<'a> From<AllocError> for WordsError<'a> {
 
 impl<'a> WordsError<'a> {
     /// That a word is wrong.
-    pub(crate) fn of(word: &'a str, mistake: Mistake) -> WordsError<'a> {
+    pub(crate) fn of(word: &'a str, mistake: Mistake) -> WordsError<'a>
+        ensures { result ≡ Usage (record { word = word.entry; mistake = mistake }) }
+    {
         WordsError::Usage(Misuse { word, mistake })
     }
 }
