@@ -3,7 +3,7 @@ use Rattle.std.proofs.Common.{◌≡◌, ℕ, ◌+◌, ◌<◌, ◌≤◌, ◌�
 use Rattle.std.proofs.Common.{refl, sym, ap, ◌∙◌, subst, arith, inl, inr, get_or-set_other, get_or-set_same, below_more, ◌&&◌, ◌||◌, not}
 use Rattle.std.proofs.Common.{◌++◌, length-drop, replicate}
 use Rattle.std.proofs.lemmas.Bool.{cases_eq, cases_lt, eq-eqb, ne_eqb}
-use Rattle.std.proofs.lemmas.List.{at_drop_all, at_drop_more, drop_more, get_or-replicate, get_or_append_left, get_or_push, length-replicate}
+use Rattle.std.proofs.lemmas.List.{at_drop_more, drop_more, get_or-replicate, get_or_append_left, get_or_push, length-replicate}
 use Rattle.std.specs.Prelude.{◌==◌}
 use Rattle.ignore_rules.specs.Fits.{Sign, takes, after_byte, after_bytes, after_slash, after_sign, fits}
 use Rattle.ignore_rules.specs.Tables.{IsTable}
@@ -47,15 +47,6 @@ split_all test from path table split = λ k inside. split.lower k (omega arith)
 
 pub split_none : (before test : List ℕ → Bool) (path : List ℕ) (table : List Bool) → IsSplit before test path 0 table → IsTable test path table
 split_none before test path table split = λ k inside. split.upper k (omega arith) inside
-
--- the last entry alone, which stays as it is
-pub split_last : (test from : List ℕ → Bool) (path : List ℕ) (table : List Bool) → test [] ≡ from [] → IsTable test path table
-    → IsSplit test from path (length path) table
-split_last test from path table same is = record {
-  lower = λ k low. is k (omega arith);
-  upper = λ k high inside.
-      is k inside ∙ at_drop_all test path k high ∙ same ∙ sym (at_drop_all from path k high);
-}
 
 -- what an entry is, by the next one
 pub byte_entry : (sign : Sign) (test : List ℕ → Bool) (path : List ℕ) (i : ℕ) → i < length path
