@@ -27,7 +27,7 @@ PARTS = {
 # Laws, and calls between crates: the page has their lemmas, and no definitions are listed for them.
 LAWS = """lexical_grammar/src/lib.rt lexical_grammar/src/escapes.rt document_grammar/src/kind.rt document_grammar/src/laws.rt grammar_machine/src/laws.rt
     apollo_lexer/src/laws.rt apollo_parser/src/laws.rt apollo_cst_core/src/typed.rt apollo_cst_core/src/strings.rt format_tokens/src/layout.rt
-    format_strings/src/spelling.rt format_layout/src/laws.rt"""
+    format_strings/src/spelling.rt format_layout/src/laws.rt format_layout/src/slot.rt"""
 # How many lines of definitions a call needs, which README and docs/PROMISES.md say.
 COUNTED = {
     "`parse`, and parts of documents": "apollo_parser/src/parser.rt",

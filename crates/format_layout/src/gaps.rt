@@ -5,9 +5,6 @@ use crate::walk::slots_of;
 use format_tokens::Gap;
 use std::alloc::{AllocError, Allocator};
 
-// How many spaces a level of indent has.
-const INDENT: u16 = 2;
-
 // How many columns a line has at most, where it can be broken.
 const MAX_WIDTH: usize = 80;
 
@@ -40,16 +37,6 @@ pub struct Advice {
     pub gap: Gap,
     /// Whether the token stays letter by letter.
     pub is_written: bool,
-}
-
-// The end of a number of lines, and the indent of a level.
-#[inline(always)]
-fn line(lines: u8, level: u16) -> Gap {
-    Gap {
-        comma: false,
-        lines,
-        spaces: level.saturating_mul(INDENT),
-    }
 }
 
 /// The column after a gap that begins in a column.
@@ -87,33 +74,10 @@ impl<A: Allocator + Copy> Gaps<A> {
         self.slots.is_empty()
     }
 
-    // What is in the slot while the group around it does not break.
+    // How many levels deep a line that begins at the slot is indented.
     #[inline(always)]
-    fn plain_gap(&self, slot: Slot) -> Gap {
-        match slot.separator {
-            Separator::Nothing | Separator::SoftNothing | Separator::Written => Gap::NONE,
-            Separator::Space | Separator::SoftSpace => Gap::SPACE,
-            Separator::Comma | Separator::BlankComma => Gap {
-                comma: true,
-                ..Gap::SPACE
-            },
-            Separator::Line => line(1, slot.level.saturating_add(self.broken_count)),
-            Separator::BlankLine => line(2, slot.level.saturating_add(self.broken_count)),
-        }
-    }
-
-    // What is in the slot of a group that breaks.
-    #[inline(always)]
-    fn broken_gap(&self, slot: Slot) -> Gap {
-        if !slot.separator.is_soft() {
-            return self.plain_gap(slot);
-        }
-        let lines = if matches!(slot.separator, Separator::BlankComma) {
-            2
-        } else {
-            1
-        };
-        line(lines, slot.level.saturating_add(self.broken_count))
+    fn level(&self, slot: Slot) -> u16 {
+        slot.level.saturating_add(self.broken_count)
     }
 
     // Begins a group.
@@ -142,17 +106,13 @@ impl<A: Allocator + Copy> Gaps<A> {
 
     // What is in the slot of the first token of a group without brackets, which has this form where it breaks.
     fn first_gap(&mut self, slot: Slot, column: usize, broken: Form) -> Result<Gap, AllocError> {
-        let plain = self.plain_gap(slot);
-        if fits(slot, column_after(plain, column)) {
+        let flat = slot.separator.flat(self.level(slot));
+        if fits(slot, column_after(flat, column)) {
             self.begin(Form::Flat)?;
-            return Ok(plain);
+            return Ok(flat);
         }
         self.begin(broken)?;
-        if slot.separator.is_soft() {
-            Ok(self.broken_gap(slot))
-        } else {
-            Ok(plain)
-        }
+        Ok(slot.separator.broken(self.level(slot)))
     }
 
     // What is in the slot of a token in a group, or of its opening or closing bracket.
@@ -161,10 +121,11 @@ impl<A: Allocator + Copy> Gaps<A> {
         if matches!(slot.part, Part::Close) {
             self.end();
         }
+        let level = self.level(slot);
         let gap = if is_broken {
-            self.broken_gap(slot)
+            slot.separator.broken(level)
         } else {
-            self.plain_gap(slot)
+            slot.separator.flat(level)
         };
         if matches!(slot.part, Part::Open) {
             let form = if fits(slot, column_after(gap, column)) {
@@ -213,7 +174,7 @@ impl<A: Allocator + Copy> Gaps<A> {
             && !slot.is_after_group
             && matches!(slot.part, Part::Neither);
         let gap = if is_plain {
-            self.plain_gap(slot)
+            slot.separator.flat(self.level(slot))
         } else {
             self.group_gap(slot, column)?
         };

@@ -1,4 +1,11 @@
 // The place before a token, as the walk over the tree leaves it. Whether a group breaks that begins there is known only with its column.
+ghost use Rattle.std.specs.Prelude.{◌≡◌, ◌<◌, true, false};
+ghost use Rattle.format_layout.specs.Breaking.{ends_line};
+
+use format_tokens::Gap;
+
+// How many spaces a level of indent has.
+const INDENT: u16 = 2;
 
 /// What separates a token from the one before it.
 #[derive(Clone, Copy)]
@@ -21,6 +28,19 @@ pub enum Separator {
     BlankLine,
     /// The white space and the commas of the source.
     Written,
+}
+
+// The end of a number of lines, and the indent of a level.
+#[inline(always)]
+fn line(lines: u8, level: u16) -> Gap
+    ensures lines { result.lines ≡ lines }
+    ensures comma { result.comma ≡ false }
+{
+    Gap {
+        comma: false,
+        lines,
+        spaces: level.saturating_mul(INDENT),
+    }
 }
 
 impl Separator {
@@ -46,6 +66,36 @@ impl Separator {
             Separator::Comma | Separator::BlankComma => 2,
             Separator::Space | Separator::SoftSpace => 1,
             _ => 0,
+        }
+    }
+
+    /// What it is while the group around it does not break. A line that begins after it is indented by a number of levels.
+    #[inline(always)]
+    pub fn flat(self, level: u16) -> Gap {
+        match self {
+            Separator::Nothing | Separator::SoftNothing | Separator::Written => Gap::NONE,
+            Separator::Space | Separator::SoftSpace => Gap::SPACE,
+            Separator::Comma | Separator::BlankComma => Gap {
+                comma: true,
+                ..Gap::SPACE
+            },
+            Separator::Line => line(1, level),
+            Separator::BlankLine => line(2, level),
+        }
+    }
+
+    /// What it is in a group that breaks: the end of a line at each comma and at each place where a line may end, and no comma.
+    #[inline(always)]
+    pub fn broken(self, level: u16) -> Gap
+        ensures lines { ends_line self ≡ true → 0 < result.lines }
+        ensures comma { result.comma ≡ false }
+    {
+        match self {
+            Separator::Nothing | Separator::Written => Gap::NONE,
+            Separator::Space => Gap::SPACE,
+            Separator::SoftNothing | Separator::SoftSpace | Separator::Comma | Separator::Line =>
+                line(1, level),
+            Separator::BlankComma | Separator::BlankLine => line(2, level),
         }
     }
 
