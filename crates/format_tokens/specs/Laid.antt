@@ -1,8 +1,8 @@
 -- What a writer has written: which significant tokens and comments, and what the text ends with.
-use Rattle.std.specs.Prelude.{◌≡◌, ℕ, Bool, true, ◌||◌, ◌==◌, List, ◌++◌}
+use Rattle.std.specs.Prelude.{◌≡◌, ℕ, ◌+◌, Bool, true, ◌||◌, ◌==◌, List, ◌++◌, length}
 use Rattle.lexical_grammar.specs.declared.TokenKind.TheVariants as token
 use Rattle.lexical_grammar.specs.declared.edge.Edge.{Edge}
-use Rattle.lexical_grammar.specs.declared.edge.Edge.TheVariants.{Whitespace}
+use Rattle.lexical_grammar.specs.declared.edge.Edge.TheVariants.{Comment, Whitespace}
 use Rattle.lexical_grammar.specs.Cut.{Word}
 use Rattle.lexical_grammar.specs.Edges.{may_touch, AreTokens, are_apart, last_edge, joined}
 use Rattle.lexical_grammar.specs.Kept.{kept_word, kept}
@@ -33,3 +33,8 @@ is_gap_byte b = b == 10 || b == 32
 abbrev pub takes_blank : Edge → ℕ → Bool
 takes_blank Whitespace b = true
 takes_blank edge b = may_touch edge token.Whitespace b
+
+-- how many bytes the text has, and one more for the line feed that is still to follow where it ends with a comment
+abbrev pub ended_length : List ℕ → Edge → ℕ
+ended_length text Comment = length text + 1
+ended_length text edge = length text

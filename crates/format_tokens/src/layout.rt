@@ -1,12 +1,12 @@
 // The writer of tokens and of the gaps between them. Functions called for each token are inlined: the whole program takes some 3 % less time.
-ghost use Rattle.std.specs.Prelude.{◌≡◌, ◌<◌, true, false, [], List, IfOk, OnOk, length, slice_index, string_bytes};
+ghost use Rattle.std.specs.Prelude.{◌≡◌, ◌+◌, ◌<◌, ◌≤◌, true, false, [], List, IfOk, OnOk, length, slice_index, string_bytes};
 ghost use Rattle.std.specs.List.{list_all};
 ghost use Rattle.lexical_grammar.specs.Cut.{Word};
 ghost use Rattle.lexical_grammar.specs.Tokens.{Tok};
 ghost use Rattle.lexical_grammar.specs.Edges.{touches};
 ghost use Rattle.lexical_grammar.specs.Kept.{Holds, is_kept_kind};
 ghost use Rattle.lexical_grammar.specs.declared.edge.Edge.TheVariants.{Whitespace};
-ghost use Rattle.format_tokens.specs.Laid.{Adds, Keeps, Laid, is_gap_byte, takes_blank};
+ghost use Rattle.format_tokens.specs.Laid.{Adds, Keeps, Laid, ended_length, is_gap_byte, takes_blank};
 
 use crate::gap::Gap;
 use lexical_grammar::{Edge, TokenKind};
@@ -28,7 +28,8 @@ pub struct Layout<A: Allocator> {
 impl<A: Allocator> Layout<A> {
     /// A writer that has written nothing, with room for `capacity` bytes. It fails only where memory is refused.
     pub fn with_capacity(alloc: A, capacity: usize) -> Result<Layout<A>, AllocError>
-        ensures { IfOk result (λ l. Laid (string_bytes l.text) l.edge []) }
+        ensures laid { IfOk result (λ l. Laid (string_bytes l.text) l.edge []) }
+        ensures empty { IfOk result (λ l. ended_length (string_bytes l.text) l.edge ≡ 0) }
     {
         Ok(Layout {
             text: String::with_capacity(alloc, capacity)?,
@@ -60,6 +61,7 @@ impl<A: Allocator> Layout<A> {
         requires apart { takes_blank self.old.edge (slice_index run.now 0) ≡ true }
         ensures keeps { OnOk result (Keeps (string_bytes self.old.text) self.old.edge (string_bytes self.new.text) self.new.edge) }
         ensures edge { OnOk result (self.new.edge ≡ Whitespace) }
+        ensures short { OnOk result (ended_length (string_bytes self.new.text) self.new.edge ≤ length (string_bytes self.old.text) + length run.now) }
     {
         self.text.push_str(run)?;
         self.edge = Edge::Whitespace;
@@ -71,6 +73,7 @@ impl<A: Allocator> Layout<A> {
     pub fn line(&mut self) -> Result<(), AllocError>
         ensures keeps { OnOk result (Keeps (string_bytes self.old.text) self.old.edge (string_bytes self.new.text) self.new.edge) }
         ensures edge { OnOk result (self.new.edge ≡ Whitespace) }
+        ensures short { OnOk result (ended_length (string_bytes self.new.text) self.new.edge ≤ length (string_bytes self.old.text) + 1) }
     {
         self.push_blanks("\n")
     }
@@ -81,6 +84,7 @@ impl<A: Allocator> Layout<A> {
         requires { list_all is_gap_byte run.now ≡ true }
         ensures keeps { OnOk result (Keeps (string_bytes self.old.text) self.old.edge (string_bytes self.new.text) self.new.edge) }
         ensures edge { OnOk result (0 < length run.now → self.new.edge ≡ Whitespace) }
+        ensures short { OnOk result (ended_length (string_bytes self.new.text) self.new.edge ≤ ended_length (string_bytes self.old.text) self.old.edge + length run.now) }
     {
         let Some(first) = run.as_bytes().first() else {
             return Ok(());
@@ -95,7 +99,8 @@ impl<A: Allocator> Layout<A> {
     // So many spaces.
     #[inline(always)]
     fn spaces(&mut self, count: usize) -> Result<(), AllocError>
-        ensures { OnOk result (Keeps (string_bytes self.old.text) self.old.edge (string_bytes self.new.text) self.new.edge) }
+        ensures keeps { OnOk result (Keeps (string_bytes self.old.text) self.old.edge (string_bytes self.new.text) self.new.edge) }
+        ensures short { OnOk result (ended_length (string_bytes self.new.text) self.new.edge ≤ ended_length (string_bytes self.old.text) self.old.edge + count) }
     {
         if count == 1 {
             // between most tokens
@@ -113,7 +118,8 @@ impl<A: Allocator> Layout<A> {
     // A comma, but nothing after a comment.
     #[inline(always)]
     fn comma(&mut self) -> Result<(), AllocError>
-        ensures { OnOk result (Keeps (string_bytes self.old.text) self.old.edge (string_bytes self.new.text) self.new.edge) }
+        ensures keeps { OnOk result (Keeps (string_bytes self.old.text) self.old.edge (string_bytes self.new.text) self.new.edge) }
+        ensures short { OnOk result (ended_length (string_bytes self.new.text) self.new.edge ≤ ended_length (string_bytes self.old.text) self.old.edge + 1) }
     {
         if !self.edge.may_touch(TokenKind::Comma, b',') {
             return Ok(());
@@ -126,7 +132,8 @@ impl<A: Allocator> Layout<A> {
     /// Writes what is to be before a token. It fails only where memory is refused.
     #[inline(always)]
     pub fn gap(&mut self, gap: Gap) -> Result<(), AllocError>
-        ensures { OnOk result (Keeps (string_bytes self.old.text) self.old.edge (string_bytes self.new.text) self.new.edge) }
+        ensures keeps { OnOk result (Keeps (string_bytes self.old.text) self.old.edge (string_bytes self.new.text) self.new.edge) }
+        ensures short { OnOk result (ended_length (string_bytes self.new.text) self.new.edge ≤ ended_length (string_bytes self.old.text) self.old.edge + gap.lines + gap.spaces + 1) }
     {
         if gap.comma {
             self.comma()?;
@@ -149,7 +156,8 @@ impl<A: Allocator> Layout<A> {
     fn put(&mut self, kind: TokenKind, text: &str) -> Result<(), AllocError>
         requires token { Tok kind text.now }
         requires apart { touches self.old.edge (record { kind = kind; text = text.now }) ≡ true }
-        ensures { OnOk result (Adds (string_bytes self.old.text) self.old.edge (record { kind = kind; text = text.now }) (string_bytes self.new.text) self.new.edge) }
+        ensures adds { OnOk result (Adds (string_bytes self.old.text) self.old.edge (record { kind = kind; text = text.now }) (string_bytes self.new.text) self.new.edge) }
+        ensures short { OnOk result (ended_length (string_bytes self.new.text) self.new.edge ≤ length (string_bytes self.old.text) + length text.now + 1) }
     {
         self.text.push_str(text)?;
         self.edge = Edge::of(kind, text);
@@ -162,7 +170,8 @@ impl<A: Allocator> Layout<A> {
     pub fn token(&mut self, kind: TokenKind, text: &str) -> Result<(), AllocError>
         requires token { Tok kind text.now }
         requires kept { is_kept_kind kind ≡ true }
-        ensures { OnOk result (Adds (string_bytes self.old.text) self.old.edge (record { kind = kind; text = text.now }) (string_bytes self.new.text) self.new.edge) }
+        ensures adds { OnOk result (Adds (string_bytes self.old.text) self.old.edge (record { kind = kind; text = text.now }) (string_bytes self.new.text) self.new.edge) }
+        ensures short { OnOk result (ended_length (string_bytes self.new.text) self.new.edge ≤ ended_length (string_bytes self.old.text) self.old.edge + length text.now + 2) }
     {
         let first = text.as_bytes().first().copied().unwrap_or(0);
         if !self.edge.may_touch(kind, first) {
@@ -175,7 +184,8 @@ impl<A: Allocator> Layout<A> {
     pub fn ignored(&mut self, kind: TokenKind, text: &str) -> Result<(), AllocError>
         requires token { Tok kind text.now }
         requires ignored { is_kept_kind kind ≡ false }
-        ensures { OnOk result (Keeps (string_bytes self.old.text) self.old.edge (string_bytes self.new.text) self.new.edge) }
+        ensures keeps { OnOk result (Keeps (string_bytes self.old.text) self.old.edge (string_bytes self.new.text) self.new.edge) }
+        ensures short { OnOk result (ended_length (string_bytes self.new.text) self.new.edge ≤ ended_length (string_bytes self.old.text) self.old.edge + length text.now + 1) }
     {
         let first = text.as_bytes().first().copied().unwrap_or(0);
         if self.edge.may_touch(kind, first) {
@@ -186,7 +196,8 @@ impl<A: Allocator> Layout<A> {
 
     /// The text: its significant tokens and comments are those that were written, in that order.
     pub fn finish(self) -> String<A>
-        ensures { (words : List Word) → Laid (string_bytes self.text) self.edge words → Holds (string_bytes result) words }
+        ensures holds { (words : List Word) → Laid (string_bytes self.text) self.edge words → Holds (string_bytes result) words }
+        ensures text { string_bytes result ≡ string_bytes self.text }
     {
         self.text
     }
