@@ -4,5 +4,6 @@ pub mod Relabeled
 pub mod Respelling
 pub mod Nests
 pub mod Adding
+pub mod Lengths
 pub mod Reading
 pub mod Sentences

@@ -1,9 +1,10 @@
 // Texts without definitions.
-ghost use Rattle.std.specs.Prelude.{◌≡◌, ◌≤◌, true, false, not, [], None, length, IfErr, IfOk, IfSome, string_bytes};
+ghost use Rattle.std.specs.Prelude.{◌≡◌, ◌<◌, ◌≤◌, true, false, not, [], None, length, IfErr, IfOk, IfSome, string_bytes};
 ghost use Rattle.lexical_grammar.specs.Answers.{usize_max};
 ghost use Rattle.lexical_grammar.specs.Cut.{Significant, are_tokens, is_significant_kind};
 ghost use Rattle.lexical_grammar.specs.Reads.{items_of};
 ghost use Rattle.format_strings.specs.declared.style.WriteError.TheVariants.{TooLong};
+ghost use Rattle.format_layout.specs.Lengths.{longest_layout};
 ghost use Rattle.formatter.specs.Comments.{HasNoDefinitions, HasSameComments};
 
 use crate::TreeElements;
@@ -39,6 +40,9 @@ fn has_no_definitions(source: &str) -> bool
     true
 }
 
+// How deep the nodes of such a text nest.
+const NESTING: usize = 0;
+
 // The gaps of such a text's layout.
 fn gaps_of<A: Allocator + Copy>(alloc: A, source: &str) -> Result<Gaps<A>, AllocError> {
     let tree = Parser::new(source).parse(alloc)?;
@@ -46,7 +50,7 @@ fn gaps_of<A: Allocator + Copy>(alloc: A, source: &str) -> Result<Gaps<A>, Alloc
 }
 
 /// A text without definitions with the layout of this crate, of at most `most` bytes: one that is empty, or has comments alone. `None` where the text has a
-/// significant token or bad text. It fails where memory is refused, or the formatted text has more bytes.
+/// significant token or bad text. It fails where memory is refused, or the formatted text has more bytes, as `format_within` does.
 ///
 /// Such a text is no document by the standard, so `format` refuses it; but people have such files, and want them formatted too.
 pub fn format_comments<A: Allocator + Copy>(
@@ -56,13 +60,15 @@ pub fn format_comments<A: Allocator + Copy>(
 ) -> Result<Option<String<A>>, WriteError>
     ensures same { IfOk result (λ o. IfSome o (λ text. HasSameComments source.now (string_bytes text))) }
     ensures short { IfOk result (λ o. IfSome o (λ text. length (string_bytes text) ≤ most)) }
+    ensures longest { IfOk result (λ o. IfSome o (λ text. length (string_bytes text) ≤ longest_layout 0 (length source.now))) }
     ensures other { IfOk result (λ o. o ≡ None → ¬ HasNoDefinitions source.now) }
     ensures long { IfErr result (λ error. error ≡ TooLong → HasNoDefinitions source.now) }
+    ensures small { IfErr result (λ error. error ≡ TooLong → most < longest_layout 0 (length source.now)) }
 {
     if !has_no_definitions(source) {
         return Ok(None);
     }
     let gaps = gaps_of(alloc, source)?;
-    let text = format_text(alloc, source, gaps, most)?;
+    let text = format_text(alloc, source, gaps, NESTING, most)?;
     Ok(Some(text))
 }

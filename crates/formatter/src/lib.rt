@@ -8,6 +8,7 @@
 ghost use Rattle.std.specs.Prelude.{◌≡◌, ◌<◌, ◌≤◌, ℕ, true, false, List, None, length, IfErr, IfOk, IfSome, OnOk, string_bytes};
 ghost use Rattle.lexical_grammar.specs.Reads.{items_of};
 ghost use Rattle.format_strings.specs.declared.style.WriteError.TheVariants.{TooLong};
+ghost use Rattle.format_layout.specs.Lengths.{longest_layout};
 ghost use Rattle.formatter.specs.Comments.{HasNoDefinitions, HasSameComments};
 ghost use Rattle.formatter.specs.Formatted.{IsDocument, IsFormatted, IsRefused};
 
@@ -71,7 +72,7 @@ fn gaps_of<A: Allocator + Copy>(
 
 /// The document with the layout of this crate, of at most `most` bytes; or the errors of `Parser::parse`, at least one, where the text is no document
 /// within both limits. It fails where memory is refused, or the formatted text has more bytes, which is found before it is built: after at most some
-/// two times `most` bytes.
+/// two times `most` bytes. So it never fails where `most` is as much as `longest_layout` says, which no formatted text exceeds.
 ///
 /// The token limit is one on the text, and none on the formatted text (`stays_within`).
 ///
@@ -85,14 +86,16 @@ pub fn format_within<A: Allocator + Copy>(
 ) -> Result<Result<String<A>, Vec<Error<A>, A>>, WriteError>
     ensures formatted { IfOk result (λ r. IfOk r (λ text. IsFormatted source.now limits.recursion limits.tokens (string_bytes text))) }
     ensures short { IfOk result (λ r. IfOk r (λ text. length (string_bytes text) ≤ most)) }
+    ensures longest { IfOk result (λ r. IfOk r (λ text. length (string_bytes text) ≤ longest_layout limits.recursion (length source.now))) }
     ensures refused { IfOk result (λ r. IfErr r (λ errors. IsRefused source.now limits.recursion limits.tokens errors.items)) }
     ensures long { IfErr result (λ error. error ≡ TooLong → IsDocument source.now limits.recursion limits.tokens) }
+    ensures small { IfErr result (λ error. error ≡ TooLong → most < longest_layout limits.recursion (length source.now)) }
 {
     let gaps = match gaps_of(alloc, source, limits)? {
         Ok(gaps) => gaps,
         Err(errors) => return Ok(Err(errors)),
     };
-    let text = format_document(alloc, source, gaps, most)?;
+    let text = format_document(alloc, source, gaps, limits.recursion, most)?;
     Ok(Ok(text))
 }
 
@@ -135,8 +138,10 @@ pub trait DocumentFormatter {
     ) -> Result<Result<String<A>, Vec<Error<A>, A>>, WriteError>
         ensures formatted { IfOk result (λ r. IfOk r (λ text. IsFormatted source.now limits.recursion limits.tokens (string_bytes text))) }
         ensures short { IfOk result (λ r. IfOk r (λ text. length (string_bytes text) ≤ most)) }
+        ensures longest { IfOk result (λ r. IfOk r (λ text. length (string_bytes text) ≤ longest_layout limits.recursion (length source.now))) }
         ensures refused { IfOk result (λ r. IfErr r (λ errors. IsRefused source.now limits.recursion limits.tokens errors.items)) }
-        ensures long { IfErr result (λ error. error ≡ TooLong → IsDocument source.now limits.recursion limits.tokens) };
+        ensures long { IfErr result (λ error. error ≡ TooLong → IsDocument source.now limits.recursion limits.tokens) }
+        ensures small { IfErr result (λ error. error ≡ TooLong → most < longest_layout limits.recursion (length source.now)) };
 
     /// A text without definitions with another layout, or `None`, as the function `format_comments` has it.
     fn format_comments<A: Allocator + Copy>(
@@ -147,8 +152,10 @@ pub trait DocumentFormatter {
     ) -> Result<Option<String<A>>, WriteError>
         ensures same { IfOk result (λ o. IfSome o (λ text. HasSameComments source.now (string_bytes text))) }
         ensures short { IfOk result (λ o. IfSome o (λ text. length (string_bytes text) ≤ most)) }
+        ensures longest { IfOk result (λ o. IfSome o (λ text. length (string_bytes text) ≤ longest_layout 0 (length source.now))) }
         ensures other { IfOk result (λ o. o ≡ None → ¬ HasNoDefinitions source.now) }
-        ensures long { IfErr result (λ error. error ≡ TooLong → HasNoDefinitions source.now) };
+        ensures long { IfErr result (λ error. error ≡ TooLong → HasNoDefinitions source.now) }
+        ensures small { IfErr result (λ error. error ≡ TooLong → most < longest_layout 0 (length source.now)) };
 }
 
 /// The functions `format_within` and `format_comments`.

@@ -1,8 +1,11 @@
-use Rattle.std.proofs.Common.{◌≡◌, ◌∷◌, ap, ◌∙◌, subst}
+use Rattle.std.proofs.Common.{◌≡◌, ◌∷◌, ap, ◌∙◌, subst, refl}
 use Rattle.apollo_lexer.specs.Answers.{answers_left, answer_of}
 use Rattle.apollo_lexer.proofs.Law.{answers-are-items}
-use Rattle.lexical_grammar.specs.Answers.{usize_max, limited}
+use Rattle.lexical_grammar.specs.Answers.{answers_text, usize_max, limited}
 use Rattle.lexical_grammar.specs.Reads.{items_of}
+use Rattle.lexical_grammar.proofs.Limited.{cut-text}
+use Rattle.format_layout.specs.Lengths.{bytes_for_each}
+use Rattle.format_layout.proofs.Lengths.{begun-length, written-length}
 use Rattle.format_layout.proofs.Reading.{writes-begin, writes-token, token-text}
 use Rattle.format_layout.proofs.writing.write.Goals as goal
 
@@ -10,7 +13,12 @@ pub loop-item-init : goal.loop-item-init
 loop-item-init g c =
     let left : answers_left c.into_iter-item-iterator.result ≡ limited usize_max (items_of c.args.source.now) =
     ap answers_left c.into_iter-item-iterator.ensures.into_iter_gives ∙ c.new-item-items.ensures.answers in
-    writes-begin _ _ _ usize_max (items_of c.args.source.now) c.in_ok-with_capacity.ensures left c.requires
+    record {
+      writes = writes-begin _ _ _ usize_max (items_of c.args.source.now) c.in_ok-with_capacity.ensures.laid left c.requires;
+      short = begun-length _ _ c.args.source.now (answers_left c.into_iter-item-iterator.result) c.in_ok-with_capacity.ensures.empty
+          (ap answers_text left ∙ cut-text usize_max c.args.source.now (items_of c.args.source.now) c.new-item-items.ensures.cut c.requires);
+      bounds = refl;
+    }
 
 pub write-requires : goal.write-requires
 write-requires g c =
@@ -21,5 +29,10 @@ write-requires g c =
 pub loop-item-preserved-in_ok-check_length : goal.loop-item-preserved-in_ok-check_length
 loop-item-preserved-in_ok-check_length g c =
     let given : answers_left c.loop-item.item-iterator ≡ answer_of c.in-Some.item ∷ answers_left c.next.new.self = c.in-Some.ensures.steps.answers in
-    writes-token _ _ _ _ _ _ _ _ _ _ (subst (λ item. answers_left c.loop-item.item-iterator ≡ answer_of item ∷ answers_left c.next.new.self) c.in-Ok.is given)
-    c.in_ok-write.ensures c.loop-item.invariant
+    let token = subst (λ item. answers_left c.loop-item.item-iterator ≡ answer_of item ∷ answers_left c.next.new.self) c.in-Ok.is given in
+    record {
+      writes = writes-token _ _ _ _ _ _ _ _ _ _ token c.in_ok-write.ensures.adds c.loop-item.invariant.writes;
+      short = written-length (bytes_for_each c.args.bounds.deepest) _ _ _ _ _ _ token (rw c.loop-item.invariant.bounds at c.in_ok-write.ensures.short)
+          c.loop-item.invariant.short;
+      bounds = c.in_ok-write.ensures.bounds ∙ c.loop-item.invariant.bounds;
+    }

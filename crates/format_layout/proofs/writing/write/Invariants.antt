@@ -1,11 +1,19 @@
-use Rattle.std.proofs.Common.{string_bytes}
+use Rattle.std.proofs.Common.{◌≡◌, ◌+◌, ◌*◌, ◌≤◌, length, string_bytes}
 use Rattle.apollo_lexer.specs.Answers.{answers_left}
+use Rattle.lexical_grammar.specs.Answers.{answers_text}
 use Rattle.lexical_grammar.specs.Reads.{items_of}
 use Rattle.lexical_grammar.specs.Kept.{Kept}
+use Rattle.format_tokens.specs.Laid.{ended_length}
+use Rattle.format_layout.specs.Lengths.{bytes_for_each}
 use Rattle.format_layout.proofs.Reading.{Writes, kept_answers}
 use Rattle.format_layout.proofs.writing.write.Given as goal
 
--- the tokens so far are written, and those that are left are to be
+-- the tokens so far are written, in no more bytes than there are for theirs, and those that are left are to be
 abbrev pub invariant-loop-item : goal.invariant-loop-item
-invariant-loop-item g l = Writes (string_bytes l.writer.layout.text) l.writer.layout.edge (kept_answers (answers_left l.item-iterator))
-    (Kept (items_of l.fn.source))
+invariant-loop-item g l = record {
+  writes : Writes (string_bytes l.writer.layout.text) l.writer.layout.edge (kept_answers (answers_left l.item-iterator)) (Kept (items_of l.fn.source));
+  short : ended_length (string_bytes l.writer.layout.text) l.writer.layout.edge
+      + bytes_for_each l.fn.bounds.deepest * length (answers_text (answers_left l.item-iterator))
+      ≤ bytes_for_each l.fn.bounds.deepest * length l.fn.source;
+  bounds : l.writer.bounds ≡ l.fn.bounds;
+}

@@ -1,0 +1,17 @@
+-- How long a formatted text can be.
+use Rattle.std.specs.Prelude.{ℕ, ◌+◌, ◌*◌, min}
+
+-- The most spaces that a line begins with, where the nodes of a document nest at most this deep: two for each level, and for sixteen levels more, since
+-- the braces, parentheses and directives around a value indent its lines and are not counted as nesting. A gap has no more than 65,535.
+abbrev pub deepest_indent : ℕ → ℕ
+deepest_indent recursion = min (2 * (recursion + 16)) 65535
+
+-- The most bytes that are written for each byte of the source, where a line begins with at most this many spaces: the byte, and if it is the first one of a
+-- token, a comma, two line feeds and the spaces before it, a space that keeps it from the token before, and the line feed behind a comment.
+abbrev pub bytes_for_each : ℕ → ℕ
+bytes_for_each indent = indent + 6
+
+-- The most bytes that a formatted text can have, where its source nests at most this deep and has this many bytes: those for each of them, and a line feed
+-- at the end.
+abbrev pub longest_layout : ℕ → ℕ → ℕ
+longest_layout recursion bytes = bytes_for_each (deepest_indent recursion) * bytes + 1
