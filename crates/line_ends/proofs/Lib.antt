@@ -1,4 +1,5 @@
 pub mod Ends
+pub mod Lengths
 pub mod Unbroken
 pub mod Blanks
 pub mod Blocks

@@ -6,7 +6,7 @@
 //! `gqlfmt_run` calls them for `--line-endings`.
 #![tactic(auto)]
 
-ghost use Rattle.std.specs.Prelude.{◌≡◌, ◌≤◌, ℕ, true, List, IfOk, length, not, string_bytes};
+ghost use Rattle.std.specs.Prelude.{◌≡◌, ◌*◌, ◌≤◌, ℕ, true, List, IfOk, length, not, string_bytes};
 ghost use Rattle.std.specs.List.{prefix_len};
 ghost use Rattle.lexical_grammar.specs.Characters.{is_line_terminator};
 ghost use Rattle.formatter.specs.Comments.{HasSameComments};
@@ -70,7 +70,8 @@ pub fn first_line_end(text: &str) -> LineEnd
 
 // The lines of a text with this end between each two.
 fn joined_lines<A: Allocator>(alloc: A, text: &str, end: LineEnd) -> Result<String<A>, AllocError>
-    ensures { IfOk result (λ other. string_bytes other ≡ with_line_end end text.now) }
+    ensures lines { IfOk result (λ other. string_bytes other ≡ with_line_end end text.now) }
+    ensures short { IfOk result (λ other. length (string_bytes other) ≤ 2 * length text.now) }
 {
     let feeds = text.as_bytes().iter().filter(|b| **b == b'\n').count();
     let mut other = String::with_capacity(alloc, text.len().saturating_add(feeds))?;
@@ -91,13 +92,14 @@ fn has_line_feeds(text: &str) -> bool
     memchr(b'\r', text.as_bytes()).is_none()
 }
 
-/// The text with this end in place of each of its line ends. It fails only where memory is refused.
+/// The text with this end in place of each of its line ends, which has at most two bytes for each of its own. It fails only where memory is refused.
 pub fn with_line_end<A: Allocator>(
     alloc: A,
     text: String<A>,
     end: LineEnd,
 ) -> Result<String<A>, AllocError>
-    ensures { IfOk result (λ other. string_bytes other ≡ with_line_end end (string_bytes text)) }
+    ensures lines { IfOk result (λ other. string_bytes other ≡ with_line_end end (string_bytes text)) }
+    ensures short { IfOk result (λ other. length (string_bytes other) ≤ 2 * length (string_bytes text)) }
 {
     if end == LineEnd::Lf && has_line_feeds(text.as_str()) {
         return Ok(text);

@@ -6,6 +6,7 @@ use Rattle.apollo_cst_core.proofs.LineReads.{some-line, yields-some}
 use Rattle.line_ends.specs.declared.LineEnd.{LineEnd}
 use Rattle.line_ends.specs.LineEnds.{end_bytes, joined_by}
 use Rattle.line_ends.proofs.Ends.{later_lines}
+use Rattle.line_ends.proofs.Lengths.{twice-at-most}
 use Rattle.line_ends.proofs.joined_lines.Goals as goal
 
 pub unwrap-first-requires : goal.unwrap-first-requires
@@ -43,5 +44,8 @@ loop-line-preserved g c =
     more c.args.end _ _ _ _ c.in-Some.line.now _ _ c.text.ensures c.in_ok-push_str-2.ensures.bytes c.in_ok-push_str-3.ensures.bytes c.in-Some.ensures.steps
     ∙ c.loop-line.invariant
 
-pub returns : goal.returns
-returns g c = all-written c.args.end _ _ c.in_default.ensures.steps.0 ∙ c.loop-line.invariant
+pub returns-clause-lines : goal.returns-clause-lines
+returns-clause-lines g c = all-written c.args.end _ _ c.in_default.ensures.steps.0 ∙ c.loop-line.invariant
+
+pub returns-clause-short : goal.returns-clause-short
+returns-clause-short g c = twice-at-most c.args.end c.args.text.now _ (all-written c.args.end _ _ c.in_default.ensures.steps.0 ∙ c.loop-line.invariant)
