@@ -1,6 +1,7 @@
 -- What formatting makes of a text, and what is shown of that.
-use Rattle.std.specs.Prelude.{◌≡◌, ◌≢◌, ◌≤◌, ◌⊎◌, ◌*◌, ◌-◌, ◌^◌, ℕ, min, max, List, [], ◌∷◌, ◌++◌, length, codes, string_bytes, Option, Some, None}
+use Rattle.std.specs.Prelude.{◌≡◌, ◌≢◌, ◌<◌, ◌≤◌, ◌⊎◌, ◌*◌, ◌-◌, ◌^◌, ℕ, min, max, List, [], ◌∷◌, ◌++◌, length, codes, string_bytes, Option, Some, None}
 use Rattle.formatter.specs.Formatted as format
+use Rattle.formatter.specs.Lengths.{longest_layout}
 use Rattle.formatter.specs.Within.{IsFormattedWithin, IsOutgrown, HasCommentsAlone, AreCommentsWithin, AreCommentsOutgrown}
 use Rattle.apollo_parser.specs.Diagnostics.{Diagnostic}
 use Rattle.apollo_parser.specs.declared.Limits.{Limits}
@@ -45,15 +46,17 @@ pub record HasErrors (limits : Limits) (source : List ℕ) : Type 0 where
 abbrev pub HasOutgrown : Limits → List ℕ → Type 0
 HasOutgrown limits source = IsOutgrown limits source ⊎ AreCommentsOutgrown limits source
 
--- It is one, but its formatted text is said to have more bytes than are allowed. The text is not built, so no clause is about its length.
-abbrev pub IsTooLong : Limits → List ℕ → Type 0
-IsTooLong limits source = format.IsDocument source limits.recursion limits.tokens ⊎ HasCommentsAlone limits source
+-- It is one, but its formatted text is said to have more bytes than are allowed. That text is not built; but fewer bytes are allowed than a formatted text
+-- of the source can have, each of whose bytes may be a line feed that becomes CR LF.
+pub record IsTooLong (bounds : Bounds) (source : List ℕ) : Type 0 where
+  pub text : format.IsDocument source bounds.limits.recursion bounds.limits.tokens ⊎ HasCommentsAlone bounds.limits source
+  pub few : most_of bounds.most_output source < 2 * longest_layout bounds.limits.recursion (length source)
 
 -- why a source is left as it is
 abbrev pub IsRefusedFor : Bounds → List ℕ → Refusal → Type 0
 IsRefusedFor bounds source Errors = HasErrors bounds.limits source
 IsRefusedFor bounds source Outgrown = HasOutgrown bounds.limits source
-IsRefusedFor bounds source TooLong = IsTooLong bounds.limits source
+IsRefusedFor bounds source TooLong = IsTooLong bounds source
 
 -- the source is left as it is
 abbrev pub IsRefused : Bounds → List ℕ → Type 0

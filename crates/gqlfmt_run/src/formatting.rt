@@ -4,6 +4,7 @@ ghost use Rattle.lexical_grammar.specs.Reads.{items_of};
 ghost use Rattle.apollo_parser.specs.Diagnostics.{Diagnostic};
 ghost use Rattle.formatter.specs.Comments.{HasSameComments};
 ghost use Rattle.formatter.specs.Formatted as format;
+ghost use Rattle.formatter.specs.Lengths.{longest_layout};
 ghost use Rattle.line_ends.specs.LineEnds.{HasLineEnd};
 ghost use Rattle.gqlfmt_run.specs.Formatting.{IsRevised, line_end_of, most_of};
 
@@ -51,9 +52,11 @@ impl<A: Allocator + Copy, L: DocumentFormatter> Job<'_, A, L> {
         text: String<A>,
     ) -> Result<Revised<A, Refusal>, AllocError>
         ensures document { IfOk result (λ revised. format.IsFormatted source.now self.now.bounds.limits.recursion self.now.bounds.limits.tokens (string_bytes text)
-            → length (string_bytes text) ≤ most_of self.now.bounds.most_output source.now → IsRevised self.now.bounds source.now revised) }
+            → length (string_bytes text) ≤ most_of self.now.bounds.most_output source.now
+            → length (string_bytes text) ≤ longest_layout self.now.bounds.limits.recursion (length source.now) → IsRevised self.now.bounds source.now revised) }
         ensures comments { IfOk result (λ revised. HasSameComments source.now (string_bytes text) → length (items_of source.now) ≤ self.now.bounds.limits.tokens
-            → length (string_bytes text) ≤ most_of self.now.bounds.most_output source.now → IsRevised self.now.bounds source.now revised) }
+            → length (string_bytes text) ≤ most_of self.now.bounds.most_output source.now
+            → length (string_bytes text) ≤ longest_layout 0 (length source.now) → IsRevised self.now.bounds source.now revised) }
     {
         let end = self.bounds.line_end_of(source);
         let ended = with_line_end(self.alloc, text, end)?;
