@@ -72,7 +72,7 @@ fn gaps_of<A: Allocator + Copy>(
 
 /// The document with the layout of this crate, of at most `most` bytes; or the errors of `Parser::parse`, at least one, where the text is no document
 /// within both limits. It fails where memory is refused, or the formatted text has more bytes, which is found before it is built: after at most some
-/// two times `most` bytes. So it never fails where `most` is as much as `longest_layout` says, which no formatted text exceeds.
+/// two times `most` bytes. Where `most` is at least `longest_layout`, which no formatted text exceeds, it fails for memory alone.
 ///
 /// The token limit is one on the text, and none on the formatted text (`stays_within`).
 ///
