@@ -19,7 +19,7 @@ PARTS = {
     "C, Python and the page": """dumyroke_flat/src/parse.rt dumyroke_flat/src/items.rt dumyroke_flat/src/strings.rt dumyroke_flat/src/format.rt
         dumyroke_flat/src/laws.rt dumyroke_validation/src/validating.rt dumyroke_validation/src/measuring.rt dumyroke_c/src/lib.rt""",
     "positions, and `gqlls`": """line_index/src editor_text/src/lib.rt rpc_frames/src/lib.rt rpc_messages/src rpc_serving/src editor_diagnostics/src
-        editor_validation/src editor_edits/src editor_answers/src open_quotes/src schema_members/src program_words/src/gqlls.rt gqlls_run/src/server.rt gqlls_run/src/running.rt""",
+        editor_validation/src editor_edits/src editor_answers/src open_quotes/src embedded_documents/src schema_members/src program_words/src/gqlls.rt gqlls_run/src/server.rt gqlls_run/src/running.rt""",
     "validation": "apollo_validation/src/validation.rt apollo_validation/src/messages.rt apollo_validation/src/lists.rt",
     "the cost of operations": "operation_limits/src/measuring.rt operation_limits/src/limiting.rt expansion_figures/src/limits.rt",
     "`gqlcheck`": "document_checks/src/checking.rt program_words/src/gqlcheck.rt gqlcheck_run/src/program.rt",

@@ -1,0 +1,31 @@
+-- Files of which only the documents in templates are left.
+use Rattle.std.specs.Prelude.{◌≡◌, ◌⊎◌, ℕ, Bool, ◌==◌, ◌||◌, if◌then◌else◌, List, [], ◌∷◌, map, slice_range, codes}
+use Rattle.std.specs.List.{list_all}
+
+-- the blank in place of a byte: the end of a line stays, and any other is a space
+abbrev pub blank : ℕ → ℕ
+blank b = if b == 10 || b == 13 then b else 32
+
+-- byte by byte, a text or blanks
+abbrev pub AreMasked : List ℕ → List ℕ → Type 0
+AreMasked [] [] = Unit {0}
+AreMasked [] (y ∷ ys) = ⊥
+AreMasked (x ∷ xs) [] = ⊥
+AreMasked (x ∷ xs) (y ∷ ys) = ((y ≡ x) ⊎ (y ≡ blank x)) × AreMasked xs ys
+
+-- what a document comes after
+abbrev pub IsTag : List ℕ → Type 0
+IsTag part = (part ≡ codes "gql") ⊎ (part ≡ codes "graphql") ⊎ (part ≡ codes "/* GraphQL */")
+
+-- such words are in the text
+abbrev pub HasTag : List ℕ → Type 0
+HasTag text = (start : ℕ) × (end : ℕ) × IsTag (slice_range text start end)
+
+-- Byte by byte, the masked text is the text or blanks. It is all blank for a text without a tag.
+pub record IsMasked (text masked : List ℕ) : Type 0 where
+  pub bytes : AreMasked text masked
+  pub untagged : (¬ HasTag text) → masked ≡ map blank text
+
+-- whether a text has only spaces and ends of lines
+abbrev pub is_blank : List ℕ → Bool
+is_blank text = list_all (λ b. blank b == b) text

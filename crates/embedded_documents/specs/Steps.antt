@@ -1,0 +1,23 @@
+-- What steps through a file may say.
+use Rattle.std.specs.Prelude.{◌≡◌, ℕ, Bool, true, List}
+use Rattle.embedded_documents.specs.Masked.{HasTag}
+use Rattle.embedded_documents.specs.declared.scanning.Place.{Place}
+use Rattle.embedded_documents.specs.declared.scanning.Place.TheVariants.{Braces, Quoted, Escaped}
+use Rattle.embedded_documents.specs.declared.scanning.Move.{Move}
+use Rattle.embedded_documents.specs.declared.scanning.Move.TheVariants.{Stay, Enter, Leave}
+
+-- a text with a document has a tag
+abbrev pub IsTagged : List ℕ → Bool → Type 0
+IsTagged text is_document = is_document ≡ true → HasTag text
+
+-- so it is in this place
+abbrev pub IsPlaceIn : List ℕ → Place → Type 0
+IsPlaceIn text (Braces is_in_template) = Unit {0}
+IsPlaceIn text (Quoted quote is_document) = IsTagged text is_document
+IsPlaceIn text (Escaped quote is_document) = IsTagged text is_document
+
+-- so it is in the place that is entered
+abbrev pub IsMoveIn : List ℕ → Move → Type 0
+IsMoveIn text Stay = Unit {0}
+IsMoveIn text (Enter place) = IsPlaceIn text place
+IsMoveIn text Leave = Unit {0}

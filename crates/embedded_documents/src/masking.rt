@@ -1,0 +1,129 @@
+// Texts of which only the documents are left.
+ghost use Rattle.std.specs.Prelude.{◌≡◌, ℕ, ◌⊎◌, ◌++◌, ◌≤◌, ◌∷◌, List, [], All, IfOk, IfSome, OnOk, false, length, map, slice_range, string_bytes, true};
+ghost use Rattle.embedded_documents.specs.Masked.{HasTag, IsMasked, blank, is_blank};
+ghost use Rattle.embedded_documents.specs.Steps.{IsMoveIn, IsPlaceIn, IsTagged};
+
+use crate::scanning::{HostLanguage, Move, Place, next_step};
+use std::alloc::{AllocError, Global};
+
+// The blank in place of a byte: the end of a line stays.
+fn blank_of(byte: u8) -> &'static str
+    ensures { result.now ≡ blank byte ∷ [] }
+{
+    match byte {
+        b'\n' => "\n",
+        b'\r' => "\r",
+        _ => " ",
+    }
+}
+
+// Adds blanks for some bytes.
+fn push_blanks(masked: &mut String, bytes: &[u8]) -> Result<(), AllocError>
+    ensures { OnOk result (string_bytes masked.new ≡ string_bytes masked.old ++ map blank bytes.now) }
+{
+    for byte in bytes {
+        masked.push_str(blank_of(*byte))?;
+    }
+    Ok(())
+}
+
+// Adds a part of a text: as it is if it is of a document, and else as blanks. Parts of documents are whole characters.
+fn push_part(
+    masked: &mut String,
+    text: &str,
+    start: usize,
+    end: usize,
+    is_document: bool,
+) -> Result<(), AllocError>
+    requires order { start ≤ end }
+    requires within { end ≤ length text.now }
+    ensures part { OnOk result ((string_bytes masked.new ≡ string_bytes masked.old ++ slice_range text.now start end)
+        ⊎ (string_bytes masked.new ≡ string_bytes masked.old ++ map blank (slice_range text.now start end))) }
+    ensures untagged { OnOk result (is_document ≡ false → string_bytes masked.new ≡ string_bytes masked.old ++ map blank (slice_range text.now start end)) }
+{
+    if is_document && let Some(part) = text.get(start..end) {
+        return masked.push_str(part);
+    }
+    push_blanks(masked, &text.as_bytes()[start..end])
+}
+
+// Goes into a place, or out of the innermost one.
+fn go(text: &str, places: &mut Vec<Place>, next: Move) -> Result<(), AllocError>
+    requires places { All (IsPlaceIn text.now) places.old.items }
+    requires next { IsMoveIn text.now next }
+    ensures { OnOk result (All (IsPlaceIn text.now) places.new.items) }
+{
+    match next {
+        Move::Stay => {}
+        Move::Enter(place) => places.push(place)?,
+        Move::Leave => {
+            places.pop();
+        }
+    }
+    Ok(())
+}
+
+/// The text of a file with blanks in place of all that is in no document. The number of bytes stays, and so do the ends of lines. It fails only where
+/// memory is refused.
+pub fn masked(alloc: Global, text: &str, language: HostLanguage) -> Result<String, AllocError>
+    ensures { IfOk result (λ masked. IsMasked text.now (string_bytes masked)) }
+{
+    let bytes = text.as_bytes();
+    let mut masked = String::new(alloc);
+    let mut places = Vec::new(alloc);
+    let mut start = 0;
+    while start < bytes.len() {
+        let place = places.as_slice().last().copied();
+        let step = next_step(bytes, start, language, place);
+        push_part(&mut masked, text, start, step.end, step.is_document)?;
+        go(text, &mut places, step.next)?;
+        start = step.end;
+    }
+    Ok(masked)
+}
+
+// Whether a place is one of a document.
+fn is_document(place: Option<Place>) -> bool
+    ensures { (text : List ℕ) → IfSome place (IsPlaceIn text) → IsTagged text result }
+{
+    match place {
+        Some(Place::Quoted { is_document, .. } | Place::Escaped { is_document, .. }) => is_document,
+        Some(Place::Braces { .. }) | None => false,
+    }
+}
+
+/// Whether a document is at a byte offset of a file. It fails only where memory is refused.
+pub fn is_in_document(
+    alloc: Global,
+    text: &str,
+    language: HostLanguage,
+    offset: usize,
+) -> Result<bool, AllocError>
+    ensures { IfOk result (λ is_inside. is_inside ≡ true → HasTag text.now) }
+{
+    let bytes = text.as_bytes();
+    let mut places = Vec::new(alloc);
+    let mut start = 0;
+    while start < bytes.len() {
+        let place = places.as_slice().last().copied();
+        let step = next_step(bytes, start, language, place);
+        if offset < step.end {
+            return Ok(is_document(place));
+        }
+        go(text, &mut places, step.next)?;
+        start = step.end;
+    }
+    Ok(is_document(places.as_slice().last().copied()))
+}
+
+/// Whether a text has only spaces and ends of lines.
+pub fn is_blank(text: &str) -> bool
+    ensures { result ≡ is_blank text.now }
+{
+    for byte in text.as_bytes() {
+        if !matches!(byte, b' ' | b'\n' | b'\r') {
+            return false;
+        }
+    }
+    true
+}
