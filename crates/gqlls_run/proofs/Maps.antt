@@ -8,10 +8,10 @@ use Rattle.std.specs.Bool.{Decides}
 use Rattle.std.proofs.lemmas.Map.{update_other}
 use Rattle.std.proofs.lemmas.Map.Text.{btree_map_updates_text}
 use Rattle.std.proofs.lemmas.Slice.Eq.{bytes_eq-Decides}
-use Rattle.editor_text.specs.Client.{Opened}
 use Rattle.gqlls_run.specs.declared.documents.Document.{Document}
 use Rattle.gqlls_run.specs.Dialogue.{Updates}
-use Rattle.gqlls_run.specs.State.{content_of, contents}
+use Rattle.gqlls_run.specs.Files.{OpenFile}
+use Rattle.gqlls_run.specs.State.{file_of, files}
 
 -- a test that decides a false fact is false
 refuted : {P : Type 0} (r : Bool) → Decides r P → ¬ P → r ≡ false
@@ -19,15 +19,15 @@ refuted true d refutes = absurd (refutes (d.0 refl))
 refuted false d refutes = refl
 
 -- what a map has after a change at one name
-pub updated : {A : Type 0} (uri key : List ℕ) (old new : BTreeMap (String A) Document) (document : Option Document) (content : Option Opened) → key ≡ uri
-    → UpdatesBy string_cmp (λ k. slice_cmp nat_cmp key (string_bytes k)) old new document → option_map content_of document ≡ content
-    → Updates uri content (contents old) (contents new)
-updated uri key old new document content is updates has =
-    let at : (u : List ℕ) → Type 0 = λ u. Updates u content (contents old) (contents new) in
+pub updated : {A : Type 0} (uri key : List ℕ) (old new : BTreeMap (String A) Document) (document : Option Document) (file : Option OpenFile) → key ≡ uri
+    → UpdatesBy string_cmp (λ k. slice_cmp nat_cmp key (string_bytes k)) old new document → option_map file_of document ≡ file
+    → Updates uri file (files old) (files new)
+updated uri key old new document file is updates has =
+    let at : (u : List ℕ) → Type 0 = λ u. Updates u file (files old) (files new) in
     subst at is (record {
-      this = ap (option_map content_of) updates.1 ∙ has;
+      this = ap (option_map file_of) updates.1 ∙ has;
       others = λ name apart.
           let differs = refuted (bytes_eq key name) (bytes_eq-Decides key name) (λ e. apart (sym e)) in
-          ap (option_map content_of)
+          ap (option_map file_of)
           (btree_map_updates_text key old new document updates name ∙ update_other bytes_eq (get_by_text old) key document name differs);
     })

@@ -9,14 +9,15 @@ use Rattle.apollo_parser.specs.declared.Limits.{Limits}
 use Rattle.editor_diagnostics.specs.Publication.{IsNoticeAbout}
 use Rattle.line_index.specs.declared.PositionEncoding.{PositionEncoding}
 use Rattle.line_index.specs.declared.PositionEncoding.TheVariants.{Utf8, Utf16}
-use Rattle.editor_text.specs.Client.{Opened}
+use Rattle.embedded_documents.specs.declared.scanning.HostLanguage.{HostLanguage}
 use Rattle.rpc_messages.specs.Messages.{IsResult}
 use Rattle.rpc_messages.specs.Steps.{Takes}
 use Rattle.rpc_messages.specs.declared.reply.Reply.{Reply}
 use Rattle.rpc_messages.specs.declared.reply.Reply.TheVariants.{Nothing, Answer, Notice, Exit}
 use Rattle.rpc_serving.specs.Serving.{EndsServing, IsServed}
-use Rattle.gqlls_run.specs.Layout.{IsFormattingOf, IsRefusalOf}
-use Rattle.gqlls_run.specs.Parameters.{Edit, IsVersionIn, Offers, edits_in, text_in, uri_in}
+use Rattle.gqlls_run.specs.Files.{OpenFile}
+use Rattle.gqlls_run.specs.Layout.{IsFormattingIn, IsRefusalOf}
+use Rattle.gqlls_run.specs.Parameters.{Edit, IsVersionIn, Offers, edits_in, host_in, text_in, uri_in}
 use Rattle.gqlls_run.specs.Dialogue.{Dialogue, IsChanged, Sets, begun}
 use Rattle.gqlls_run.specs.Told.{IsTold, Notifies}
 use Rattle.gqlls_run.specs.declared.server.Stage.{Stage}
@@ -68,7 +69,7 @@ LacksDocument id body = IsRefusalOf id (neg_ℤ (pos 32602)) body
 abbrev pub Formats : Json → Json → Dialogue → List ℕ → Type 0
 Formats id params dialogue body =
     MatchOption (uri_in params) (LacksDocument id body)
-    (λ uri. MatchOption (dialogue.documents uri) (LacksDocument id body) (λ content. IsFormattingOf dialogue.limits id content body))
+    (λ uri. MatchOption (dialogue.documents uri) (LacksDocument id body) (λ file. IsFormattingIn dialogue.limits id file body))
 
 -- The outcome of a request, by the stage and the method: the conversation begins, or the request is refused as `ServerNotInitialized`; it is shut
 -- down; or nothing changes, and a layout is the document's. After that each request is refused as `InvalidRequest`.
@@ -87,26 +88,26 @@ pub record IsIgnored (reply : Reply) (old new : Dialogue) : Type 0 where
   pub silence : reply ≡ Nothing
   pub dialogue : new ≡ old
 
--- A document has this text now. The reply publishes its errors, with the version that the message gives.
-pub record Publishes (uri : List ℕ) (content : Opened) (params : Json) (reply : Reply) (old new : Dialogue) : Type 0 where
-  pub sets : Sets uri (Some content) old new
+-- A document is this file now. The reply publishes its errors, with the version that the message gives.
+pub record Publishes (uri : List ℕ) (file : OpenFile) (params : Json) (reply : Reply) (old new : Dialogue) : Type 0 where
+  pub sets : Sets uri (Some file) old new
   pub version : Option ℤ
   pub versioned : IsVersionIn params version
-  pub told : Notifies (IsTold old.limits uri version content) reply
+  pub told : Notifies (IsTold old.limits uri version file) reply
 
--- a text that is opened, in the encoding of the conversation
-abbrev pub opened : Dialogue → List ℕ → Opened
-opened dialogue text = record { encoding = dialogue.encoding; text = text }
+-- a text in a language that is opened, in the encoding of the conversation
+abbrev pub opened : Dialogue → List ℕ → Option HostLanguage → OpenFile
+opened dialogue text host = record { content = record { encoding = dialogue.encoding; text = text }; host = host }
 
--- `textDocument/didOpen`: the document has the text of the message. Without a name or a text the message is ignored.
+-- `textDocument/didOpen`: the document has the text and the language of the message. Without a name or a text the message is ignored.
 abbrev pub Opens : Json → Reply → Dialogue → Dialogue → Type 0
 Opens params reply old new =
     MatchOption (uri_in params) (IsIgnored reply old new)
-    (λ uri. MatchOption (text_in params) (IsIgnored reply old new) (λ text. Publishes uri (opened old text) params reply old new))
+    (λ uri. MatchOption (text_in params) (IsIgnored reply old new) (λ text. Publishes uri (opened old text (host_in params)) params reply old new))
 
 -- an open document has some changes now
-pub record PublishesChanges (uri : List ℕ) (edits : List Edit) (before : Opened) (params : Json) (reply : Reply) (old new : Dialogue) : Type 0 where
-  pub after : Opened
+pub record PublishesChanges (uri : List ℕ) (edits : List Edit) (before : OpenFile) (params : Json) (reply : Reply) (old new : Dialogue) : Type 0 where
+  pub after : OpenFile
   pub changed : IsChanged edits before after
   pub publishes : Publishes uri after params reply old new
 
@@ -126,7 +127,7 @@ pub record Withdraws (uri : List ℕ) (reply : Reply) (old new : Dialogue) : Typ
 abbrev pub Closes : Json → Reply → Dialogue → Dialogue → Type 0
 Closes params reply old new =
     MatchOption (uri_in params) (IsIgnored reply old new)
-    (λ uri. MatchOption (old.documents uri) (IsIgnored reply old new) (λ content. Withdraws uri reply old new))
+    (λ uri. MatchOption (old.documents uri) (IsIgnored reply old new) (λ file. Withdraws uri reply old new))
 
 -- success only after `shutdown`
 abbrev pub exit_status : Stage → ℕ

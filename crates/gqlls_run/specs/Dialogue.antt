@@ -4,35 +4,38 @@ use Rattle.apollo_parser.specs.declared.Limits.{Limits}
 use Rattle.line_index.specs.Positions.{units}
 use Rattle.line_index.specs.declared.PositionEncoding.{PositionEncoding}
 use Rattle.line_index.specs.declared.PositionEncoding.TheVariants.{Utf16}
-use Rattle.editor_text.specs.Client.{Opened, replaced}
+use Rattle.editor_text.specs.Client.{replaced}
+use Rattle.gqlls_run.specs.Files.{OpenFile}
 use Rattle.gqlls_run.specs.Parameters.{Edit}
 use Rattle.gqlls_run.specs.declared.server.Stage.{Stage}
 use Rattle.gqlls_run.specs.declared.server.Stage.TheVariants.{New}
 
--- how far the conversation is, how columns are counted, the limits of each parse, and by its name the text of each document that the client has open
+-- how far the conversation is, how columns are counted, the limits of each parse, and each file that the client has open, by its name
 pub record Dialogue : Type 0 where
   pub stage : Stage
   pub encoding : PositionEncoding
   pub limits : Limits
-  pub documents : List ℕ → Option Opened
+  pub documents : List ℕ → Option OpenFile
 
 -- no message was read
 abbrev pub begun : Limits → Dialogue
 begun limits = record { stage = New; encoding = Utf16; limits = limits; documents = λ name. None }
 
 -- one document is opened, changed or closed, and the others stay
-pub record Updates (uri : List ℕ) (content : Option Opened) (old new : List ℕ → Option Opened) : Type 0 where
-  pub this : new uri ≡ content
+pub record Updates (uri : List ℕ) (file : Option OpenFile) (old new : List ℕ → Option OpenFile) : Type 0 where
+  pub this : new uri ≡ file
   pub others : (name : List ℕ) → name ≢ uri → new name ≡ old name
 
 -- nothing else changes
-pub record Sets (uri : List ℕ) (content : Option Opened) (old new : Dialogue) : Type 0 where
-  pub documents : Updates uri content old.documents new.documents
+pub record Sets (uri : List ℕ) (file : Option OpenFile) (old new : Dialogue) : Type 0 where
+  pub documents : Updates uri file old.documents new.documents
   pub stage : new.stage ≡ old.stage
   pub encoding : new.encoding ≡ old.encoding
   pub limits : new.limits ≡ old.limits
 
 -- a text is the one before with some changes, each made by the client to the text that the one before it left
-pub record IsChanged (edits : List Edit) (old new : Opened) : Type 0 where
-  pub encoding : new.encoding ≡ old.encoding
-  pub text : units old.encoding new.text ≡ fold (λ text edit. replaced old.encoding text edit.0 (units old.encoding edit.1)) (units old.encoding old.text) edits
+pub record IsChanged (edits : List Edit) (old new : OpenFile) : Type 0 where
+  pub encoding : new.content.encoding ≡ old.content.encoding
+  pub host : new.host ≡ old.host
+  pub text : units old.content.encoding new.content.text
+      ≡ fold (λ text edit. replaced old.content.encoding text edit.0 (units old.content.encoding edit.1)) (units old.content.encoding old.content.text) edits

@@ -1,5 +1,5 @@
 -- The results of layouts.
-use Rattle.std.specs.Prelude.{◌≡◌, ◌<◌, ◌≤◌, ◌⊎◌, ℕ, ℤ, List, [], ◌∷◌, ◌++◌, length, slice_range, string_bytes}
+use Rattle.std.specs.Prelude.{MatchOption, ◌≡◌, ◌<◌, ◌≤◌, ◌⊎◌, ℕ, ℤ, List, [], ◌∷◌, ◌++◌, length, slice_range, string_bytes}
 use lib.IntN.{pos, neg_ℤ}
 use Rattle.std.specs.List.{replace_range}
 use Rattle.json.specs.Json.{Json, null}
@@ -11,6 +11,7 @@ use Rattle.formatter.specs.Within.{IsFormattedWithin, IsOutgrown}
 use Rattle.editor_text.specs.Client.{Opened}
 use Rattle.line_index.specs.declared.PositionEncoding.{PositionEncoding}
 use Rattle.rpc_messages.specs.Messages.{IsError, IsResult}
+use Rattle.gqlls_run.specs.Files.{OpenFile}
 use Rattle.gqlls_run.specs.declared.layout.Layout.{Layout}
 use Rattle.gqlls_run.specs.declared.layout.Layout.TheVariants.{Text, Left, TooLong}
 
@@ -79,3 +80,7 @@ pub record IsTooLong (limits : Limits) (id : Json) (content : Opened) (body : Li
 abbrev pub IsFormattingOf : Limits → Json → Opened → List ℕ → Type 0
 IsFormattingOf limits id content body =
     ((result : Json) × IsFormatting limits content result × IsResult id result body) ⊎ IsTooLong limits id content body
+
+-- the same of a file: one in another language stays as it is
+abbrev pub IsFormattingIn : Limits → Json → OpenFile → List ℕ → Type 0
+IsFormattingIn limits id file body = MatchOption file.host (IsFormattingOf limits id file.content body) (λ host. IsResult id null body)

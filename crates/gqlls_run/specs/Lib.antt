@@ -2,5 +2,6 @@ pub mod Conversation
 pub mod Layout
 pub mod Parameters
 pub mod Dialogue
+pub mod Files
 pub mod State
 pub mod Told

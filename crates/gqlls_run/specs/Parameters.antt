@@ -11,6 +11,8 @@ use Rattle.json.specs.Find.{as_array, as_number, as_str, get, is_null}
 use Rattle.line_index.specs.declared.Position.{Position}
 use Rattle.editor_text.specs.declared.Change.{Change}
 use Rattle.editor_text.specs.declared.PositionRange.{PositionRange}
+use Rattle.embedded_documents.specs.declared.scanning.HostLanguage.{HostLanguage}
+use Rattle.gqlls_run.specs.Files.{host_named}
 
 -- ---- documents
 
@@ -28,6 +30,11 @@ IsVersionIn params version = MatchOption (number_in params) (version ≡ None) (
 -- the text of the document that is opened
 abbrev pub text_in : Json → Option (List ℕ)
 text_in params = option_and_then (λ document. option_and_then as_str (get (codes "text") document)) (get (codes "textDocument") params)
+
+-- the language of that document, if it isn't GraphQL
+abbrev pub host_in : Json → Option HostLanguage
+host_in params =
+    option_and_then (λ document. option_and_then host_named (option_and_then as_str (get (codes "languageId") document))) (get (codes "textDocument") params)
 
 -- ---- changes
 

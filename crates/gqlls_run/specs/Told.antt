@@ -1,12 +1,12 @@
 -- What is published of the documents that a client has open.
-use Rattle.std.specs.Prelude.{ℕ, ℤ, List, Option}
+use Rattle.std.specs.Prelude.{◌≡◌, ℕ, ℤ, true, false, List, [], Option}
 use Rattle.apollo_parser.specs.Parsed.{Parsed}
 use Rattle.apollo_parser.specs.Promise.{Promise}
 use Rattle.apollo_parser.specs.declared.Limits.{Limits}
 use Rattle.editor_diagnostics.specs.Publication.{IsPublication}
 use Rattle.editor_diagnostics.specs.Remarks.{Remarked}
 use Rattle.editor_validation.specs.Remarks.{AreRemarksOn}
-use Rattle.editor_text.specs.Client.{Opened}
+use Rattle.gqlls_run.specs.Files.{IsSource, OpenFile, has_nothing}
 use Rattle.rpc_messages.specs.declared.reply.Reply.{Reply}
 use Rattle.rpc_messages.specs.declared.reply.Reply.TheVariants.{Nothing, Answer, Notice, Exit}
 
@@ -14,13 +14,17 @@ use Rattle.rpc_messages.specs.declared.reply.Reply.TheVariants.{Nothing, Answer,
 abbrev pub AreRemarksOf : Parsed → List Remarked → Type 0
 AreRemarksOf parsed remarks = AreRemarksOn (record { whole = parsed.tree; index = 0 }) parsed.errors remarks
 
--- the body publishes the remarks on a parse of this text within the limits, at their positions as the client counts them
-pub record IsTold (limits : Limits) (uri : List ℕ) (version : Option ℤ) (content : Opened) (body : List ℕ) : Type 0 where
+-- The body publishes the remarks on a parse of this file within the limits, at their positions as the client counts them. There are none on a file in
+-- another language that has nothing in templates.
+pub record IsTold (limits : Limits) (uri : List ℕ) (version : Option ℤ) (file : OpenFile) (body : List ℕ) : Type 0 where
+  pub text : List ℕ
+  pub source : IsSource file text
   pub parsed : Parsed
-  pub promise : Promise content.text limits.recursion limits.tokens parsed
+  pub promise : Promise text limits.recursion limits.tokens parsed
   pub remarks : List Remarked
-  pub said : AreRemarksOf parsed remarks
-  pub published : IsPublication uri version content.encoding content.text remarks body
+  pub said : has_nothing file text ≡ false → AreRemarksOf parsed remarks
+  pub silent : has_nothing file text ≡ true → remarks ≡ []
+  pub published : IsPublication uri version file.content.encoding file.content.text remarks body
 
 -- the reply is a notice whose body is such
 abbrev pub Notifies : (List ℕ → Type 0) → Reply → Type 0

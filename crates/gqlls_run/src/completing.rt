@@ -390,11 +390,12 @@ pub(crate) fn push_completions<'p>(
     pieces: &mut Vec<Piece<'p>>,
     root: SyntaxNode<'p>,
     roots: &[SyntaxNode<'p>],
+    source: &str,
     positions: &Positions<'_>,
     offset: usize,
     limits: Limits,
 ) -> Result<(), AllocError> {
-    let before = Before::new(alloc, positions.text, offset)?;
+    let before = Before::new(alloc, source, offset)?;
     let found = completions(alloc, before.parsed(), root, roots, limits)?;
     let range = positions.range(before.text.len(), offset);
     push_candidates(pieces, &range, found.as_slice())

@@ -1,55 +1,83 @@
 // The open documents.
-ghost use Rattle.std.specs.Prelude.{◌≡◌, IfOk, MatchBool, None, OnOk, Some, map};
+ghost use Rattle.std.specs.Prelude.{◌≡◌, [], IfOk, MatchBool, None, OnOk, Some, false, map, option_map, string_bytes, true, unwrap_or};
 ghost use Rattle.apollo_parser.specs.Promise.{Promise};
+ghost use Rattle.editor_diagnostics.specs.Remarks.{as_remarked};
 ghost use Rattle.rpc_messages.specs.Messages.{IsNotice};
 ghost use Rattle.gqlls_run.specs.Parameters.{told};
 ghost use Rattle.gqlls_run.specs.Dialogue.{IsChanged, Updates};
-ghost use Rattle.gqlls_run.specs.State.{contents};
-ghost use Rattle.gqlls_run.specs.Told.{IsTold};
+ghost use Rattle.gqlls_run.specs.Files.{IsSource, has_nothing};
+ghost use Rattle.gqlls_run.specs.State.{IsParsed, file_of, files, source_of};
+ghost use Rattle.gqlls_run.specs.Told.{AreRemarksOf, IsTold};
 
 use apollo_parser::{DocumentRoot, Limits, Parser, SyntaxNode, SyntaxTree};
-use editor_diagnostics::{Positions, publication};
+use editor_diagnostics::{Positions, Remark, publication};
 use editor_text::{Change, OpenDocument};
 use editor_validation::remarks;
+use embedded_documents::{HostLanguage, is_blank, is_in_document, masked};
 use line_index::PositionEncoding;
 use open_quotes::closed;
 use std::alloc::{AllocError, Global};
 use std::collections::BTreeMap;
 
-// The tree of a document's text, within limits.
-fn parsed(
+// The text of a file in another language with only what is in templates; none for one in GraphQL.
+fn masked_text(
     alloc: Global,
     content: &OpenDocument,
-    limits: Limits,
-) -> Result<SyntaxTree<DocumentRoot>, AllocError>
-    ensures { IfOk result (Promise content.now.text limits.recursion limits.tokens) }
+    host: Option<HostLanguage>,
+) -> Result<Option<String>, AllocError>
+    ensures { IfOk result (λ text. IsSource (record { content = content.now; host = host })
+        (unwrap_or (option_map string_bytes text) content.now.text)) }
+{
+    match host {
+        Some(language) => Ok(Some(masked(alloc, content.text(), language)?)),
+        None => Ok(None),
+    }
+}
+
+// The text that is parsed: the masked one, if there is one.
+fn source_in<'t>(content: &'t OpenDocument, masked: &'t Option<String>) -> &'t str
+    ensures { result.now ≡ unwrap_or (option_map string_bytes masked.now) content.now.text }
+{
+    match masked {
+        Some(text) => text.as_str(),
+        None => content.text(),
+    }
+}
+
+// The tree of a text, within limits.
+fn parsed(alloc: Global, text: &str, limits: Limits) -> Result<SyntaxTree<DocumentRoot>, AllocError>
+    ensures { IfOk result (Promise text.now limits.recursion limits.tokens) }
 {
     // bound to a name, so that its clauses on `Ok` are found
-    let tree = Parser::within(content.text(), limits).parse(alloc)?;
+    let tree = Parser::within(text, limits).parse(alloc)?;
     Ok(tree)
 }
 
-// The tree of a document's text where strings that their lines leave open are closed, if there are any: each is an error of the text's own tree.
+// The tree of a text where strings that their lines leave open are closed, if there are any: each is an error of the text's own tree.
 fn mended(
     alloc: Global,
-    content: &OpenDocument,
+    text: &str,
     tree: &SyntaxTree<DocumentRoot>,
     limits: Limits,
 ) -> Result<Option<SyntaxTree<DocumentRoot>>, AllocError> {
     if tree.errors().as_slice().is_empty() {
         return Ok(None);
     }
-    let Some(text) = closed(alloc, content.text())? else {
+    let Some(text) = closed(alloc, text)? else {
         return Ok(None);
     };
     let tree = Parser::within(text.as_str(), limits).parse(alloc)?;
     Ok(Some(tree))
 }
 
-/// A document that a client has open, with the tree of its text.
+/// A document that a client has open, or the documents in templates of a file, with the tree.
 #[derive(Drop)]
 pub(crate) struct Document {
     pub content: OpenDocument,
+    // the language of the file, if it isn't GraphQL
+    pub host: Option<HostLanguage>,
+    // the text that is parsed, where it is another; its byte offsets are those of the text
+    masked: Option<String>,
     tree: SyntaxTree<DocumentRoot>,
     // the one that answers are about, where it is another
     mended: Option<SyntaxTree<DocumentRoot>>,
@@ -61,16 +89,21 @@ impl Document {
         alloc: Global,
         encoding: PositionEncoding,
         text: &str,
+        host: Option<HostLanguage>,
         limits: Limits,
     ) -> Result<Document, AllocError>
-        ensures content { IfOk result (λ document. document.content ≡ record { encoding = encoding; text = text.now }) }
-        ensures parsed { IfOk result (λ document. Promise document.content.text limits.recursion limits.tokens document.tree) }
+        ensures file { IfOk result (λ document. file_of document ≡ record { content = record { encoding = encoding; text = text.now }; host = host }) }
+        ensures parsed { IfOk result (IsParsed limits) }
     {
         let content = OpenDocument::new(alloc, encoding, text)?;
-        let tree = parsed(alloc, &content, limits)?;
-        let mended = mended(alloc, &content, &tree, limits)?;
+        let masked = masked_text(alloc, &content, host)?;
+        let source = source_in(&content, &masked);
+        let tree = parsed(alloc, source, limits)?;
+        let mended = mended(alloc, source, &tree, limits)?;
         Ok(Document {
             content,
+            host,
+            masked,
             tree,
             mended,
         })
@@ -83,13 +116,34 @@ impl Document {
         changes: &[Change<'_>],
         limits: Limits,
     ) -> Result<(), AllocError>
-        ensures changed { OnOk result (IsChanged (map told changes.now) self.old.content self.new.content) }
-        ensures parsed { OnOk result (Promise self.new.content.text limits.recursion limits.tokens self.new.tree) }
+        ensures changed { OnOk result (IsChanged (map told changes.now) (file_of self.old) (file_of self.new)) }
+        ensures parsed { OnOk result (IsParsed limits self.new) }
     {
         self.content.change_all(alloc, changes)?;
-        self.tree = parsed(alloc, &self.content, limits)?;
-        self.mended = mended(alloc, &self.content, &self.tree, limits)?;
+        self.masked = masked_text(alloc, &self.content, self.host)?;
+        self.tree = parsed(alloc, self.source(), limits)?;
+        self.mended = mended(alloc, self.source(), &self.tree, limits)?;
         Ok(())
+    }
+
+    /// The text that is parsed.
+    pub(crate) fn source(&self) -> &str
+        ensures { result.now ≡ source_of self.now }
+    {
+        source_in(&self.content, &self.masked)
+    }
+
+    // The remarks on it: none where nothing is in templates.
+    fn remarks(&self, alloc: Global) -> Result<Vec<Remark>, AllocError>
+        ensures said { IfOk result (λ found. has_nothing (file_of self.now) (source_of self.now) ≡ false → AreRemarksOf self.now.tree (map as_remarked found.items)) }
+        ensures silent { IfOk result (λ found. has_nothing (file_of self.now) (source_of self.now) ≡ true → map as_remarked found.items ≡ []) }
+    {
+        if self.host.is_some() && is_blank(self.source()) {
+            return Ok(Vec::new(alloc));
+        }
+        // bound to a name, so that its clauses on `Ok` are found
+        let found = remarks(alloc, &self.tree.root(), self.tree.errors().as_slice())?;
+        Ok(found)
     }
 
     /// The notice of the remarks on it, by its name and the version that the client gave it.
@@ -100,14 +154,21 @@ impl Document {
         version: Option<i64>,
     ) -> Result<Vec<u8>, AllocError>
         ensures notifies { IfOk result (λ body. IsNotice body.items) }
-        ensures told { IfOk result (λ body. (limits : Limits) → Promise self.now.content.text limits.recursion limits.tokens self.now.tree
-            → IsTold limits uri.now version self.now.content body.items) }
+        ensures told { IfOk result (λ body. (limits : Limits) → IsParsed limits self.now → IsTold limits uri.now version (file_of self.now) body.items) }
     {
         let positions = self.positions(alloc)?;
-        let remarks = remarks(alloc, &self.tree.root(), self.tree.errors().as_slice())?;
+        let remarks = self.remarks(alloc)?;
         // bound to a name, so that its clauses on `Ok` are found
         let body = publication(alloc, uri, version, &positions, remarks.as_slice())?;
         Ok(body)
+    }
+
+    /// Whether a byte offset is in GraphQL: in a file in another language only templates are.
+    pub(crate) fn is_at(&self, alloc: Global, offset: usize) -> Result<bool, AllocError> {
+        match self.host {
+            Some(language) => is_in_document(alloc, self.content.text(), language, offset),
+            None => Ok(true),
+        }
     }
 
     /// The root of the tree that answers are about. Its byte offsets are those of the text, and its strings need not be.
@@ -134,7 +195,7 @@ pub(crate) fn insert(
     uri: &str,
     document: Document,
 ) -> Result<(), AllocError>
-    ensures { OnOk result (Updates uri.now (Some document.content) (contents documents.old) (contents documents.new)) }
+    ensures { OnOk result (Updates uri.now (Some (file_of document)) (files documents.old) (files documents.new)) }
 {
     let name = String::from_str(alloc, uri)?;
     documents.insert(name, document)?;

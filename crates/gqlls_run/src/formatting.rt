@@ -1,9 +1,11 @@
 // The answers to requests for a layout.
 ghost use Rattle.std.specs.Prelude.{IfOk};
+ghost use Rattle.json.specs.Json.{null};
 ghost use Rattle.json.specs.Tree.{HasNumbers};
 ghost use Rattle.json.specs.Value.{value_view};
-ghost use Rattle.rpc_messages.specs.Messages.{IsAnswer};
-ghost use Rattle.gqlls_run.specs.Layout.{IsFormattingOf, IsLaidOut};
+ghost use Rattle.rpc_messages.specs.Messages.{IsAnswer, IsResult};
+ghost use Rattle.gqlls_run.specs.Layout.{IsFormattingIn, IsFormattingOf, IsLaidOut};
+ghost use Rattle.gqlls_run.specs.State.{file_of};
 
 use crate::documents::Document;
 use crate::layout::{Layout, formatted};
@@ -33,11 +35,7 @@ pub(crate) fn answer_layout(
             let body = answer_edits(alloc, id, positions, text.as_str())?;
             Ok(body)
         }
-        Layout::Left => {
-            // bound to a name, so that its clauses on `Ok` are found
-            let body = answer(alloc, id, &[Piece::Null])?;
-            Ok(body)
-        }
+        Layout::Left => answer_null(alloc, id),
         Layout::TooLong => {
             let body = refusal(alloc, id, REQUEST_FAILED, "the layout has more than 64 MB")?;
             Ok(body)
@@ -45,8 +43,19 @@ pub(crate) fn answer_layout(
     }
 }
 
-/// The answer to `textDocument/formatting` about a document, within limits.
-pub(crate) fn answer_formatting(
+/// The answer whose result is null.
+pub(crate) fn answer_null(alloc: Global, id: &Value<'_>) -> Result<Vec<u8>, AllocError>
+    requires { HasNumbers (value_view id.now) }
+    ensures answers { IfOk result (λ body. IsAnswer (value_view id.now) body.items) }
+    ensures null { IfOk result (λ body. IsResult (value_view id.now) null body.items) }
+{
+    // bound to a name, so that its clauses on `Ok` are found
+    let body = answer(alloc, id, &[Piece::Null])?;
+    Ok(body)
+}
+
+// The answer to `textDocument/formatting` about a document in GraphQL, within limits.
+fn answer_document(
     alloc: Global,
     id: &Value<'_>,
     document: &Document,
@@ -61,4 +70,21 @@ pub(crate) fn answer_formatting(
     // bound to a name, so that its clauses on `Ok` are found
     let body = answer_layout(alloc, id, &positions, &layout)?;
     Ok(body)
+}
+
+/// The answer to `textDocument/formatting` about a document, within limits. A file in another language is left as it is.
+pub(crate) fn answer_formatting(
+    alloc: Global,
+    id: &Value<'_>,
+    document: &Document,
+    limits: Limits,
+) -> Result<Vec<u8>, AllocError>
+    requires { HasNumbers (value_view id.now) }
+    ensures answers { IfOk result (λ body. IsAnswer (value_view id.now) body.items) }
+    ensures formats { IfOk result (λ body. IsFormattingIn limits (value_view id.now) (file_of document.now) body.items) }
+{
+    match document.host {
+        Some(_) => answer_null(alloc, id),
+        None => answer_document(alloc, id, document, limits),
+    }
 }

@@ -7,11 +7,13 @@ ghost use Rattle.json.specs.Json.{string};
 ghost use Rattle.json.specs.Value.{value_view};
 ghost use Rattle.line_index.specs.declared.PositionEncoding.TheVariants.{Utf8};
 ghost use Rattle.gqlls_run.specs.Parameters.{IsVersionIn, Offers, OffersAll, number_at, position_at, position_in, range_in, text_in, uri_in};
-ghost use Rattle.gqlls_run.specs.Parameters.{each, edit_in, edits_in, extent_in, items_at, list_of, told};
+ghost use Rattle.gqlls_run.specs.Files.{host_named};
+ghost use Rattle.gqlls_run.specs.Parameters.{each, edit_in, edits_in, extent_in, host_in, items_at, list_of, told};
 
 use editor_answers::Span;
 use editor_diagnostics::Positions;
 use editor_text::{Change, PositionRange};
+use embedded_documents::HostLanguage;
 use json::Value;
 use line_index::{Position, PositionEncoding};
 use std::alloc::{AllocError, Global};
@@ -125,6 +127,26 @@ pub(crate) fn text_of<'a>(params: &Value<'a>) -> Option<&'a str>
     ensures { option_map (λ text. text.now) result ≡ text_in (value_view params.now) }
 {
     params.get("textDocument")?.get("text")?.as_str()
+}
+
+// The language that a `languageId` names, if it isn't GraphQL.
+fn host_named(name: &str) -> Option<HostLanguage>
+    ensures { result ≡ host_named name.now }
+{
+    match name {
+        "javascript" | "javascriptreact" | "typescript" | "typescriptreact" => {
+            Some(HostLanguage::JavaScript)
+        }
+        "python" => Some(HostLanguage::Python),
+        _ => None,
+    }
+}
+
+/// The language of a document that is opened, if it isn't GraphQL.
+pub(crate) fn host_of(params: &Value<'_>) -> Option<HostLanguage>
+    ensures { result ≡ host_in (value_view params.now) }
+{
+    host_named(params.get("textDocument")?.get("languageId")?.as_str()?)
 }
 
 // The change that a value is.

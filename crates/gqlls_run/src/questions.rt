@@ -6,7 +6,7 @@ ghost use Rattle.rpc_messages.specs.Messages.{IsAnswer};
 
 use crate::completing::{call_around, push_completions};
 use crate::documents::Document;
-use crate::formatting::answer_layout;
+use crate::formatting::{answer_layout, answer_null};
 use crate::layout::format_part;
 use crate::naming::{Occurrence, Sought};
 use crate::parameters::{asks_for_definition, new_name_of, offset_of, offsets_of, span_of};
@@ -74,6 +74,7 @@ pub(crate) fn question_of(method: &str) -> Option<Question> {
 struct Asked<'a, 'd, 'v> {
     alloc: Global,
     standard: SyntaxNode<'a>,
+    document: &'a Document,
     root: SyntaxNode<'a>,
     positions: &'a Positions<'d>,
     uri: &'a str,
@@ -308,6 +309,9 @@ impl<'a> Asked<'a, '_, '_> {
         let Some(within) = span_of(self.positions, self.params) else {
             return self.refused(id);
         };
+        if self.document.host.is_some() {
+            return answer_null(self.alloc, id);
+        }
         let text = self.positions.text;
         let layout = format_part(self.alloc, text, self.root, within, self.limits)?;
         answer_layout(self.alloc, id, self.positions, &layout)
@@ -382,6 +386,9 @@ impl<'a> Asked<'a, '_, '_> {
         let Some(offset) = offset_of(self.positions, self.params) else {
             return self.refused(id);
         };
+        if !self.document.is_at(self.alloc, offset)? {
+            return answer_null(self.alloc, id);
+        }
         let roots = self.roots()?;
         let mut pieces = Vec::new(self.alloc);
         push_completions(
@@ -389,6 +396,7 @@ impl<'a> Asked<'a, '_, '_> {
             &mut pieces,
             self.root,
             roots.as_slice(),
+            self.document.source(),
             self.positions,
             offset,
             self.limits,
@@ -403,8 +411,11 @@ impl<'a> Asked<'a, '_, '_> {
         let Some(offset) = offset_of(self.positions, self.params) else {
             return self.refused(id);
         };
+        if !self.document.is_at(self.alloc, offset)? {
+            return answer_null(self.alloc, id);
+        }
         let roots = self.roots()?;
-        let text = self.positions.text;
+        let text = self.document.source();
         let call = call_around(self.alloc, text, offset, roots.as_slice(), self.limits)?;
         match call {
             Some(call) => answer_signature(self.alloc, id, call),
@@ -453,6 +464,7 @@ pub(crate) fn answer_question(
     let asked = Asked {
         alloc,
         standard: standard.root(),
+        document,
         root: document.root(),
         positions: &positions,
         uri,

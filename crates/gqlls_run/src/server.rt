@@ -1,9 +1,8 @@
 // The server: what it replies to each message.
 ghost use Rattle.std.specs.Prelude.{◌≡◌, IfOk, None, codes};
-ghost use Rattle.json.specs.Json.{null};
 ghost use Rattle.json.specs.Tree.{HasNumbers};
 ghost use Rattle.json.specs.Value.{value_view};
-ghost use Rattle.rpc_messages.specs.Messages.{IsAnswer, IsResult};
+ghost use Rattle.rpc_messages.specs.Messages.{IsAnswer};
 ghost use Rattle.rpc_messages.specs.Replies.{EndsOnlyIf, Replies};
 ghost use Rattle.rpc_messages.specs.declared.reply.Reply.TheVariants.{Answer};
 ghost use Rattle.gqlls_run.specs.Conversation.{Changes, Closes, Formats, IsAsked, IsHeard, Opens, exit_status};
@@ -13,15 +12,15 @@ ghost use Rattle.gqlls_run.specs.State.{StepsOf, dialogue_of};
 
 use crate::capabilities::answer_initialize;
 use crate::documents::{Document, insert};
-use crate::formatting::answer_formatting;
-use crate::parameters::{changes_of, encoding_of, query_of, text_of, uri_of, version_of};
+use crate::formatting::{answer_formatting, answer_null};
+use crate::parameters::{changes_of, encoding_of, host_of, query_of, text_of, uri_of, version_of};
 use crate::questions::{answer_question, question_of};
 use crate::searching::answer_search;
 use apollo_parser::Limits;
 use editor_diagnostics::withdrawal;
 use json::Value;
 use line_index::PositionEncoding;
-use rpc_messages::{Piece, Reply, Service, answer, code, refusal};
+use rpc_messages::{Reply, Service, code, refusal};
 use std::alloc::{AllocError, Global};
 use std::collections::BTreeMap;
 
@@ -132,7 +131,7 @@ impl Server {
         let Some(text) = text_of(params) else {
             return Ok(Reply::Nothing);
         };
-        let document = Document::new(alloc, self.encoding, text, self.limits)?;
+        let document = Document::new(alloc, self.encoding, text, host_of(params), self.limits)?;
         let told = document.told(alloc, uri, version_of(params))?;
         insert(alloc, &mut self.documents, uri, document)?;
         Ok(Reply::Notice(told))
@@ -184,17 +183,6 @@ fn refused(alloc: Global, id: &Value<'_>, code: i64, text: &str) -> Result<Vec<u
     refusal(alloc, id, code, text)
 }
 
-// The answer to `shutdown`, whose result is null.
-fn answer_shutdown(alloc: Global, id: &Value<'_>) -> Result<Vec<u8>, AllocError>
-    requires { HasNumbers (value_view id.now) }
-    ensures answers { IfOk result (λ body. IsAnswer (value_view id.now) body.items) }
-    ensures null { IfOk result (λ body. IsResult (value_view id.now) null body.items) }
-{
-    // bound to a name, so that its clauses on `Ok` are found
-    let body = answer(alloc, id, &[Piece::Null])?;
-    Ok(body)
-}
-
 // With which status `exit` ends the server.
 fn exit_status(stage: Stage) -> u8
     ensures { result ≡ exit_status stage }
@@ -229,7 +217,7 @@ impl Service for Server {
             Stage::New => refused(alloc, id, code::NOT_INITIALIZED, "not initialized"),
             Stage::Running if method == "shutdown" => {
                 self.stage = Stage::ShutDown;
-                answer_shutdown(alloc, id)
+                answer_null(alloc, id)
             }
             Stage::Running => self.answered(alloc, id, method, params),
             Stage::ShutDown => refused(alloc, id, code::INVALID_REQUEST, "shut down"),

@@ -2,7 +2,7 @@ use Rattle.std.proofs.Common.{ap, refl, rules}
 use Rattle.std.specs.Prelude.{option_map}
 use Rattle.json.specs.Value.{value_view}
 use Rattle.rpc_messages.specs.declared.reply.Reply.TheVariants.{Notice}
-use Rattle.gqlls_run.specs.State.{content_of, dialogue_of}
+use Rattle.gqlls_run.specs.State.{dialogue_of, file_of}
 use Rattle.gqlls_run.specs.declared.server.Server.{Server}
 use Rattle.gqlls_run.proofs.Maps.{updated}
 use Rattle.gqlls_run.proofs.Messages.{closes, found_in}
@@ -12,8 +12,8 @@ pub returns-clause-closes : goal.returns-clause-closes
 returns-clause-closes c =
     let after : Server = record c.args.self.now { documents = c.remove.new.self } in
     closes (value_view c.args.params.now) (Notice c.in_ok-told.told) (dialogue_of c.args.self.now) (dialogue_of after)
-    c.in-Some.uri.now content_of c.remove.result
-    (found_in _ _ _ _ c.uri_of.ensures c.in-Some.is) (ap (option_map content_of) c.remove.ensures.value) (search rules)
+    c.in-Some.uri.now file_of c.remove.result
+    (found_in _ _ _ _ c.uri_of.ensures c.in-Some.is) (ap (option_map file_of) c.remove.ensures.value) (search rules)
     (record {
       sets = record {
         documents = updated _ _ c.args.self.now.documents c.remove.new.self _ _ refl c.remove.ensures.updates refl;

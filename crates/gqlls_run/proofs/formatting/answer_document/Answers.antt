@@ -1,5 +1,5 @@
 use Rattle.gqlls_run.proofs.Layouts.{formatting}
-use Rattle.gqlls_run.proofs.formatting.answer_formatting.Goals as goal
+use Rattle.gqlls_run.proofs.formatting.answer_document.Goals as goal
 
 pub returns-clause-formats : goal.returns-clause-formats
 returns-clause-formats c =

@@ -1,0 +1,27 @@
+-- The files that a client has open, and what of them is GraphQL.
+use Rattle.std.specs.Prelude.{◌≡◌, ℕ, Bool, ◌&&◌, ◌||◌, if◌then◌else◌, List, Option, Some, None, MatchOption, is_some}
+use Rattle.std.specs.Prelude.{codes, bytes_eq}
+use Rattle.editor_text.specs.Client.{Opened}
+use Rattle.embedded_documents.specs.Masked.{IsMasked, is_blank}
+use Rattle.embedded_documents.specs.declared.scanning.HostLanguage.{HostLanguage}
+use Rattle.embedded_documents.specs.declared.scanning.HostLanguage.TheVariants.{JavaScript, Python}
+
+-- an open file: its text, and its language where that isn't GraphQL
+pub record OpenFile : Type 0 where
+  pub content : Opened
+  pub host : Option HostLanguage
+
+-- the language that a `languageId` names; any other is taken for GraphQL
+abbrev pub host_named : List ℕ → Option HostLanguage
+host_named name =
+    if bytes_eq name (codes "javascript") || (bytes_eq name (codes "javascriptreact")
+    || (bytes_eq name (codes "typescript") || bytes_eq name (codes "typescriptreact"))) then Some JavaScript
+    else (if bytes_eq name (codes "python") then Some Python else None)
+
+-- the text that is parsed: the file's own, or in another language the masked one
+abbrev pub IsSource : OpenFile → List ℕ → Type 0
+IsSource file source = MatchOption file.host (source ≡ file.content.text) (λ host. IsMasked file.content.text source)
+
+-- whether the file is in another language and has nothing in templates
+abbrev pub has_nothing : OpenFile → List ℕ → Bool
+has_nothing file source = is_some file.host && is_blank source
