@@ -5,12 +5,13 @@ OPTIONS = {"tabSize": 2, "insertSpaces": True}
 
 
 class View:
-    """A document that a client has open, its text, and an offset in it."""
+    """A document that a client has open, its text and language, and an offset in it."""
 
-    def __init__(self, client, uri, text, offset):
+    def __init__(self, client, uri, text, language, offset):
         self.client = client
         self.uri = uri
         self.text = text
+        self.language = language
         self.offset = offset
 
     def ask(self, feature, **params):
@@ -91,8 +92,11 @@ def names(view):
 
 
 def completions(view):
-    """No label is blank, and what each replaces is the end of the line's text before the offset."""
-    for item in view.ask("completion", position=view.position()):
+    """No label is blank, and what each replaces is the end of the line's text before the offset. In code there are none."""
+    found = view.ask("completion", position=view.position())
+    if found is None:
+        return view.language != "graphql"
+    for item in found:
         part = view.text.part(item["textEdit"]["range"])
         if not item["label"].strip() or not part or part[1] != view.offset or view.text.position(part[0])["line"] != view.position()["line"]:
             return False
@@ -100,7 +104,9 @@ def completions(view):
 
 
 def layout(view):
-    """A text gets a layout exactly where it has no errors; then it still has none, and keeps its layout."""
+    """A text in GraphQL gets a layout exactly where it has no errors; then it still has none, and keeps its layout."""
+    if view.language != "graphql":
+        return view.ask("formatting", options=OPTIONS) is None
     has_errors = errors_of(view.client.open("file:///anew", view.text.text)) != []
     edits = view.ask("formatting", options=OPTIONS)
     if has_errors or edits is None:

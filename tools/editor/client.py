@@ -70,9 +70,9 @@ class Client:
         self.notify("initialized")
         return answer["result"]["capabilities"]
 
-    def open(self, uri, text):
+    def open(self, uri, text, language="graphql"):
         """Opens a document, and gives what is published of it."""
-        document = {"uri": uri, "languageId": "graphql", "version": 0, "text": text}
+        document = {"uri": uri, "languageId": language, "version": 0, "text": text}
         self.notify("textDocument/didOpen", textDocument=document)
         return self.read()["params"]
 

@@ -5,8 +5,9 @@ import json
 import re
 import subprocess
 import sys
+from pathlib import Path
 
-from client import Client, Text
+from client import Client, Text, errors_of
 
 PROGRAM = sys.argv[1]
 URI = "file:///a.graphql"
@@ -350,6 +351,63 @@ def open_quotes():
     client.end()
 
 
+TEMPLATES = Path(__file__).resolve().parent / "templates"
+# files in other languages, what they define in templates, and where one has an error
+SOURCES = [
+    ("typescript", (TEMPLATES / "pets.ts").read_text(), ["Find", "parts", "Pet"], None),
+    ("python", (TEMPLATES / "pets.py").read_text(), ["Find", "parts", "Other"], "'😀"),
+    ("javascriptreact", "const a = <p>it's</p>\r\nconst q = gql`query Q { é }`\r\n", ["Q"], "é"),
+    ("javascript", "const a = gql``, b = 1 / 2 / gql ` `", [], None),
+    ("typescriptreact", "const é = { a: 1 }", [], None),
+    ("python", "a = gql('query Y { y(a: ) }', \"{ a\")\n", ["Y"], ")"),
+]
+
+
+def templates():
+    """In files of other languages only what is in templates is GraphQL, but for code in it, and positions are those of the file."""
+    for encoding in ["utf-16", "utf-8"]:
+        client = started(encoding)
+        for language, source, names, wrong in SOURCES:
+            text, what = Text(source, encoding), f"{encoding}, {source!r}"
+            found = errors_of(client.open(URI, source, language))
+            expect(f"errors, {what}", [it["range"]["start"] for it in found], [text.position(source.index(wrong))] if wrong else [])
+            found = client.ask_about(URI, "documentSymbol")
+            expect(f"the outline, {what}", [text.of(it["selectionRange"]) for it in found], names)
+            for feature in ["formatting", "rangeFormatting"]:
+                expect(f"no {feature}, {what}", client.ask_about(URI, feature, options=OPTIONS, range=text.range(0, len(source))), None)
+            for feature in ["completion", "signatureHelp", "hover"]:
+                expect(f"no {feature} in code, {what}", client.ask_about(URI, feature, position=text.position(3)), None)
+        client.end()
+
+
+def changed_templates():
+    """Changes and answers in a file of another language."""
+    source = (TEMPLATES / "pets.ts").read_text()
+    for encoding in ["utf-16", "utf-8"]:
+        client, text = started(encoding), Text(source, encoding)
+        client.open(URI, source, "typescript")
+        place = source.index("parts }")
+        found = client.ask_about(URI, "definition", position=text.position(place))
+        expect("the definition in another template", text.part(found["range"])[0], source.index("parts on"))
+        found = client.ask_about(URI, "rename", position=text.position(place), newName="all")
+        expect("a text with another name", text.changed(found["changes"][URI]), source.replace("parts }", "all }").replace("parts on", "all on"))
+        client.open("file:///types", "type Query { pet(id: ID): Pet } type Pet { name: String }")
+        place = source.index("...parts")
+        found = client.ask_about(URI, "completion", position=text.position(place))
+        expect("words in a template", [it["label"] for it in found if it["kind"] != 14], ["name", *META])
+        found = client.ask_about(URI, "signatureHelp", position=text.position(source.index("id: $id")))
+        expect("a signature in a template", found and found["signatures"][0]["label"], "pet(id: ID): Pet")
+        expect("no hover in code of a template", client.ask_about(URI, "hover", position=text.position(source.index("a: `}`"))), None)
+        for place, wrong in [(source.index("parts on"), "1"), (source.index("a: `}`"), "}"), (source.index("const"), "/* "), (source.index("; // gql"), "😀")]:
+            new = source[:place] + wrong + source[place:]
+            change = {"range": text.range(place, place), "text": wrong}
+            found = client.change(URI, 1, [change])["diagnostics"]
+            expect(f"{wrong} in a template or code", found, client.open("file:///anew.ts", new, "typescript")["diagnostics"])
+            client.close("file:///anew.ts")
+            client.open(URI, source, "typescript")
+        client.end()
+
+
 # Names that have their meaning by the types of their places, and where TYPES defines them.
 QUERY = """query Q($e: Episode = JEDI) {
   hero(episode: HOPE, like: { other: { episode: JEDI } }) @d(at: HOPE) { friends { name } ...F }
@@ -624,7 +682,7 @@ def many_changes():
             client.end()
 
 
-TESTS = [states, statuses_without_shutdown, faulty_messages, pieces_of_input, capabilities, changes, positions, diagnostics, violations, lambda: names("utf-16", 0), lambda: names("utf-8", 2), other_documents, members, uses_of_names, open_quotes,
+TESTS = [states, statuses_without_shutdown, faulty_messages, pieces_of_input, capabilities, changes, positions, diagnostics, violations, lambda: names("utf-16", 0), lambda: names("utf-8", 2), other_documents, members, uses_of_names, open_quotes, templates, changed_templates,
          lambda: parts("utf-16", 0), lambda: parts("utf-8", 2), names_of_symbols, more_folds, completion, layout, long_layout, limits, refused_words, standard, signatures, many_changes]
 for test in TESTS:
     test()

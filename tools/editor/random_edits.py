@@ -14,12 +14,14 @@ import answers
 from client import Client, Text, errors_of
 
 GQLCST = Path(__file__).resolve().parent.parent.parent / "crates/gqlcst/out/gqlcst"
-PIECES = ["😀", "é", "a", " ", "\n", "{", "}", '"', '"""', "# x", "1 ", "type T { a: B }\n", "\r", "漢", "\r\n", "query ($a: [Int!] = [1]) { b }", "@d", "...", "fragment on A { b }"]
-DOCUMENTS = [
+TEMPLATES = Path(__file__).resolve().parent / "templates"
+PIECES = ["`", "gql`", "${", "\\", "😀", "é", "a", " ", "\n", "{", "}", '"', '"""', "# x", "1 ", "type T { a: B }\n", "\r", "漢", "\r\n", "query ($a: [Int!] = [1]) { b }", "@d", "...", "fragment on A { b }"]
+LANGUAGES = ["graphql", "graphql", "typescript", "python"]
+TEXTS = {"graphql": [
     'type A {\n  "😀 é" a(x: Int): B! \n  b: A }\r\n"""\n漢 \\"""\r"""\renum E { A B }\n',
     'query Q($id: ID = "😀") @d {\r\n  a(id: $id, o: {x: [1, 2.5]}) { ...F }\r\n}\rfragment F on A { b c: d }\n',
     "",
-]
+], "typescript": [(TEMPLATES / "pets.ts").read_text(), "const a = <p>{gql`{ a }`}</p>\r\n"], "python": [(TEMPLATES / "pets.py").read_text()]}
 # One line of 1 MB takes a while, so it gets few of the edits, and no other request.
 LONG = "type L { " + "a: B " * 210_000 + "}"
 SHORT = 10_000
@@ -35,13 +37,13 @@ class Run:
         self.edits = self.documents = self.wrong = 0
         assert self.client.initialize(encoding)["positionEncoding"] == encoding
 
-    def edit(self, text):
+    def edit(self, text, language):
         """One to three changes, each to the text that the one before left, and the last text."""
         changes = []
         for _ in range(self.random.choice([1, 1, 1, 2, 3])):
             new = "".join(self.random.choice(PIECES) for _ in range(self.random.randint(0, 4)))
             if self.random.random() < 0.1 and len(text.text) < SHORT:
-                new += self.random.choice(DOCUMENTS)
+                new += self.random.choice(TEXTS[language])
                 changes.append({"text": new})
                 text = Text(new, self.encoding)
             else:
@@ -52,32 +54,32 @@ class Run:
                 text = Text(text.text[:start] + new + text.text[end:], self.encoding)
         return changes, text
 
-    def fault(self, uri, text, notice):
+    def fault(self, uri, text, language, notice):
         """The fault in the server's messages about a document, or nothing."""
-        if notice["diagnostics"] != self.client.open("file:///anew", text.text)["diagnostics"]:
+        if notice["diagnostics"] != self.client.open("file:///anew", text.text, language)["diagnostics"]:
             return "other diagnostics than the text opened anew"
-        if GQLCST.exists() and not at_their_offsets(text, errors_of(notice)):
+        if language == "graphql" and GQLCST.exists() and not at_their_offsets(text, errors_of(notice)):
             return "other offsets of errors than gqlcst's"
         offset = text.boundary(self.random.randint(0, len(text.text)))
         feature = self.random.choice(answers.ALL)
-        if len(text.text) < SHORT and not feature(answers.View(self.client, uri, text, offset)):
+        if len(text.text) < SHORT and not feature(answers.View(self.client, uri, text, language, offset)):
             return f"{feature.__name__} at {text.position(offset)}"
         return None
 
-    def document(self, text, edits):
+    def document(self, text, edits, language="graphql"):
         """Opens a document, edits it, and closes it."""
         uri = f"file:///{self.documents}"
         self.documents += 1
         text = Text(text, self.encoding)
-        self.client.open(uri, text.text)
+        self.client.open(uri, text.text, language)
         for version in range(1, edits + 1):
-            changes, text = self.edit(text)
+            changes, text = self.edit(text, language)
             said = self.client.change(uri, version, changes)
-            fault = "the version" if said["version"] != version else self.fault(uri, text, said)
+            fault = "the version" if said["version"] != version else self.fault(uri, text, language, said)
             self.edits += 1
             if fault:
                 self.wrong += 1
-                print(f"random_edits: {self.encoding}: {fault}: {text.text[:300]!r}")
+                print(f"random_edits: {self.encoding}, {language}: {fault}: {text.text[:300]!r}")
         self.client.close(uri)
 
 
@@ -103,7 +105,8 @@ def main():
     for run in runs:
         run.document(LONG, max(edits // 200, 1))
         while run.edits < edits // 2:
-            run.document(run.random.choice(DOCUMENTS) * run.random.randint(1, 3), min(25, edits // 2 - run.edits))
+            language = run.random.choice(LANGUAGES)
+            run.document(run.random.choice(TEXTS[language]) * run.random.randint(1, 3), min(25, edits // 2 - run.edits), language)
         assert run.client.end() == 0
     edits, documents, wrong = (sum(getattr(run, what) for run in runs) for what in ["edits", "documents", "wrong"])
     if not GQLCST.exists():
