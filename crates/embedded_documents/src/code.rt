@@ -98,7 +98,11 @@ fn begins_pattern(bytes: &[u8], start: usize) -> bool
     }
 }
 
-// Where the regular expression ends that begins at a byte. Without an end on its line it is only that byte.
+// How many bytes are looked at for the end of a regular expression: without such a bound, a line of slashes that begin none would take the square of its
+// length.
+const LONGEST_PATTERN: usize = 1_000;
+
+// Where the regular expression ends that begins at a byte. Without an end on its line, or in that number of bytes, it is only that byte.
 fn pattern_end(bytes: &[u8], start: usize) -> usize
     requires { start < length bytes.now }
     ensures from { start < result }
@@ -106,7 +110,8 @@ fn pattern_end(bytes: &[u8], start: usize) -> usize
 {
     let mut is_escaped = false;
     let mut is_in_class = false;
-    for i in start + 1..bytes.len() {
+    let last = start.saturating_add(LONGEST_PATTERN).min(bytes.len());
+    for i in start + 1..last {
         match bytes[i] {
             b'\n' | b'\r' => return start + 1,
             _ if is_escaped => is_escaped = false,
