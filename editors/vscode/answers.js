@@ -20,9 +20,29 @@ function completion({ label, kind, textEdit }) {
   return Object.assign(new vscode.CompletionItem(label, kind - 1), { range: range(textEdit.range), insertText: textEdit.newText });
 }
 
+// A definition that is found by its name in the open documents.
+const found = ({ name, kind, location: place }) => new vscode.SymbolInformation(name, kind - 1, "", location(place));
+
+function changes({ changes: edits }) {
+  const made = new vscode.WorkspaceEdit();
+  for (const [uri, list] of Object.entries(edits)) made.set(vscode.Uri.parse(uri), list.map(edit));
+  return made;
+}
+
+function signature({ label, documentation, parameters }) {
+  return Object.assign(new vscode.SignatureInformation(label, documentation), {
+    parameters: parameters.map((parameter) => new vscode.ParameterInformation(parameter.label)),
+  });
+}
+
+function signatures({ signatures: all, activeSignature, activeParameter }) {
+  return Object.assign(new vscode.SignatureHelp(), { signatures: all.map(signature), activeSignature, activeParameter });
+}
+
+const highlight = ({ range: at }) => new vscode.DocumentHighlight(range(at));
 const fold = ({ startLine, endLine, kind }) => new vscode.FoldingRange(startLine, endLine, kind === "comment" ? vscode.FoldingRangeKind.Comment : undefined);
 const selection = ({ range: at, parent }) => new vscode.SelectionRange(range(at), parent && selection(parent));
 const hover = ({ contents, range: at }) => new vscode.Hover(new vscode.MarkdownString(contents.value), range(at));
 const tokens = ({ data }) => new vscode.SemanticTokens(Uint32Array.from(data));
 
-module.exports = { completion, diagnostic, edit, fold, hover, location, range, selection, symbol, tokens };
+module.exports = { changes, completion, diagnostic, edit, fold, found, highlight, hover, location, range, selection, signatures, symbol, tokens };

@@ -17,6 +17,7 @@ const each = (value) => (list) => list.map(value);
 const atPosition = (at) => ({ position: position(at) });
 const inRange = (at) => ({ range: range(at) });
 const options = ({ tabSize, insertSpaces }) => ({ options: { tabSize, insertSpaces } });
+const triggers = ({ triggerCharacters }) => triggerCharacters;
 const legend = ({ legend: { tokenTypes, tokenModifiers } }) => [new SemanticTokensLegend(tokenTypes, tokenModifiers)];
 
 // What the server may serve: its capability; VS Code's provider with its call, and further words of its registration; the request, what it says beside the
@@ -43,13 +44,38 @@ const SERVED = [
     value: each(answers.location),
   },
   {
+    can: "documentHighlightProvider",
+    provider: "DocumentHighlight",
+    call: "provideDocumentHighlights",
+    method: "documentHighlight",
+    more: atPosition,
+    value: each(answers.highlight),
+  },
+  {
+    can: "renameProvider",
+    provider: "Rename",
+    call: "provideRenameEdits",
+    method: "rename",
+    more: (at, newName) => ({ ...atPosition(at), newName }),
+    value: answers.changes,
+  },
+  {
     can: "completionProvider",
     provider: "CompletionItem",
-    words: ({ triggerCharacters }) => triggerCharacters,
+    words: triggers,
     call: "provideCompletionItems",
     method: "completion",
     more: atPosition,
     value: each(answers.completion),
+  },
+  {
+    can: "signatureHelpProvider",
+    provider: "SignatureHelp",
+    words: triggers,
+    call: "provideSignatureHelp",
+    method: "signatureHelp",
+    more: atPosition,
+    value: answers.signatures,
   },
   {
     can: "documentFormattingProvider",
@@ -144,10 +170,10 @@ class Client {
     this.disposables.push(workspace.onDidOpenTextDocument(opened), workspace.onDidChangeTextDocument(changed), workspace.onDidCloseTextDocument(closed));
   }
 
-  // The answer about a document as a value of VS Code. It is null where the server has none, or refuses the request.
-  async #ask(method, document, value, more) {
+  // The answer as a value of VS Code. It is null where the server has none, or refuses the request.
+  async #ask(method, params, value) {
     try {
-      const result = await this.connection.request(`textDocument/${method}`, { textDocument: named(document), ...more });
+      const result = await this.connection.request(method, params);
       return result && value(result);
     } catch {
       return null;
@@ -157,9 +183,12 @@ class Client {
   #serve(capabilities) {
     for (const { can, provider, words = () => [], call, method, more = () => ({}), value } of SERVED) {
       if (!capabilities[can]) continue;
-      const asking = { [call]: (document, ...given) => this.#ask(method, document, value, more(...given)) };
-      this.disposables.push(languages[`register${provider}Provider`]({ language: LANGUAGE }, asking, ...words(capabilities[can])));
+      const ask = (document, ...given) => this.#ask(`textDocument/${method}`, { textDocument: named(document), ...more(...given) }, value);
+      this.disposables.push(languages[`register${provider}Provider`]({ language: LANGUAGE }, { [call]: ask }, ...words(capabilities[can])));
     }
+    if (!capabilities.workspaceSymbolProvider) return;
+    const provideWorkspaceSymbols = (query) => this.#ask("workspace/symbol", { query }, each(answers.found));
+    this.disposables.push(languages.registerWorkspaceSymbolProvider({ provideWorkspaceSymbols }));
   }
 }
 

@@ -89,6 +89,26 @@ const tests = {
     assert.equal(await ask("Hover", "provideHover", schema, at(0, 0)), null);
   },
 
+  async "renaming, marks and symbols of the folder"() {
+    const places = [[1, 20, 1, 25], [3, 9, 3, 14]];
+    const { all } = await ask("Rename", "provideRenameEdits", query, at(1, 22), "some");
+    assert.deepEqual(all.map(({ uri, edits }) => [uri.path, edits.map(({ range }) => span(range))]), [["/a%20b/query.graphql", places]]);
+    assert.deepEqual(all[0].edits.map(({ newText }) => newText), ["some", "some"]);
+    assert.equal(await ask("Rename", "provideRenameEdits", query, at(1, 22), "1"), null);
+    const marks = await ask("DocumentHighlight", "provideDocumentHighlights", query, at(1, 22));
+    assert.deepEqual(marks.map(({ range }) => span(range)), places);
+    const symbols = await ask("WorkspaceSymbol", "provideWorkspaceSymbols", "PE");
+    assert.deepEqual(symbols.map(({ name, location }) => [name, location.uri.path, span(location.range)]), [["Pet", "/schema.graphql", [6, 5, 6, 8]]]);
+  },
+
+  async "signature"() {
+    assert.deepEqual(providers.SignatureHelp.words, ["(", ","]);
+    const { signatures, activeSignature, activeParameter } = await ask("SignatureHelp", "provideSignatureHelp", query, at(1, 6));
+    const [{ label, documentation, parameters }] = signatures;
+    assert.deepEqual([label, documentation, parameters.map((it) => it.label)], ["pet(id: ID!): Pet", "One pet.", ["id: ID!"]]);
+    assert.deepEqual([signatures.length, activeSignature, activeParameter], [1, 0, 0]);
+  },
+
   async "completion"() {
     assert.deepEqual(providers.CompletionItem.words, ["$", "@", ".", ":", "(", "{"]);
     const items = await ask("CompletionItem", "provideCompletionItems", schema, at(3, 17));

@@ -16,6 +16,12 @@ class Range {
   contains = (other) => !this.start.isAfter(other.start) && !other.end.isAfter(this.end);
 }
 
+// The edits of some documents.
+class WorkspaceEdit {
+  all = [];
+  set = (uri, edits) => this.all.push({ uri, edits });
+}
+
 // A class whose values have these fields, in the order of the constructor's arguments, after a check that VS Code makes too.
 function record(fields, check = () => true) {
   return class {
@@ -58,7 +64,7 @@ const registering = (name) => (selector, provider, ...words) => {
   return { dispose: () => delete providers[name] };
 };
 const PROVIDERS = ["DocumentSymbol", "FoldingRange", "SelectionRange", "DocumentFormattingEdit", "DocumentRangeFormattingEdit", "Definition", "Reference"];
-PROVIDERS.push("Hover", "CompletionItem", "DocumentSemanticTokens", "DocumentRangeSemanticTokens");
+PROVIDERS.push("Hover", "CompletionItem", "DocumentSemanticTokens", "DocumentRangeSemanticTokens", "DocumentHighlight", "Rename", "SignatureHelp");
 
 const vscode = {
   Position,
@@ -70,6 +76,12 @@ const vscode = {
   DocumentSymbol: record(["name", "detail", "kind", "range", "selectionRange"], ({ name, range, selectionRange }) => name && range.contains(selectionRange)),
   CompletionItem: record(["label", "kind"]),
   FoldingRange: record(["start", "end", "kind"]),
+  DocumentHighlight: record(["range"]),
+  SymbolInformation: record(["name", "kind", "containerName", "location"]),
+  WorkspaceEdit,
+  SignatureHelp: record([]),
+  SignatureInformation: record(["label", "documentation"]),
+  ParameterInformation: record(["label"]),
   FoldingRangeKind: { Comment: 1 },
   SelectionRange: record(["range", "parent"], ({ range, parent }) => !parent || parent.range.contains(range)),
   Hover: record(["contents", "range"]),
@@ -88,6 +100,9 @@ const vscode = {
   },
 };
 for (const name of PROVIDERS) vscode.languages[`register${name}Provider`] = registering(name);
+PROVIDERS.push("WorkspaceSymbol");
+// This is the one that is not about a language.
+vscode.languages.registerWorkspaceSymbolProvider = (provider) => registering("WorkspaceSymbol")(undefined, provider);
 for (const event of ["onDidOpenTextDocument", "onDidChangeTextDocument", "onDidCloseTextDocument", "onDidChangeConfiguration"]) {
   vscode.workspace[event] = listening(event);
 }
