@@ -109,7 +109,11 @@ local function errors(document)
 end
 
 local function end_client(document)
-  vim.lsp.stop_client(document.client)
+  if vim.lsp.config then -- from neovim 0.11 on
+    vim.lsp.get_client_by_id(document.client):stop()
+  else
+    vim.lsp.stop_client(document.client)
+  end
   wait(function() return vim.lsp.client_is_stopped(document.client) end)
   expect("the server ends", vim.lsp.client_is_stopped(document.client), true)
 end
