@@ -1,6 +1,6 @@
 #!/usr/bin/env python3
-"""Measures lexer, parser, `gqlcst` and a walk over the typed tree, parser and walk through the Rust crate too, and the original beside them in the same run, if it is
-built (bench/original/README.md). Prints the tables of docs/SPEED.md: best and median, and how many times as fast as the original.
+"""Measures `gqlcst`, and lexer, parser and a walk over the typed tree through the Rust crate, where there is cargo, and the original beside them in the same run, if
+it is built (bench/original/README.md). Prints the tables of docs/SPEED.md: best and median, and how many times as fast as the original.
 
 A run counts only on a processor at rest (calm.py). The number of those that did not count is printed."""
 
@@ -40,13 +40,10 @@ def steps(runs, step):
 def table(processors, kind, path, count, crate):
     """The table of a text. `crate` has the programs over the Rust crate: to measure, to parse once, and to walk."""
     print(f"\n| {path.stat().st_size / 1e6:.1f} MB of {kind} | Dumyroke |" + (" original | times |" if ORIGINAL else "") + "\n|---|---|" + "---|---|" * bool(ORIGINAL))
-    commands = [[built("speed"), "parse"], *([crate[0]] for _ in range(bool(crate))), *([ORIGINAL / "measure"] for _ in range(bool(ORIGINAL)))]
-    runs = rounds_of(processors, commands, path, count)
-    theirs = runs[-1] if ORIGINAL else []
-    row("the lexer's items", steps(runs[0], "lex"), steps(theirs, "lex"))
-    row("parse in memory", steps(runs[0], "parse"), steps(theirs, "parse"))
     if crate:
-        row("parse through the Rust crate", steps(runs[1], "parse"), steps(theirs, "parse"))
+        ours, *theirs = rounds_of(processors, [[crate[0]]] + [[ORIGINAL / "measure"]] * bool(ORIGINAL), path, count)
+        for name, step in [("the lexer's items", "lex"), ("parse", "parse")]:
+            row(name, steps(ours, step), steps([run for runs in theirs for run in runs], step))
     peaks = []
     for mode in ["check", "tokens", "tree"]:
         ours, *theirs = rounds_of(processors, [[built("gqlcst"), mode]] + [[ORIGINAL / "gqlcst", mode]] * bool(ORIGINAL), path, count)
@@ -64,9 +61,7 @@ def peak(programs):
 
 def walk(processors, path, count, crate):
     """The megabytes a second of the walks, best and median."""
-    programs = {"Rattle": [built("speed"), "walk"]}
-    if crate:
-        programs["the Rust crate"] = [crate[2]]
+    programs = {"the Rust crate": [crate[2]]}
     if ORIGINAL:
         programs["the original"] = [ORIGINAL / "walk"]
     speeds = [[int(run.told.split()[0]) for run in runs] for runs in rounds_of(processors, programs.values(), path, count)]
@@ -83,7 +78,8 @@ def main():
         crate = over_the_crate(folder, "measure", "small", "walk") if shutil.which("cargo") else []
         for kind, text in [("queries", "queries"), ("type definitions", "schema")]:
             table(processors, kind, made_text(folder / text, text), given.rounds, crate)
-        walk(processors, made_text(folder / "orders", "orders"), given.rounds, crate)
+        if crate:
+            walk(processors, made_text(folder / "orders", "orders"), given.rounds, crate)
     print(f"\n{processors.summary()}")
 
 

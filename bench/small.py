@@ -1,8 +1,8 @@
 #!/usr/bin/env python3
-"""Measures queries as a gateway gets them, each parsed 100,000 times by `speed`, as `rt ci` has built it, and through C, the Rust crate and Python, as tools/bindings
-has built them, and beside them by the original, if it is built (bench/original/README.md), and by graphql-core and graphql-js, where they are installed. Prints
-microseconds a parse, best and median of `--rounds` runs in turn, which make `--parses` parses each. The slow ones make fewer: Python a tenth, graphql-core and
-graphql-js a fiftieth. The last lines are walks over the typed tree.
+"""Measures queries as a gateway gets them, each parsed many times through C, the Rust crate and Python, as tools/bindings has built them, and beside them by
+the original, if it is built (bench/original/README.md), and by graphql-core and graphql-js, where they are installed. Prints microseconds a parse, best and
+median of `--rounds` runs in turn, which make `--parses` parses each. The slow ones make fewer: Python a tenth, graphql-core and graphql-js a fiftieth. The
+last lines are walks over the typed tree.
 
 A run counts only on a processor at rest (calm.py). The number of those that did not count is printed."""
 
@@ -17,7 +17,7 @@ import time
 from pathlib import Path
 
 from calm import Processors
-from programs import HERE, ORIGINAL, TOP, arguments, built, over_the_crate
+from programs import HERE, ORIGINAL, TOP, arguments, over_the_crate
 
 sys.path.insert(0, str(TOP / "bindings/python"))
 import dumyroke  # noqa: E402
@@ -94,14 +94,6 @@ def by_program(*command):
     return run
 
 
-def by_speed(text, parses):
-    """The same for `speed`, which prints its time on standard error."""
-    ended = subprocess.run([built("speed"), str(parses)], input=text, capture_output=True, check=True, text=True)
-    if ended.stdout != "0 errors\n":
-        sys.exit("speed finds errors")
-    return int(ended.stderr) / parses / 1000
-
-
 def in_python(parse):
     """The same for a call."""
 
@@ -116,7 +108,7 @@ def in_python(parse):
 
 def ways(folder):
     """Who parses: how one run is made, and what divides its number of parses."""
-    found = {"Rattle: `Parser::parse`": (by_speed, 1), "C: `dumyroke_tree_parse`": (by_program(compiled(folder)), 1)}
+    found = {"C: `dumyroke_tree_parse`": (by_program(compiled(folder)), 1)}
     walks = {}
     if shutil.which("cargo"):
         parse, walk = over_the_crate(folder, "small", "walk")

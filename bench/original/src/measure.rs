@@ -1,4 +1,5 @@
-//! Goes three times over the text of standard input with the original's lexer and with its parser, and prints as the program `speed` does.
+//! Goes three times over the text of standard input with the lexer and with the parser. Prints the microseconds of each, the bytes of all tokens and the
+//! number of errors. bench/parse.py builds it over the Rust crate of this repository too, which has the same interface.
 use apollo_parser::{Lexer, Parser};
 use std::time::Instant;
 

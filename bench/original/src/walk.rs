@@ -1,5 +1,5 @@
-//! Walks over the typed tree of the text of standard input, once or as often as the command line says, by the original's accessors, as the program
-//! `speed` does. Prints the megabytes a second, the nanoseconds by the clock, and what it counted.
+//! Walks over the typed tree of the text of standard input, once or as often as the command line says, by accessors alone.
+//! Prints the megabytes a second, the nanoseconds by the clock, and what it counted. bench/parse.py builds it over the Rust crate of this repository too.
 use apollo_parser::cst::{Definition, Field, Selection, SelectionSet, Value};
 use apollo_parser::Parser;
 use std::hint::black_box;

@@ -1,4 +1,4 @@
-//! Walks over the tree of the text of standard input, as the program `speed` does. It searches the children of a node by kind, as the
+//! Walks over the tree of the text of standard input, as ../../src/walk.rs does. It searches the children of a node by kind, as the
 //! original's accessors do, which need `rowan`.
 use apollo_parser::{values, Parser, SyntaxKind};
 use rowan::{Element, GreenNode};
