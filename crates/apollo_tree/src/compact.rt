@@ -14,7 +14,7 @@ use std::mem::size_of;
 /// Elements are in document order: the first child of a node is the element after it, and the next child after a child comes after all elements of
 /// that child's subtree. The text of an element ends where the text begins of the element after its subtree, or with the tree's.
 #[repr(C)]
-#[derive(Clone, Copy, PartialEq, Eq, Debug)]
+#[derive(Clone, Copy)]
 pub struct CompactElement {
     /// The byte offset at which its text begins, and 2 ^ 31 more for a node.
     pub start_and_node: u32,

@@ -5,7 +5,7 @@ ghost use Rattle.byte_devices.specs.declared.fault.Fault.TheVariants.{Memory};
 use std::alloc::AllocError;
 
 /// Why a run has no outcome.
-#[derive(Clone, Copy, Debug, PartialEq, Eq)]
+#[derive(Clone, Copy)]
 pub enum Fault {
     /// The reader failed.
     Read,

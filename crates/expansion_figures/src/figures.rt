@@ -9,7 +9,7 @@ use crate::items::Item;
 /// How large an operation is with its fragments expanded. Each number stops at `u64::MAX`, which then means that or more.
 ///
 /// The figures limit an operation too: then each is the greatest that is allowed.
-#[derive(Clone, Copy, PartialEq, Eq, Debug)]
+#[derive(Clone, Copy)]
 pub struct Figures {
     /// The greatest number of fields in one another: 2 for `{a{b}}`.
     pub depth: u64,

@@ -1,12 +1,12 @@
 /// The byte offsets at which a text begins and ends.
-#[derive(Clone, Copy, PartialEq, Eq, Debug)]
+#[derive(Clone, Copy)]
 pub struct Span {
     pub start: usize,
     pub end: usize,
 }
 
 /// What is counted in a definition.
-#[derive(Clone, Copy, PartialEq, Eq, Debug)]
+#[derive(Clone, Copy)]
 pub enum Item {
     /// A field, and how many fields of its definition enclose it.
     Field(usize),

@@ -5,7 +5,7 @@ ghost use Rattle.expansion_figures.specs.Limiting.{figure_of, limits_in_order};
 use crate::figures::Figures;
 
 /// Which of the figures is limited.
-#[derive(Clone, Copy, PartialEq, Eq, Debug)]
+#[derive(Clone, Copy, Debug)]
 pub enum Limit {
     /// `Figures::depth`
     Depth,

@@ -9,7 +9,7 @@ use crate::items::{Item, Span};
 use std::alloc::Allocator;
 
 /// Why there are no figures.
-#[derive(Clone, Copy, PartialEq, Eq, Debug)]
+#[derive(Clone, Copy)]
 pub enum Fault {
     /// The spread that is here is part of a cycle of fragments.
     Cycle(Span),

@@ -5,7 +5,7 @@ ghost use Rattle.lexical_grammar.specs.Edges.{edge_of, may_touch};
 use crate::TokenKind;
 
 /// What a text ends with, as far as it decides which token may follow with nothing between them.
-#[derive(Clone, Copy, Debug, PartialEq, Eq)]
+#[derive(Clone, Copy, PartialEq, Eq)]
 pub enum Edge {
     /// Nothing at all, or a token that joins with no other.
     Free,

@@ -20,7 +20,7 @@ use memchr::memchr;
 use std::alloc::{AllocError, Allocator};
 
 /// The end of a line.
-#[derive(Clone, Copy, Debug, PartialEq, Eq)]
+#[derive(Clone, Copy)]
 pub enum LineEnd {
     /// LF.
     Lf,

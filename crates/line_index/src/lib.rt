@@ -25,7 +25,7 @@ use std::alloc::{AllocError, Allocator, Global};
 use std::marker::Model;
 
 /// A position in a text: the number of its line, and its column there in bytes, both from 0.
-#[derive(Clone, Copy, Debug, PartialEq, Eq)]
+#[derive(Clone, Copy)]
 pub struct LineColumn {
     pub line: usize,
     pub column: usize,
@@ -172,7 +172,7 @@ fn first_line(text: &str) -> &str
 }
 
 /// The units that the columns of a `Position` count.
-#[derive(Clone, Copy, Debug, PartialEq, Eq)]
+#[derive(Clone, Copy)]
 pub enum PositionEncoding {
     /// Bytes of UTF-8.
     Utf8,
@@ -181,7 +181,7 @@ pub enum PositionEncoding {
 }
 
 /// A position as the Language Server Protocol gives it: the number of its line, and its column there in units of an encoding, both from 0.
-#[derive(Clone, Copy, Debug, PartialEq, Eq)]
+#[derive(Clone, Copy)]
 pub struct Position {
     pub line: usize,
     pub column: usize,

@@ -7,7 +7,7 @@ use crate::limits::SetLimits;
 use apollo_lexer::Limits;
 
 /// What is written of a text.
-#[derive(Clone, Copy, Debug, PartialEq, Eq)]
+#[derive(Clone, Copy)]
 pub enum Mode {
     /// `clean`, or its errors.
     Check,

@@ -22,7 +22,7 @@ use std::alloc::{AllocError, Global};
 use std::marker::Model;
 
 /// Why no body is given.
-#[derive(Clone, Copy, Debug, PartialEq, Eq)]
+#[derive(Clone, Copy)]
 pub enum FrameError {
     /// The head is no section of fields, has more than 16 of them, or its first `Content-Length` is missing or no decimal number.
     Malformed,

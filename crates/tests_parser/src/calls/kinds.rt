@@ -1,7 +1,7 @@
 // Kinds of tokens and of elements, escapes, and which tokens may touch.
 use crate::answers::Answers;
 use document_grammar::SyntaxKind;
-use lexical_grammar::{Edge, NumberState, TokenKind, escape, hex_digits_len};
+use lexical_grammar::{Edge, TokenKind, escape, hex_digits_len};
 
 // What the derives give: copies, equality and the printed names.
 fn put_token_kinds(found: &mut Answers) {
@@ -11,9 +11,6 @@ fn put_token_kinds(found: &mut Answers) {
     found.put(&kind);
     found.put(&(copy == kind));
     found.put(&(kind == TokenKind::Name));
-    found.say("\nstates of numbers:");
-    found.put(&NumberState::ExponentSign);
-    found.put(&(NumberState::Zero == NumberState::Integer));
     found.end_line();
 }
 
