@@ -215,11 +215,11 @@ impl<'a, A: Allocator> LineIndex<'a, A> {
     /// The index of a text. It reads the text once, and fails only where memory is refused.
     pub fn new(alloc: A, text: &'a str) -> Result<Self, AllocError>
     where
-        A: Clone,
+        A: Copy,
         ensures { IfOk result (λ index. index ≡ text.now) }
     {
-        let starts = line_starts(alloc.clone()?, text.as_bytes())?;
-        let character_marks = marks(alloc.clone()?, Counted::Characters, text)?;
+        let starts = line_starts(alloc, text.as_bytes())?;
+        let character_marks = marks(alloc, Counted::Characters, text)?;
         let utf16_marks = marks(alloc, Counted::Utf16Units, text)?;
         Ok(LineIndex {
             text,
