@@ -2,8 +2,9 @@
 ghost use Rattle.std.specs.Prelude.{◌≡◌, ◌<◌, ◌↔◌, ℕ, [], IfOk, OnOk, map};
 ghost use Rattle.apollo_tree.specs.References.{node_place};
 ghost use Rattle.name_lists.specs.Names.{AreFirstNumbers};
-ghost use Rattle.executable_document.specs.Definitions.{as_defined, defined, fragment_names};
+ghost use Rattle.executable_document.specs.Definitions.{as_defined, defined, fragment_names, named_definitions};
 ghost use Rattle.definition_rules.specs.Parts.{as_parts, definitions as definitions_of};
+ghost use Rattle.definition_rules.specs.Rules.{AreUnique, Repeats};
 ghost use Rattle.definition_rules.specs.Violations.{Adds, as_breach};
 ghost use Rattle.apollo_validation.specs.Validity.{AreBreaches, Breaks, BreaksAs, BreaksTypeSystem, IsValid, IsValidAs, IsValidTypeSystem, parts_in};
 ghost use Rattle.apollo_validation.specs.Lists.{document_kind as kind_of};
@@ -20,6 +21,21 @@ use executable_document::{
 use std::alloc::{AllocError, Global};
 use std::collections::BTreeMap;
 
+// Adds the definitions of a kind that have the name of an earlier one.
+fn add_repeated_names<'t>(
+    alloc: Global,
+    violations: &mut Violations<'t>,
+    rule: Rule,
+    definitions: &[ExecutableDefinition<'t>],
+    kind: DefinitionKind,
+) -> Result<(), AllocError>
+    ensures { let named = named_definitions kind (map as_defined definitions.now) in
+        OnOk result (Adds (Repeats rule named) (AreUnique named) violations.old violations.new) }
+{
+    let named = named_definitions(alloc, definitions, kind)?;
+    add_repeats(alloc, violations, rule, &named)
+}
+
 // Adds what breaks a rule in a document whose definitions are read.
 fn add_all<'t>(
     alloc: Global,
@@ -34,24 +50,24 @@ fn add_all<'t>(
     requires fragments { AreFirstNumbers fragments.now (fragment_names (definitions_of (map as_parts parts.now))) }
     ensures { OnOk result (Adds (Breaks (node_place document.now)) (IsValid (node_place document.now)) violations.old violations.new) }
 {
-    let operations_named = named_definitions(alloc, definitions, DefinitionKind::Operation)?;
-    let fragments_named = named_definitions(alloc, definitions, DefinitionKind::Fragment)?;
     let numbers = operations(alloc, parts)?;
     let graph = spread_graph(alloc, parts, fragments)?;
     add_foreign(violations, document)?;
-    add_repeats(
+    add_repeated_names(
         alloc,
         violations,
         Rule::UniqueOperationNames,
-        &operations_named,
+        definitions,
+        DefinitionKind::Operation,
     )?;
     add_anonymous(violations, parts, &numbers)?;
     add_lists(alloc, violations, document, DocumentKind::Executable)?;
-    add_repeats(
+    add_repeated_names(
         alloc,
         violations,
         Rule::UniqueFragmentNames,
-        &fragments_named,
+        definitions,
+        DefinitionKind::Fragment,
     )?;
     add_unused_fragments(alloc, violations, parts, &graph, &numbers)?;
     add_undefined_spreads(violations, parts, fragments)?;
