@@ -18,10 +18,11 @@ pub struct CommentState {
     ignores_next: bool,
 }
 
-// Whether a comment says that the item after it stays as it is.
+// Whether a comment, with which this text begins, says that the item after it stays as it is.
 fn is_ignore_comment(text: &str) -> bool {
+    let comment = text.split(['\n', '\r']).next().unwrap_or("");
     matches!(
-        text.trim_start_matches('#').trim(),
+        comment.trim_start_matches('#').trim(),
         "gqlfmt-ignore" | "prettier-ignore"
     )
 }
@@ -82,7 +83,7 @@ impl CommentState {
         self.last_child_was_comment = false;
     }
 
-    /// A comment was met, which is in a line of its own or not, and between items or not.
+    /// A comment was met, with which this text begins. It is in a line of its own or not, and between items or not.
     pub fn meet_comment(&mut self, text: &str, in_own_line: bool, is_between_items: bool) {
         self.blank = None;
         self.seen_line_ends = 0;

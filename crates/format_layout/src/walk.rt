@@ -32,6 +32,17 @@ impl Met {
     }
 }
 
+// The last token, while it is not known where it ends: where the next element begins.
+#[derive(Clone, Copy)]
+enum Uncounted {
+    // its columns are counted, or none are
+    Nothing,
+    // a token that has a column for each byte
+    Word,
+    // a string
+    String,
+}
+
 // A group that has ended, while it is not known where the next line may end.
 #[derive(Clone, Copy)]
 struct Ended {
@@ -53,6 +64,8 @@ pub struct Frame {
     /// How many levels deep a line is indented that begins with the node.
     pub level: u16,
     kind: SyntaxKind,
+    // whether it is a definition that begins in the line in which the one before it ends
+    is_beside: bool,
     /// What its children are to each other.
     pub inside: Inside,
     /// The last child that is no comment.
@@ -60,15 +73,16 @@ pub struct Frame {
 }
 
 impl Frame {
-    // The frame of a root.
-    fn of_root(root: Met) -> Frame {
+    // The frame of a document whose tree has this many elements.
+    fn of_document(element_count: usize) -> Frame {
         Frame {
-            after: root.after,
+            after: element_count,
             first: 0,
             start: 0,
             level: 0,
-            kind: root.kind,
-            inside: Inside::of(root.kind),
+            kind: SyntaxKind::DOCUMENT,
+            is_beside: false,
+            inside: Inside::Document,
             previous: None,
         }
     }
@@ -76,14 +90,15 @@ impl Frame {
 
 // What was met so far.
 #[derive(Drop)]
-struct Walk<'t, E, A: Allocator> {
-    elements: &'t E,
+struct Walk<'t, A: Allocator> {
     source: &'t str,
     slots: Vec<Slot, A>,
     // whether the last slot belongs to a token still to come, fixed by a node that begins with it
     is_pending: bool,
     // where the element begins that is met
     here: usize,
+    // the last token, while its columns are to be counted
+    uncounted: Uncounted,
     comments: CommentState,
     // the index of the first element after an item that stays as it is
     written_until: usize,
@@ -112,16 +127,16 @@ fn add<T: Copy, A: Allocator>(items: &mut Vec<T, A>, item: T) -> Result<(), Allo
     Ok(())
 }
 
-impl<'t, E: Elements, A: Allocator + Copy> Walk<'t, E, A> {
+impl<'t, A: Allocator + Copy> Walk<'t, A> {
     // Nothing was met yet.
-    fn new(alloc: A, source: &'t str, elements: &'t E) -> Result<Walk<'t, E, A>, AllocError> {
+    fn new(alloc: A, source: &'t str, element_count: usize) -> Result<Walk<'t, A>, AllocError> {
         Ok(Walk {
-            elements,
             source,
             // no more than a part of this is used, and the rest is never touched
-            slots: Vec::with_capacity(alloc, elements.element_count())?,
+            slots: Vec::with_capacity(alloc, element_count)?,
             is_pending: false,
             here: 0,
+            uncounted: Uncounted::Nothing,
             comments: CommentState::NONE,
             written_until: 0,
             after_brace: false,
@@ -156,6 +171,32 @@ impl<'t, E: Elements, A: Allocator + Copy> Walk<'t, E, A> {
         if let Some(slot) = self.slots.get_mut(group.first) {
             slot.width = u8::try_from(width).unwrap_or(BREAKS);
         }
+    }
+
+    // Counts the columns of a string that ends here.
+    fn count_string(&mut self, end: usize) {
+        let text = self.source.get(self.here..end).unwrap_or("");
+        if !has_lines(text) {
+            self.place = self.place.saturating_add(columns(text));
+            return;
+        }
+        self.place = self.place.saturating_add(QUOTES);
+        // a line ends in it
+        self.last_line = self.slots.len().saturating_sub(1);
+        self.may_end_line();
+    }
+
+    // Counts the columns of the last token, which ends where the next element begins.
+    #[inline(always)]
+    fn count_token(&mut self, end: usize) {
+        match self.uncounted {
+            Uncounted::Nothing => return,
+            Uncounted::Word => self.place = self
+                .place
+                .saturating_add(end.saturating_sub(self.here)),
+            Uncounted::String => self.count_string(end),
+        }
+        self.uncounted = Uncounted::Nothing;
     }
 
     // How many line ends were met since the last token or comment.
@@ -229,7 +270,7 @@ impl<'t, E: Elements, A: Allocator + Copy> Walk<'t, E, A> {
     }
 
     // A comment: in the line of the token before it, or in a line of its own.
-    fn comment(&mut self, index: usize, parent: &Frame) -> Result<(), AllocError> {
+    fn comment(&mut self, parent: &Frame) -> Result<(), AllocError> {
         let line_ends = self.line_ends();
         let is_first = self.slots.is_empty();
         let slot = self
@@ -243,20 +284,15 @@ impl<'t, E: Elements, A: Allocator + Copy> Walk<'t, E, A> {
             Some(left) => is_between_items(parent.inside, left),
             None => true,
         };
-        let text = self.text(index);
+        let rest = self.source.get(self.here..).unwrap_or("");
         self.comments
-            .meet_comment(text, is_first || line_ends > 0, is_between);
+            .meet_comment(rest, is_first || line_ends > 0, is_between);
         Ok(())
     }
 
-    // A token of a number of columns, which is a leaf, or a node of this kind that holds nothing else.
+    // A token, which is a leaf, or a node of this kind that holds nothing else.
     #[inline(always)]
-    fn token(
-        &mut self,
-        kind: SyntaxKind,
-        width: usize,
-        parent: &mut Frame,
-    ) -> Result<(), AllocError> {
+    fn token(&mut self, kind: SyntaxKind, parent: &mut Frame) -> Result<(), AllocError> {
         if !self.is_pending {
             let level = self.level(parent, kind);
             self.slot(parent, kind, level)?;
@@ -265,7 +301,10 @@ impl<'t, E: Elements, A: Allocator + Copy> Walk<'t, E, A> {
             self.bracket(kind);
         }
         if self.is_counting() {
-            self.place = self.place.saturating_add(width);
+            self.uncounted = match kind {
+                SyntaxKind::STRING_VALUE | SyntaxKind::DESCRIPTION => Uncounted::String,
+                _ => Uncounted::Word,
+            };
         }
         self.is_pending = false;
         self.after_brace = kind == SyntaxKind::R_CURLY;
@@ -284,56 +323,6 @@ impl<'t, E: Elements, A: Allocator + Copy> Walk<'t, E, A> {
                 slot.part = Part::Close;
             }
         }
-    }
-
-    // Where the element with an index has ended.
-    fn end(&self, index: usize) -> usize {
-        match self.elements.element(index) {
-            Some(element) => element.end,
-            None => self.here,
-        }
-    }
-
-    // The text of the element with an index, which is met.
-    #[inline(always)]
-    fn text(&self, index: usize) -> &'t str {
-        self.source.get(self.here..self.end(index)).unwrap_or("")
-    }
-
-    // A node of this kind that holds a string.
-    fn string(
-        &mut self,
-        index: usize,
-        kind: SyntaxKind,
-        parent: &mut Frame,
-    ) -> Result<(), AllocError> {
-        let text = self.text(index);
-        if !has_lines(text) {
-            return self.token(kind, columns(text), parent);
-        }
-        self.token(kind, QUOTES, parent)?;
-        // a line ends in it
-        self.last_line = self.slots.len().saturating_sub(1);
-        self.may_end_line();
-        Ok(())
-    }
-
-    // A node of this kind that holds one token.
-    #[inline(always)]
-    fn word(
-        &mut self,
-        index: usize,
-        kind: SyntaxKind,
-        parent: &mut Frame,
-    ) -> Result<(), AllocError> {
-        if !self.is_counting() {
-            return self.token(kind, 0, parent);
-        }
-        if matches!(kind, SyntaxKind::STRING_VALUE | SyntaxKind::DESCRIPTION) {
-            return self.string(index, kind, parent);
-        }
-        let width = self.end(index).saturating_sub(self.here);
-        self.token(kind, width, parent)
     }
 
     // Whether an element is a comma or white space, of which nothing but its line ends is kept.
@@ -362,14 +351,9 @@ impl<'t, E: Elements, A: Allocator + Copy> Walk<'t, E, A> {
             return Ok(());
         };
         if kind == SyntaxKind::COMMENT {
-            return self.comment(index, parent);
+            return self.comment(parent);
         }
-        let width = if self.is_counting() {
-            self.end(index).saturating_sub(self.here)
-        } else {
-            0
-        };
-        self.token(kind, width, parent)
+        self.token(kind, parent)
     }
 
     // A node.
@@ -390,10 +374,10 @@ impl<'t, E: Elements, A: Allocator + Copy> Walk<'t, E, A> {
             return Ok(index.saturating_add(1));
         }
         if is_word(kind) {
-            self.word(index, kind, parent)?;
+            self.token(kind, parent)?;
             return Ok(element.after);
         }
-        let frame = self.enter(element, index, parent)?;
+        let frame = self.enter(element, parent)?;
         add(open, frame)?;
         Ok(index.saturating_add(1))
     }
@@ -427,12 +411,7 @@ impl<'t, E: Elements, A: Allocator + Copy> Walk<'t, E, A> {
 
     // A node of this kind, from its parent down.
     #[inline(always)]
-    fn enter(
-        &mut self,
-        element: Met,
-        index: usize,
-        parent: &mut Frame,
-    ) -> Result<Frame, AllocError> {
+    fn enter(&mut self, element: Met, parent: &mut Frame) -> Result<Frame, AllocError> {
         let kind = element.kind;
         let level = self.level(parent, kind);
         let inside = Inside::of(kind);
@@ -440,8 +419,10 @@ impl<'t, E: Elements, A: Allocator + Copy> Walk<'t, E, A> {
             self.slot(parent, kind, level)?;
             self.is_pending = true;
         }
-        if matches!(parent.inside, Inside::Document) && parent.previous.is_some() {
-            self.part_definition(index);
+        let is_beside = matches!(parent.inside, Inside::Document) && self.is_beside(parent);
+        let first = self.slots.len().saturating_sub(1);
+        if is_beside {
+            self.part_definition(first);
         }
         if inside.is_group() {
             self.group_count = self.group_count.saturating_add(1);
@@ -453,10 +434,11 @@ impl<'t, E: Elements, A: Allocator + Copy> Walk<'t, E, A> {
         parent.previous = Some(kind);
         Ok(Frame {
             after: element.after,
-            first: self.slots.len().saturating_sub(1),
+            first,
             start: self.place,
             level,
             kind,
+            is_beside,
             inside,
             previous: None,
         })
@@ -478,17 +460,18 @@ impl<'t, E: Elements, A: Allocator + Copy> Walk<'t, E, A> {
         }
     }
 
-    // An empty line between two definitions in one line, if one of them ends with a brace.
-    fn part_definition(&mut self, index: usize) {
-        if self.comments.last_was_comment() || self.line_ends() > 0 {
+    // Whether a definition begins in the line in which the one before it ends.
+    fn is_beside(&self, document: &Frame) -> bool {
+        document.previous.is_some() && !self.comments.last_was_comment() && self.line_ends() == 0
+    }
+
+    // An empty line before a definition in the line of the one before it, where the last token is the closing brace of one of the two.
+    fn part_definition(&mut self, first: usize) {
+        if !self.after_brace {
             return;
         }
-        let last = self.end(index).saturating_sub(1);
-        let ends_with_brace = self.source.as_bytes().get(last).copied() == Some(b'}');
-        if let Some(slot) = self.slots.last_mut() {
-            if self.after_brace || ends_with_brace {
-                slot.separator = Separator::BlankLine;
-            }
+        if let Some(slot) = self.slots.get_mut(first) {
+            slot.separator = Separator::BlankLine;
         }
     }
 
@@ -524,6 +507,8 @@ impl<'t, E: Elements, A: Allocator + Copy> Walk<'t, E, A> {
         if let Some(frame) = open.pop() {
             if frame.inside.is_group() {
                 self.leave_group(frame)?;
+            } else if frame.is_beside {
+                self.part_definition(frame.first);
             }
         }
         Ok(())
@@ -570,25 +555,24 @@ pub fn slots_of<E: Elements, A: Allocator + Copy>(
     elements: &E,
 ) -> Result<Vec<Slot, A>, AllocError> {
     let element_count = elements.element_count();
-    let mut walk = Walk::new(alloc, source, elements)?;
+    let mut walk = Walk::new(alloc, source, element_count)?;
     let mut open = Vec::new(alloc);
-    let mut index = 0;
-    // no node holds the root, so it is not met again
-    if let Some(root) = elements.element(0) {
-        open.push(Frame::of_root(Met::of(root)))?;
-        index = 1;
-    }
+    open.push(Frame::of_document(element_count))?;
+    // no node holds the root, so it is not met
+    let mut index = 1;
     for _ in 0..element_count {
         let Some(element) = elements.element(index) else {
             break;
         };
         let element = Met::of(element);
+        walk.count_token(element.start);
         index = if walk.passes_over(element, index) {
             index.saturating_add(1)
         } else {
             walk.element(element, index, &mut open)?
         };
     }
+    walk.count_token(source.len());
     walk.leave_before(element_count, &mut open)?;
     walk.may_end_line();
     Ok(walk.slots)
