@@ -293,22 +293,34 @@ fn take_first<'a, A: Allocator>(
         return Ok(more.len());
     }
     if is_input(word) {
-        let settings = read.settings.with_input();
-        read.settings = settings.ok_or(WordsError::of(word, Mistake::Again))?;
-        return Ok(0);
+        return match read.settings.with_input() {
+            Some(settings) => {
+                read.settings = settings;
+                Ok(0)
+            }
+            None => Err(WordsError::of(word, Mistake::Again)),
+        };
     }
     if is_flag(word) {
-        let settings = read.settings.with_flag(word);
-        read.settings = settings.ok_or(WordsError::of(word, Mistake::Again))?;
-        return Ok(0);
+        return match read.settings.with_flag(word) {
+            Some(settings) => {
+                read.settings = settings;
+                Ok(0)
+            }
+            None => Err(WordsError::of(word, Mistake::Again)),
+        };
     }
     if is_option(word) {
-        let value = more
-            .first()
-            .ok_or(WordsError::of(word, mistake_at_end(word)))?;
-        let settings = read.settings.with_value(word, value);
-        read.settings = settings.ok_or(WordsError::of(word, mistake_of(word, value)))?;
-        return Ok(1);
+        let Some(value) = more.first() else {
+            return Err(WordsError::of(word, mistake_at_end(word)));
+        };
+        return match read.settings.with_value(word, value) {
+            Some(settings) => {
+                read.settings = settings;
+                Ok(1)
+            }
+            None => Err(WordsError::of(word, mistake_of(word, value))),
+        };
     }
     read.files.extend_from_slice(&[word])?;
     Ok(0)
