@@ -1,12 +1,15 @@
 -- The tokens that a lexer gives, written one after another.
-use Rattle.std.proofs.Common.{◌≡◌, ℕ, zero, suc, ◌≤◌, List, [], ◌∷◌, ◌++◌, length, Some, refl, sym, ap, ◌∙◌, subst, arith, append_assoc}
+use Rattle.std.proofs.Common.{◌≡◌, ℕ, zero, suc, ◌≤◌, Bool, true, false, List, [], ◌∷◌, ◌++◌, length, Some, refl, sym, ap, ◌∙◌, subst, arith}
+use Rattle.std.proofs.Common.{append_assoc, append-nil}
+use Rattle.apollo_lexer.specs.Answers.{error_answer}
 use Rattle.lexical_grammar.specs.declared.TokenKind.{TokenKind}
 use Rattle.lexical_grammar.specs.declared.edge.Edge.{Edge}
 use Rattle.lexical_grammar.specs.Answers.{Answer, AreAnswers, IsTokenText, gives, limit_at, limited}
 use Rattle.lexical_grammar.specs.Cut.{Item, Word}
-use Rattle.lexical_grammar.specs.Kept.{kept_item, kept_word, Kept}
-use Rattle.format_tokens.specs.Laid.{Laid}
-use Rattle.format_layout.specs.Written.{LaidSame, AddsSame}
+use Rattle.lexical_grammar.specs.Kept.{Holds, kept_item, kept_word, Kept}
+use Rattle.format_tokens.specs.Laid.{Keeps, Laid}
+use Rattle.format_strings.specs.Respelled.{AreSameWords}
+use Rattle.format_layout.specs.Written.{HoldsSame, LaidSame, AddsSame}
 
 -- the significant tokens and the comments among a lexer's answers
 abbrev kept_answer : Answer → List Word
@@ -49,6 +52,32 @@ writes-token text more edge next kind word index old rest all e a w = record {
   laid = a w.words w.laid;
   same = append_assoc w.words (kept_word (record { kind = kind; text = word })) (kept_answers rest) ∙ ap (λ l. w.words ++ kept_answers l) (sym e) ∙ w.same;
 }
+
+-- an answer that is no token is passed over
+pub writes-on : (text : List ℕ) (edge : Edge) (answer : Answer) (old rest : List Answer) (all : List Word) → old ≡ answer ∷ rest → kept_answer answer ≡ []
+    → Writes text edge (kept_answers old) all → Writes text edge (kept_answers rest) all
+writes-on text edge answer old rest all e none w = record {
+  words = w.words;
+  laid = w.laid;
+  same = ap (λ l. w.words ++ (l ++ kept_answers rest)) (sym none) ∙ ap (λ l. w.words ++ kept_answers l) (sym e) ∙ w.same;
+}
+
+-- bad text and a limit are no tokens
+pub no-word : (is_limit : Bool) (text : List ℕ) (index : ℕ) → kept_answer (error_answer is_limit text index) ≡ []
+no-word true text index = refl
+no-word false text index = refl
+
+-- no answer is left
+pub writes-end : (text more result : List ℕ) (edge next : Edge) (left : List Answer) (all : List Word) → left ≡ []
+    → Writes text edge (kept_answers left) all → Keeps text edge more next → ((words : List Word) → Laid more next words → Holds result words)
+    → HoldsSame result all
+writes-end text more result edge next left all none w keeps holds =
+    let words : w.words ≡ all = sym (append-nil w.words) ∙ ap (λ l. w.words ++ kept_answers l) (sym none) ∙ w.same in
+    record {
+      others = w.laid.others;
+      same = subst (λ l. AreSameWords l w.laid.others) words w.laid.same;
+      holds = holds w.laid.others (keeps w.laid.others w.laid.laid);
+    }
 
 -- its text is one of its kind
 pub token-text : (kind : TokenKind) (text : List ℕ) (index : ℕ) (old rest : List Answer)

@@ -5,8 +5,8 @@ use Rattle.lexical_grammar.specs.Answers.{answers_text, usize_max, limited}
 use Rattle.lexical_grammar.specs.Reads.{items_of}
 use Rattle.lexical_grammar.proofs.Limited.{cut-text}
 use Rattle.format_layout.specs.Lengths.{bytes_for_each}
-use Rattle.format_layout.proofs.Lengths.{begun-length, written-length}
-use Rattle.format_layout.proofs.Reading.{writes-begin, writes-token, token-text}
+use Rattle.format_layout.proofs.Lengths.{begun-length, ended-length, left-length, written-length}
+use Rattle.format_layout.proofs.Reading.{no-word, token-text, writes-begin, writes-end, writes-on, writes-token}
 use Rattle.format_layout.proofs.writing.write.Goals as goal
 
 pub loop-item-init : goal.loop-item-init
@@ -36,3 +36,20 @@ loop-item-preserved-in_ok-check_length g c =
           c.loop-item.invariant.short;
       bounds = c.in_ok-write.ensures.bounds ∙ c.loop-item.invariant.bounds;
     }
+
+pub loop-item-preserved : goal.loop-item-preserved
+loop-item-preserved g c =
+    let given : answers_left c.loop-item.item-iterator ≡ answer_of c.in-Some.item ∷ answers_left c.next.new.self = c.in-Some.ensures.steps.answers in
+    let error = subst (λ item. answers_left c.loop-item.item-iterator ≡ answer_of item ∷ answers_left c.next.new.self) c.in_default.is given in
+    record {
+      writes = writes-on _ _ _ _ _ _ error (no-word _ _ _) c.loop-item.invariant.writes;
+      short = left-length (bytes_for_each c.args.bounds.deepest) _ _ _ _ _ error c.loop-item.invariant.short;
+      bounds = c.loop-item.invariant.bounds;
+    }
+
+pub returns-clause-same : goal.returns-clause-same
+returns-clause-same g c =
+    writes-end _ _ _ _ _ _ _ c.in-None.ensures.steps.answers.0 c.loop-item.invariant.writes c.in_ok-finish.ensures.keeps c.finish-2.ensures.holds
+
+pub returns-clause-longest : goal.returns-clause-longest
+returns-clause-longest g c = ended-length _ _ _ _ _ _ c.finish-2.ensures.text c.in_ok-finish.ensures.short c.loop-item.invariant.short
