@@ -583,8 +583,22 @@ def long_layout():
     client = opened(("{a" * 499 + "}" * 499 + "\n") * 140)
     expect("a layout of 70 MB", code(client.ask("textDocument/formatting", textDocument=DOCUMENT, options=OPTIONS)), -32803)
     expect("the same, of a part", code(client.ask("textDocument/rangeFormatting", textDocument=DOCUMENT, range=lines(0, 140), options=OPTIONS)), -32803)
-    expect("the layout of one of them", len(client.ask_about(URI, "rangeFormatting", range=lines(0, 1), options=OPTIONS)) > 900, True)
+    expect("the layout of one of them", client.ask_about(URI, "rangeFormatting", range=lines(0, 1), options=OPTIONS) is not None, True)
     client.end()
+
+
+def layout_of_long_lines():
+    """A line that gets many line ends gets them by few edits, and the lines beside it by small ones, as ever."""
+    fields = 2000
+    text = "{a}\n\n{" + "b(c:1)" * fields + "}\n\n{d}"
+    for encoding in ["utf-16", "utf-8"]:
+        client = opened(text, encoding)
+        found = client.ask_about(URI, "formatting", options=OPTIONS)
+        wanted = "{\n  a\n}\n\n{\n" + "  b(c: 1)\n" * fields + "}\n\n{\n  d\n}\n"
+        expect("the text after the layout of a long line", Text(text, encoding).changed(found) == wanted, True)
+        expect("few edits of a long line", sum(it["range"]["start"]["line"] == 2 for it in found) <= 101, True)
+        expect("small edits of the next line", [it for it in found if it["range"]["start"]["line"] == 4], [edit(4, 1, "\n  "), edit(4, 2, "\n"), edit(4, 3, "\n")])
+        client.end()
 
 
 # ---- the words of the command line
@@ -683,7 +697,7 @@ def many_changes():
 
 
 TESTS = [states, statuses_without_shutdown, faulty_messages, pieces_of_input, capabilities, changes, positions, diagnostics, violations, lambda: names("utf-16", 0), lambda: names("utf-8", 2), other_documents, members, uses_of_names, open_quotes, templates, changed_templates,
-         lambda: parts("utf-16", 0), lambda: parts("utf-8", 2), names_of_symbols, more_folds, completion, layout, long_layout, limits, refused_words, standard, signatures, many_changes]
+         lambda: parts("utf-16", 0), lambda: parts("utf-8", 2), names_of_symbols, more_folds, completion, layout, long_layout, layout_of_long_lines, limits, refused_words, standard, signatures, many_changes]
 for test in TESTS:
     test()
 print(f"protocol: {len(TESTS)} tests, {failed} differences")

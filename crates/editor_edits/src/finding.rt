@@ -17,6 +17,9 @@ pub(crate) struct Edit<'n> {
 // Clients make each edit on its own, so after this many the last one has all that is left.
 const MOST_EDITS: usize = 10_000;
 
+// For each edit in a line some clients write the whole line, so after this many the next one has all that is left of the line.
+const MOST_IN_A_LINE: usize = 100;
+
 // Whether a cursor may be at a byte offset: beside a character, and not inside a CR LF.
 fn is_cursor(text: &str, offset: usize) -> bool
     ensures { IsTrue result → IsCursor text.now offset }
@@ -150,18 +153,76 @@ fn next_step(old: &str, new: &str, from: usize, to: usize) -> Step
     last_step(old, new, from, to)
 }
 
+// An edit, and those after it that begin before an offset, as one.
+fn joined(old: &str, new: &str, from: usize, to: usize, first: Step, end: usize) -> Step
+    requires { IsStep old.now new.now from to first }
+    ensures { IsStep old.now new.now from to result }
+{
+    let mut step = first;
+    while step.end < end && old[step.end..] != new[step.text_end..] {
+        let next = next_step(old, new, step.end, step.text_end);
+        if next.start > end {
+            return step;
+        }
+        step = Step {
+            end: next.end,
+            text_end: next.text_end,
+            ..step
+        };
+    }
+    step
+}
+
+// Where the line ends that a byte offset is in.
+fn line_end(text: &str, offset: usize) -> usize {
+    let text = text.as_bytes();
+    for i in offset..text.len() {
+        if matches!(text[i], b'\r' | b'\n') {
+            return i;
+        }
+    }
+    text.len()
+}
+
+// The line of the old text that the last edit begins in: where it ends, and how many edits begin in it.
+#[derive(Clone, Copy)]
+struct EditedLine {
+    end: usize,
+    edits: usize,
+}
+
+impl EditedLine {
+    // The line of the next edit.
+    fn after(self, old: &str, next: &Step) -> EditedLine {
+        if next.start <= self.end {
+            EditedLine {
+                edits: self.edits.saturating_add(1),
+                ..self
+            }
+        } else {
+            EditedLine {
+                end: line_end(old, next.start),
+                edits: 1,
+            }
+        }
+    }
+}
+
 // The edit after some others.
-fn step_after(old: &str, new: &str, from: usize, to: usize, others: usize) -> Step
+fn step_after(old: &str, new: &str, from: usize, to: usize, others: usize, line: EditedLine) -> Step
     requires old { IsCursor old.now from }
     requires new { IsCharBoundary new.now to }
     requires differ { drop from old.now ≢ drop to new.now }
     ensures { IsStep old.now new.now from to result }
 {
-    if others < MOST_EDITS {
-        next_step(old, new, from, to)
-    } else {
-        last_step(old, new, from, to)
+    if others >= MOST_EDITS {
+        return last_step(old, new, from, to);
     }
+    let step = next_step(old, new, from, to);
+    if line.edits < MOST_IN_A_LINE || step.start > line.end {
+        return step;
+    }
+    joined(old, new, from, to, step, line.end)
 }
 
 /// The edits that make a text another one, in their order. Where both have the same words, the edits lie between them. It fails only where memory is
@@ -171,13 +232,15 @@ pub(crate) fn edits<'n>(alloc: Global, old: &str, new: &'n str) -> Result<Vec<Ed
 {
     let mut edits = Vec::new(alloc);
     let (mut from, mut to) = (0, 0);
+    let mut line = EditedLine { end: 0, edits: 0 };
     while old[from..] != new[to..] {
-        let step = step_after(old, new, from, to, edits.len());
+        let step = step_after(old, new, from, to, edits.len(), line);
         edits.push(Edit {
             start: step.start,
             end: step.end,
             text: &new[step.text_start..step.text_end],
         })?;
+        line = line.after(old, &step);
         from = step.end;
         to = step.text_end;
     }
