@@ -1,1 +1,3 @@
+pub mod Locations
+pub mod Members
 pub mod Uses

@@ -1,7 +1,12 @@
 // The definitions of some documents.
+ghost use Rattle.std.specs.Prelude.{◌≡◌, ◌++◌, IfOk, OnOk, map, option_map};
+ghost use Rattle.std.specs.List.{find, list_any};
+ghost use Rattle.document_grammar.specs.Numbers.{is_kind};
+ghost use Rattle.apollo_tree.specs.Children.{child_nodes};
+ghost use Rattle.apollo_tree.specs.References.{node_place};
+ghost use Rattle.schema_members.specs.Members.{is_of_one, located, located_in, members_in, members_of_block, name_at, name_node, name_start};
+
 use crate::standard::{EACH_TYPE, QUERY_ROOT};
-use apollo_cst_core::{CstNode, child};
-use apollo_cst_executable::{EnumValue, Name, NamedType};
 use apollo_tree::{SyntaxKind, SyntaxNode};
 use std::alloc::{AllocError, Global};
 
@@ -42,28 +47,45 @@ pub(crate) const MEMBERS: [SyntaxKind; 3] = [
     SyntaxKind::ENUM_VALUE_DEFINITION,
 ];
 
-pub(crate) fn is_one_of(kind: SyntaxKind, kinds: &[SyntaxKind]) -> bool {
+// What a node is named by.
+const NAMES: [SyntaxKind; 2] = [SyntaxKind::NAME, SyntaxKind::ENUM_VALUE];
+
+pub(crate) fn is_one_of(kind: SyntaxKind, kinds: &[SyntaxKind]) -> bool
+    ensures { result ≡ list_any (λ one. is_kind one kind) kinds.now }
+{
     kinds.iter().any(|one| kind.is(*one))
 }
 
+/// The first child of one of these kinds.
+pub(crate) fn child_of<'t>(node: SyntaxNode<'t>, kinds: &[SyntaxKind]) -> Option<SyntaxNode<'t>>
+    ensures { option_map node_place result ≡ find (is_of_one kinds.now) (child_nodes (node_place node.entry)) }
+{
+    for child in node.children() {
+        if is_one_of(child.kind(), kinds) {
+            return Some(child);
+        }
+    }
+    None
+}
+
+// The node that is the name in a definition or in a mention of one.
+fn name_node<'t>(node: SyntaxNode<'t>) -> Option<SyntaxNode<'t>>
+    ensures { option_map node_place result ≡ name_node (node_place node.entry) }
+{
+    child_of(node, &NAMES)
+}
+
 /// The name in a node; empty where there is none.
-pub(crate) fn name_in<'t>(node: SyntaxNode<'t>) -> &'t str {
-    match child::<Name<'t>>(&node) {
-        Some(name) => name.text().as_str(),
+pub(crate) fn name_in<'t>(node: SyntaxNode<'t>) -> &'t str
+    ensures { result.now ≡ name_at (node_place node.entry) }
+{
+    match name_node(node) {
+        Some(name) => name.text(),
         None => "",
     }
 }
 
 impl<'t> Member<'t> {
-    // The node of its name.
-    fn name_node(self) -> Option<SyntaxNode<'t>> {
-        if let Some(value) = child::<EnumValue<'t>>(&self.node) {
-            return Some(*value.syntax());
-        }
-        let name = child::<Name<'t>>(&self.node)?;
-        Some(*name.syntax())
-    }
-
     /// Whether it is the same as another one, of the same documents.
     pub(crate) fn is_same(self, other: Member<'_>) -> bool {
         self.document == other.document
@@ -71,23 +93,26 @@ impl<'t> Member<'t> {
     }
 
     /// Its name; empty where that is missing.
-    pub fn name(self) -> &'t str {
-        match self.name_node() {
-            Some(name) => name.text(),
-            None => "",
-        }
+    pub fn name(self) -> &'t str
+        ensures { result.now ≡ name_at (node_place self.entry.node) }
+    {
+        name_in(self.node)
     }
 
-    /// The byte offset at which its name begins.
-    pub fn offset(self) -> usize {
-        match self.name_node() {
+    /// The byte offset at which its name begins, or where that is missing its definition.
+    pub fn offset(self) -> usize
+        ensures { result ≡ name_start (node_place self.entry.node) }
+    {
+        match name_node(self.node) {
             Some(name) => name.text_range().start(),
             None => self.node.text_range().start(),
         }
     }
 
     /// The arguments of a field or a directive, in their order. It fails only where memory is refused.
-    pub fn arguments(self, alloc: Global) -> Result<Vec<Member<'t>>, AllocError> {
+    pub fn arguments(self, alloc: Global) -> Result<Vec<Member<'t>>, AllocError>
+        ensures { IfOk result (λ found. map located found.items ≡ located_in self.entry.document (members_in (node_place self.entry.node))) }
+    {
         let mut found = Vec::new(alloc);
         push_members(self, &mut found)?;
         Ok(found)
@@ -132,7 +157,10 @@ fn push_block<'t>(
     document: usize,
     block: SyntaxNode<'t>,
     found: &mut Vec<Member<'t>>,
-) -> Result<(), AllocError> {
+) -> Result<(), AllocError>
+    ensures { OnOk result (map located found.new.items
+        ≡ map located found.old.items ++ located_in document (members_of_block (node_place block.entry))) }
+{
     for node in block.children() {
         if is_one_of(node.kind(), &MEMBERS) {
             found.push(Member { document, node })?;
@@ -145,7 +173,10 @@ fn push_block<'t>(
 pub(crate) fn push_members<'t>(
     definition: Member<'t>,
     found: &mut Vec<Member<'t>>,
-) -> Result<(), AllocError> {
+) -> Result<(), AllocError>
+    ensures { OnOk result (map located found.new.items
+        ≡ map located found.old.items ++ located_in definition.entry.document (members_in (node_place definition.entry.node))) }
+{
     for block in definition.node.children() {
         push_block(definition.document, block, found)?;
     }

@@ -1,12 +1,18 @@
 // The types of the places in a document.
-use crate::definitions::{Member, Schema, name_in, type_in};
-use apollo_cst_core::{CstNode, child};
-use apollo_cst_executable::OperationType;
+ghost use Rattle.std.specs.Prelude.{◌≡◌, ◌≤◌, IfOk, IfSome, length};
+ghost use Rattle.apollo_tree.specs.Order.{text_at};
+ghost use Rattle.apollo_tree.specs.References.{node_place, token_place};
+ghost use Rattle.schema_members.specs.Locations.{operation_word};
+ghost use Rattle.schema_members.specs.Members.{members_in, name_at};
+
+use crate::definitions::{Member, Schema, child_of, name_in, type_in};
 use apollo_tree::{SyntaxKind, SyntaxNode, SyntaxToken};
 use std::alloc::{AllocError, Global};
 
 // The member that has a name.
-fn named<'t>(members: &[Member<'t>], name: &str) -> Option<Member<'t>> {
+fn named<'t>(members: &[Member<'t>], name: &str) -> Option<Member<'t>>
+    ensures { IfSome result (λ member. name_at (node_place member.node) ≡ name.now) }
+{
     for member in members {
         if member.name() == name {
             return Some(*member);
@@ -170,9 +176,11 @@ impl<'t> Search<'_, 't> {
 }
 
 /// The word with which an operation begins, `query` where there is none.
-pub(crate) fn operation_word<'p>(operation: SyntaxNode<'p>) -> &'p str {
-    match child::<OperationType<'p>>(&operation) {
-        Some(word) => word.syntax().text(),
+pub(crate) fn operation_word<'p>(operation: SyntaxNode<'p>) -> &'p str
+    ensures { result.now ≡ operation_word (node_place operation.entry) }
+{
+    match child_of(operation, &[SyntaxKind::OPERATION_TYPE]) {
+        Some(word) => word.text(),
         None => "query",
     }
 }
@@ -199,7 +207,9 @@ pub fn member_at<'t>(
     alloc: Global,
     schema: Schema<'_, 't>,
     leaf: SyntaxToken<'_>,
-) -> Result<Option<Member<'t>>, AllocError> {
+) -> Result<Option<Member<'t>>, AllocError>
+    ensures { IfOk result (λ found. IfSome found (λ member. name_at (node_place member.node) ≡ text_at (token_place leaf.entry))) }
+{
     let members = members_at(alloc, schema, leaf)?;
     Ok(named(members.as_slice(), leaf.text()))
 }
@@ -234,7 +244,9 @@ fn gives(arguments: SyntaxNode<'_>, name: &str) -> bool {
 }
 
 // The index of the parameter that a leaf in some arguments is about.
-fn active_in(parameters: &[Member<'_>], arguments: SyntaxNode<'_>, leaf: SyntaxToken<'_>) -> usize {
+fn active_in(parameters: &[Member<'_>], arguments: SyntaxNode<'_>, leaf: SyntaxToken<'_>) -> usize
+    ensures { result ≤ length parameters.now }
+{
     let value_of = match around(leaf, SyntaxKind::ARGUMENT) {
         Some(argument) if argument.text_range().start() < leaf.text_range().start() => {
             name_in(argument)
@@ -256,7 +268,9 @@ pub fn call_at<'t>(
     alloc: Global,
     schema: Schema<'_, 't>,
     leaf: SyntaxToken<'_>,
-) -> Result<Option<Call<'t>>, AllocError> {
+) -> Result<Option<Call<'t>>, AllocError>
+    ensures { IfOk result (λ found. IfSome found (λ call. call.active ≤ length (members_in (node_place call.definition.node)))) }
+{
     let Some(arguments) = around(leaf, SyntaxKind::ARGUMENTS) else {
         return Ok(None);
     };

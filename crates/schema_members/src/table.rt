@@ -32,22 +32,6 @@ pub(crate) struct Table<'t> {
     subscription: &'t str,
 }
 
-// Whether a definition is of an interface, or names one that its type implements.
-fn has_interface(definition: SyntaxNode<'_>) -> bool {
-    let kind = definition.kind();
-    if kind.is(SyntaxKind::INTERFACE_TYPE_DEFINITION)
-        || kind.is(SyntaxKind::INTERFACE_TYPE_EXTENSION)
-    {
-        return true;
-    }
-    for part in definition.children() {
-        if part.kind().is(SyntaxKind::IMPLEMENTS_INTERFACES) {
-            return true;
-        }
-    }
-    false
-}
-
 // Adds the types and the directives of a document.
 fn push_definitions<'t>(
     document: usize,
@@ -208,12 +192,5 @@ impl<'t> Table<'t> {
             None if type_name == self.query => self.member(QUERY_ROOT, name),
             field => field,
         }
-    }
-
-    /// Whether a type of a name is an interface or implements one.
-    pub(crate) fn has_interface(&self, type_name: &str) -> bool {
-        self.named(type_name)
-            .iter()
-            .any(|it| has_interface(it.definition.node))
     }
 }

@@ -1,8 +1,11 @@
 // Where the documents name a member.
-ghost use Rattle.std.specs.Prelude.{IfOk, IfSome, OnOk};
-ghost use Rattle.std.specs.List.{All};
-ghost use Rattle.apollo_tree.specs.References.{token_place};
-ghost use Rattle.schema_members.specs.Uses.{IsIdentifier};
+ghost use Rattle.std.specs.Prelude.{◌≡◌, IfOk, IfSome, OnOk, option_map};
+ghost use Rattle.std.specs.List.{All, find, list_any};
+ghost use Rattle.apollo_tree.specs.Above.{at_or_above};
+ghost use Rattle.apollo_tree.specs.Order.{text_at};
+ghost use Rattle.apollo_tree.specs.References.{node_place, token_place};
+ghost use Rattle.schema_members.specs.Members.{defined_in, has_interface, has_interface_named, is_of_one, is_shared_in, located, name_at};
+ghost use Rattle.schema_members.specs.Uses.{IsDefinedOrNamed, IsIdentifier, defined_by};
 
 use crate::definitions::{Member, Schema, TYPES, is_one_of, name_in, type_in};
 use crate::places::{member_at, operation_word};
@@ -22,6 +25,11 @@ struct Scope<'t> {
     value: &'t str,
 }
 
+const INTERFACES: [SyntaxKind; 2] = [
+    SyntaxKind::INTERFACE_TYPE_DEFINITION,
+    SyntaxKind::INTERFACE_TYPE_EXTENSION,
+];
+
 // The nodes in which names mean something else than around them.
 const SCOPES: [SyntaxKind; 9] = [
     SyntaxKind::OPERATION_DEFINITION,
@@ -35,21 +43,38 @@ const SCOPES: [SyntaxKind; 9] = [
     SyntaxKind::INPUT_VALUE_DEFINITION,
 ];
 
-// The member that a node of a document defines by its name.
-fn defined<'t>(document: usize, node: SyntaxNode<'t>) -> Option<Member<'t>> {
+// The node of the member that a node defines by its name.
+fn defined_in<'t>(node: SyntaxNode<'t>) -> Option<SyntaxNode<'t>>
+    ensures { option_map node_place result ≡ defined_in (node_place node.entry) }
+{
     let kind = node.kind();
     if kind.is(SyntaxKind::FIELD_DEFINITION) || kind.is(SyntaxKind::INPUT_VALUE_DEFINITION) {
-        return Some(Member { document, node });
+        return Some(node);
     }
     if !kind.is(SyntaxKind::ENUM_VALUE) {
         return None;
     }
-    let node = node.parent()?;
-    if node.kind().is(SyntaxKind::ENUM_VALUE_DEFINITION) {
-        Some(Member { document, node })
+    let value = node.parent()?;
+    if value.kind().is(SyntaxKind::ENUM_VALUE_DEFINITION) {
+        Some(value)
     } else {
         None
     }
+}
+
+// The member that a node of a document defines by its name.
+fn defined<'t>(document: usize, node: SyntaxNode<'t>) -> Option<Member<'t>>
+    ensures { option_map located result ≡ option_map (λ place. (document, place)) (defined_in (node_place node.entry)) }
+{
+    let node = defined_in(node)?;
+    Some(Member { document, node })
+}
+
+// The member that a name in a document defines.
+fn defined_by<'t>(document: usize, leaf: SyntaxToken<'t>) -> Option<Member<'t>>
+    ensures { option_map located result ≡ defined_by document (token_place leaf.entry) }
+{
+    defined(document, leaf.parent()?.parent()?)
 }
 
 // The name of a member's type; empty where there is no member.
@@ -122,22 +147,68 @@ fn innermost<'t>(scopes: &[Scope<'t>]) -> Scope<'t> {
     }
 }
 
-/// The member that an identifier in one of the documents names or defines. It fails only where memory is refused.
+/// The member that an identifier in one of the documents defines, or else the one that it names. It fails only where memory is refused.
 pub fn member_named<'t>(
     alloc: Global,
     schema: Schema<'_, 't>,
     document: usize,
     leaf: SyntaxToken<'t>,
-) -> Result<Option<Member<'t>>, AllocError> {
-    let Some(name) = leaf.parent() else {
-        return Ok(None);
-    };
-    if let Some(node) = name.parent()
-        && let Some(member) = defined(document, node)
-    {
-        return Ok(Some(member));
+) -> Result<Option<Member<'t>>, AllocError>
+    ensures { IfOk result (λ found. IsDefinedOrNamed (defined_by document (token_place leaf.entry)) (text_at (token_place leaf.entry)) (option_map located found)) }
+{
+    match defined_by(document, leaf) {
+        Some(member) => Ok(Some(member)),
+        None => member_at(alloc, schema, leaf),
     }
-    member_at(alloc, schema, leaf)
+}
+
+// Whether a definition is of an interface, or names one that its type implements.
+fn has_interface(definition: SyntaxNode<'_>) -> bool
+    ensures { result ≡ has_interface (node_place definition.entry) }
+{
+    if is_one_of(definition.kind(), &INTERFACES) {
+        return true;
+    }
+    for part in definition.children() {
+        if part.kind().is(SyntaxKind::IMPLEMENTS_INTERFACES) {
+            return true;
+        }
+    }
+    false
+}
+
+// Whether a document has such a definition of a type with a name.
+fn has_interface_named(root: SyntaxNode<'_>, name: &str) -> bool
+    ensures { result ≡ has_interface_named name.now (node_place root.entry) }
+{
+    for definition in root.children() {
+        if is_one_of(definition.kind(), &TYPES)
+            && name_in(definition) == name
+            && has_interface(definition)
+        {
+            return true;
+        }
+    }
+    false
+}
+
+// Whether one of some documents has one.
+fn any_has_interface(roots: &[SyntaxNode<'_>], name: &str) -> bool
+    ensures { result ≡ list_any (λ root. has_interface_named name.now (node_place root)) roots.now }
+{
+    roots.iter().any(|root| has_interface_named(*root, name))
+}
+
+// The definition of a type that a node is in.
+fn type_around<'t>(node: SyntaxNode<'t>) -> Option<SyntaxNode<'t>>
+    ensures { option_map node_place result ≡ find (is_of_one TYPES) (at_or_above (node_place node.entry)) }
+{
+    for outer in node.ancestors() {
+        if is_one_of(outer.kind(), &TYPES) {
+            return Some(outer);
+        }
+    }
+    None
 }
 
 /// A search for the names that mean one member.
@@ -146,7 +217,8 @@ pub struct Uses<'s, 't> {
     pub member: Member<'t>,
     /// Its name.
     pub name: &'t str,
-    schema: Schema<'s, 't>,
+    /// The documents.
+    pub schema: Schema<'s, 't>,
     table: Table<'t>,
 }
 
@@ -156,7 +228,11 @@ impl<'s, 't> Uses<'s, 't> {
         alloc: Global,
         schema: Schema<'s, 't>,
         member: Member<'t>,
-    ) -> Result<Uses<'s, 't>, AllocError> {
+    ) -> Result<Uses<'s, 't>, AllocError>
+        ensures member { IfOk result (λ uses. uses.member ≡ member.entry) }
+        ensures name { IfOk result (λ uses. uses.name.now ≡ name_at (node_place member.entry.node)) }
+        ensures schema { IfOk result (λ uses. uses.schema ≡ schema.entry) }
+    {
         let table = Table::new(alloc, schema)?;
         Ok(Uses {
             member,
@@ -167,13 +243,13 @@ impl<'s, 't> Uses<'s, 't> {
     }
 
     /// Whether it is a field of an interface or of a type that implements one, or an argument of such a field: other types may have to have the same.
-    pub fn is_shared(&self) -> bool {
-        for outer in self.member.node.ancestors() {
-            if is_one_of(outer.kind(), &TYPES) {
-                return self.table.has_interface(name_in(outer));
-            }
+    pub fn is_shared(&self) -> bool
+        ensures { result ≡ is_shared_in self.now.schema.roots.now (node_place self.now.member.node) }
+    {
+        match type_around(self.member.node) {
+            Some(definition) => any_has_interface(self.schema.roots, name_in(definition)),
+            None => false,
         }
-        false
     }
 
     // The member that a node names in a scope.

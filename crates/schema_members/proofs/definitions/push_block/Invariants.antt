@@ -1,0 +1,12 @@
+use Rattle.std.proofs.Common.{◌≡◌, ◌++◌, map}
+use Rattle.std.specs.List.{filter}
+use Rattle.apollo_tree.specs.References.{node_place}
+use Rattle.apollo_tree.specs.Yields.{rest_nodes}
+use Rattle.schema_members.specs.Members.{is_of_one, located, located_in, members_of_block}
+use Rattle.schema_members.specs.declared.definitions.TheConstants.{MEMBERS}
+use Rattle.schema_members.proofs.definitions.push_block.Given as goal
+
+abbrev pub invariant-loop-node : goal.invariant-loop-node
+invariant-loop-node l =
+    map located l.found.items ++ located_in l.document (filter (is_of_one MEMBERS) (rest_nodes l.node-iterator))
+    ≡ map located l.fn.found.items ++ located_in l.document (members_of_block (node_place l.fn.block))

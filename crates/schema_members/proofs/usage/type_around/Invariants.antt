@@ -1,0 +1,11 @@
+use Rattle.std.proofs.Common.{◌≡◌}
+use Rattle.std.specs.List.{find}
+use Rattle.apollo_tree.specs.Above.{at_or_above}
+use Rattle.apollo_tree.specs.References.{node_place}
+use Rattle.apollo_tree.specs.Yields.{rest_ancestors}
+use Rattle.schema_members.specs.Members.{is_of_one}
+use Rattle.schema_members.specs.declared.definitions.TheConstants.{TYPES}
+use Rattle.schema_members.proofs.usage.type_around.Given as goal
+
+abbrev pub invariant-loop-outer : goal.invariant-loop-outer
+invariant-loop-outer l = find (is_of_one TYPES) (rest_ancestors l.outer-iterator) ≡ find (is_of_one TYPES) (at_or_above (node_place l.fn.node))
