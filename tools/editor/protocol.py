@@ -13,6 +13,7 @@ PROGRAM = sys.argv[1]
 URI = "file:///a.graphql"
 DOCUMENT = {"uri": URI}
 OPTIONS = {"tabSize": 2, "insertSpaces": True}
+REQUEST_FAILED = -32803
 # Line 1 has a character of two units of UTF-16 and of four bytes.
 TEXT = """query Find($id: ID) {
   pet(name: "😀", id: $id) { ...parts }
@@ -82,7 +83,7 @@ def states():
     expect("a second initialize", code(client.ask("initialize", capabilities={})), -32600)
     for method in ["workspace/executeCommand", "textDocument/codeAction", "$/other", ""]:
         expect(f"the method {method}", code(client.ask(method)), -32601)
-    for feature in FEATURES:
+    for feature in [*FEATURES, "prepareRename"]:
         expect(f"{feature} of an unknown document", code(client.ask(f"textDocument/{feature}", textDocument=DOCUMENT, **at(0, 0))), -32602)
     expect("no parameters", code(client.ask("textDocument/hover")), -32602)
     for method in ["$/cancelRequest", "$/other", "workspace/didChangeConfiguration", "textDocument/didSave", "textDocument/didChange", "textDocument/didClose", "other"]:
@@ -153,6 +154,10 @@ def capabilities():
     names = {"semanticTokens/full": "semanticTokens", "semanticTokens/range": "semanticTokens", "formatting": "documentFormatting", "rangeFormatting": "documentRangeFormatting"}
     providers = {names.get(feature, feature) + "Provider" for feature in FEATURES}
     expect("the features", {name for name in found if name.endswith("Provider")}, providers | {"workspaceSymbolProvider", "signatureHelpProvider"})
+    for prepares, wanted in [(None, True), (False, True), (True, {"prepareProvider": True})]:
+        client = Client(PROGRAM)
+        answer = client.ask("initialize", capabilities={"textDocument": {"rename": {"prepareSupport": prepares}}})["result"]
+        expect(f"renaming for a client that asks first: {prepares}", answer["capabilities"]["renameProvider"], wanted)
 
 
 # ---- changes and errors
@@ -254,7 +259,9 @@ def names(encoding, far):
     expect("the same, marked", client.ask_about(URI, "documentHighlight", **at(0, 13)), [{"range": definition}, {"range": use}])
     expect("another name", client.ask_about(URI, "rename", newName="key", **at(0, 13)),
            {"changes": {URI: [{"range": definition, "newText": "key"}, {"range": use, "newText": "key"}]}})
-    expect("another name for a bracket", client.ask_about(URI, "rename", newName="key", **at(2, 1)), None)
+    expect("another name for a bracket", code(client.ask("textDocument/rename", textDocument=DOCUMENT, newName="key", **at(2, 1))), REQUEST_FAILED)
+    expect("whether it may have one", client.ask_about(URI, "prepareRename", **at(2, 1)), None)
+    expect("the name that may be another", client.ask_about(URI, "prepareRename", **at(0, 13)), {"range": definition, "placeholder": "id"})
     expect("a fragment", client.ask_about(URI, "definition", **at(1, 33 + far))["range"], span(3, 9, 14))
     expect("a type", client.ask_about(URI, "definition", **at(3, 19))["range"], span(5, 5, 8))
     expect("what is no name", client.ask_about(URI, "definition", **at(2, 1)), None)
@@ -264,6 +271,20 @@ def names(encoding, far):
     expect("hover on a field", client.ask_about(URI, "hover", **at(7, 3))["contents"]["value"], "```graphql\nname: String\n```\n\nWhat it is called.")
     expect("hover on a bracket", client.ask_about(URI, "hover", **at(2, 0)), None)
     expect("the end", client.end(), 0)
+
+
+def markups():
+    """What is shown of a name is in the first markup that a client lists and that the protocol has."""
+    markdown, plain = "```graphql\ntype Pet\n```\n\nA pet.", "type Pet\n\nA pet."
+    for listed, kind, wanted in [(None, "markdown", markdown), ([], "markdown", markdown), (["markdown", "plaintext"], "markdown", markdown), (["plaintext"], "plaintext", plain),
+                                 (["other", "plaintext", "markdown"], "plaintext", plain)]:
+        client = Client(PROGRAM)
+        client.ask("initialize", capabilities={"textDocument": {"hover": {} if listed is None else {"contentFormat": listed}}})
+        client.open(URI, TEXT)
+        expect(f"hover for {listed}", client.ask_about(URI, "hover", **at(3, 19))["contents"], {"kind": kind, "value": wanted})
+        expect(f"hover without a description, for {listed}", client.ask_about(URI, "hover", **at(3, 10))["contents"]["value"].strip("`\n"),
+               "fragment parts on Pet" if kind == "plaintext" else "graphql\nfragment parts on Pet")
+        client.end()
 
 
 def other_documents():
@@ -287,7 +308,9 @@ def other_documents():
     expect("types of another document", labels, ["Pet", "Boolean", "Float", "ID", "Int", "String"])
     expect("another name for it", client.ask_about(URI, "rename", newName="Cat", **at(0, 14)),
            {"changes": {URI: [{"range": span(0, 14, 17), "newText": "Cat"}], "file:///schema": [{"range": span(1, 5, 8), "newText": "Cat"}]}})
-    expect("another name for a built-in type", client.ask_about(URI, "rename", newName="Cat", **at(1, 13)), None)
+    for feature in ["rename", "prepareRename"]:
+        refused = client.ask(f"textDocument/{feature}", textDocument=DOCUMENT, newName="Cat", **at(1, 13))["error"]
+        expect(f"{feature} of a built-in type", refused, {"code": REQUEST_FAILED, "message": "no open document defines this name"})
     expect("too many positions", code(client.ask("textDocument/selectionRange", textDocument=DOCUMENT, positions=[{"line": 0, "character": 0}] * 101)), -32602)
     expect("the end", client.end(), 0)
 
@@ -451,6 +474,12 @@ def members():
                          ("{ hero @d(", ["at"]), ("{ hero @d(at: ", ["HOPE", "JEDI"]), ("fragment F on Hero { friends { ", ["name", "friends", "height", *META]),
                          ("{ search { ... on Hero { ", ["name", "friends", "height", *META]), ("{ search { ... { ", META), ("{ other { ", []), ("mutation { ", META)]:
         expect(f"members after {text}", words(text), wanted)
+    client.change(URI, 1, [{"text": "{ "}])
+    found = client.ask_about(URI, "completion", **at(0, 2))
+    expect("their types", [(it["label"], it.get("detail")) for it in found if it["kind"] != 14],
+           [("hero", "Hero"), ("search", "[Thing!]!"), ("__typename", "String!"), ("__schema", "__Schema!"), ("__type", "__Type")])
+    ordered = sorted((it for it in found if it["kind"] != 14), key=lambda it: it.get("sortText", it["label"]))
+    expect("those of the standard come last", [it["label"] for it in ordered][:2], ["hero", "search"])
     found = client.ask("workspace/symbol", query="HER")["result"]
     expect("symbols of all documents", [(it["name"], it["kind"], it["location"]) for it in found],
            [("Hero", 5, {"uri": "file:///types", "range": span(6, 5, 9)}), ("Hero", 5, {"uri": "file:///types", "range": span(10, 12, 16)})])
@@ -474,6 +503,7 @@ USES = [
     ("directive @‹d› on FIELD type d { d: Int @«d» }", "{ d @«d» ... @«d» { d } }", True),
     ("fragment ‹F› on Query { ...«F» }", "{ ...«F» F }", True),
     ("type ‹T› { a: «T» }", "type T { a: T } { T }", True),
+    ("query Q { a }", "query ‹Q› { Q ...Q } fragment Q on Q { a }", True),
     ("{ a }", "query ($‹a›: Int) { a(a: $«a») } query ($a: Int) { a(a: $a) }", True),
     ("type Query { a: Int }", "{ a @include(«if»: true) @skip(if: true) ... @include(«if»: true) { a } }", False),
 ]
@@ -507,7 +537,11 @@ def uses_of_names():
             changes = {}
             for it in both:
                 changes.setdefault(it["uri"], []).append({"range": it["range"], "newText": "fresh"})
-            expect(f"a new name for {place}", client.ask_about(uri, "rename", newName="fresh", **here), {"changes": changes} if is_renamed else None)
+            renamed, prepared = (client.ask(f"textDocument/{it}", textDocument={"uri": uri}, newName="fresh", **here) for it in ["rename", "prepareRename"])
+            expect(f"a new name for {place}", renamed.get("result"), {"changes": changes} if is_renamed else None)
+            expect(f"whether {place} may have one", prepared.get("result", {}).get("range"), place["range"] if is_renamed else None)
+            if not is_renamed:
+                expect(f"why {place} has no new name", [code(renamed), code(prepared)], [REQUEST_FAILED] * 2)
         client.end()
 
 
@@ -530,6 +564,13 @@ def more_folds():
     client.end()
 
 
+# Places of a directive, by their locations (GraphQL, October 2021, section 3.13).
+LOCATIONS = [("QUERY", "query Q "), ("MUTATION", "mutation "), ("SUBSCRIPTION", "subscription "), ("FIELD", "{ a "), ("FRAGMENT_DEFINITION", "fragment F on A "), ("FRAGMENT_SPREAD", "{ ...F "),
+             ("INLINE_FRAGMENT", "{ ... "), ("VARIABLE_DEFINITION", "query ($a: A "), ("SCHEMA", "schema "), ("SCALAR", "extend scalar A "), ("OBJECT", "type A "), ("FIELD_DEFINITION", "type A { a: A "),
+             ("ARGUMENT_DEFINITION", "type A { a(b: A "), ("INTERFACE", "interface A "), ("UNION", "extend union A "), ("ENUM", "enum A "), ("ENUM_VALUE", "enum A { B "), ("INPUT_OBJECT", "input A "),
+             ("INPUT_FIELD_DEFINITION", "input A { b: A ")]
+
+
 def completion():
     def items(text, line, character):
         client = opened(text)
@@ -540,17 +581,26 @@ def completion():
     def labels(text):
         return [it["label"] for it in items(text, 0, len(text))]
 
-    expect("after $i", items("query ($id: ID) { a(b: $i", 0, 25), [{"label": "id", "kind": 6, "textEdit": {"range": span(0, 24, 25), "newText": "id"}}])
-    expect("after $", items('query ($id: ID) {a(b:"😀" c:$', 0, 29), [{"label": "id", "kind": 6, "textEdit": {"range": span(0, 29, 29), "newText": "id"}}])
+    expect("after $i", items("query ($id: ID) { a(b: $i", 0, 25), [{"label": "id", "kind": 6, "detail": "ID", "textEdit": {"range": span(0, 24, 25), "newText": "id"}}])
+    expect("after $", items('query ($id: ID) {a(b:"😀" c:$', 0, 29), [{"label": "id", "kind": 6, "detail": "ID", "textEdit": {"range": span(0, 29, 29), "newText": "id"}}])
+    expect("a variable as a value", items("query ($id: [ID!]!) { a(b: ", 0, 27)[0], {"label": "$id", "kind": 6, "detail": "[ID!]!", "textEdit": {"range": span(0, 27, 27), "newText": "$id"}})
+    expect("a variable in a list", labels("query ($id: ID) { a(b: {c: [1 ")[0], "$id")
+    for text in ["query ($id: ID, $other: ID = ", "query ($id: ID) @d(a: $id) { a(b: 1) ", "query ($id: ID) { a(", "query (", "query ($id: ID) { b } type A { c: D @e(f: "]:
+        expect(f"no variable after {text}", [it for it in labels(text) if it.startswith("$")], [])
     expect("after a type's name", "implements" in labels("type T "), True)
     expect("after on", [it for it in labels("directive @a on F") if it.startswith("FIELD")], ["FIELD", "FIELD_DEFINITION"])
-    expect("after @", labels("directive @mine on FIELD {a @"), ["mine", "deprecated", "include", "skip", "specifiedBy"])
+    expect("after @", labels("directive @mine on FIELD {a @"), ["mine", "include", "skip"])
+    for location, text in LOCATIONS:
+        others = " ".join(f"directive @of_{it} on {it}" for it, _ in LOCATIONS if it != location)
+        expect(f"directives of {location}", [it for it in labels(f"directive @mine on FIELD | {location} {others} {text}@") if it == "mine" or it.startswith("of_")], ["mine"])
     expect("after a colon", labels("type T {a: "), ["T", "Boolean", "Float", "ID", "Int", "String"])
     expect("after a fragment's name", labels("fragment F "), ["on"])
     expect("after dots", labels("fragment F on T {a} {..."), ["on", "F"])
     expect("in a comment", labels("# typ"), [])
     expect("in a string", labels('"typ'), [])
     expect("after an error", labels("type ! "), [])
+    expect("after an empty selection set", "a" in labels("type Query { a: Query } { a { } a { "), True)
+    expect("after an error in a selection set", labels("type Query { a: Query } { a(b: ) { } a { "), [])
 
 
 def layout():
@@ -696,7 +746,7 @@ def many_changes():
             client.end()
 
 
-TESTS = [states, statuses_without_shutdown, faulty_messages, pieces_of_input, capabilities, changes, positions, diagnostics, violations, lambda: names("utf-16", 0), lambda: names("utf-8", 2), other_documents, members, uses_of_names, open_quotes, templates, changed_templates,
+TESTS = [states, statuses_without_shutdown, faulty_messages, pieces_of_input, capabilities, changes, positions, diagnostics, violations, lambda: names("utf-16", 0), lambda: names("utf-8", 2), markups, other_documents, members, uses_of_names, open_quotes, templates, changed_templates,
          lambda: parts("utf-16", 0), lambda: parts("utf-8", 2), names_of_symbols, more_folds, completion, layout, long_layout, layout_of_long_lines, limits, refused_words, standard, signatures, many_changes]
 for test in TESTS:
     test()

@@ -14,13 +14,14 @@ FAULTY = "{ hero(id) { name }"
 TEXT = 'type A { # 😀\n  "😀" b: C }\n'
 TYPES = ["comment", "keyword", "string", "number", "operator", "variable", "type", "property", "parameter", "enumMember", "function", "decorator"]
 SERVED = ["documentSymbolProvider", "foldingRangeProvider", "selectionRangeProvider", "documentFormattingProvider", "documentRangeFormattingProvider",
-          "definitionProvider", "referencesProvider", "documentHighlightProvider", "renameProvider", "hoverProvider", "workspaceSymbolProvider"]
+          "definitionProvider", "referencesProvider", "documentHighlightProvider", "hoverProvider", "workspaceSymbolProvider"]
 # Two folds of brackets, and one of a description.
 FOLDED = '{ a(\n b: 1\n )\n}\n"""\nd\n"""\nscalar S\n'
 # The keywords with which a definition begins.
 DEFINITIONS = ["query", "mutation", "subscription", "fragment", "extend", "schema", "scalar", "type", "interface", "union", "enum", "input", "directive"]
 CAPABILITIES = {
     "positionEncoding": "utf-16",
+    "renameProvider": True,
     **{name: True for name in SERVED},
     "textDocumentSync": {"openClose": True, "change": 2, "save": True},
     "completionProvider": {"triggerCharacters": ["$", "@", ".", ":", "(", "{"]},

@@ -12,7 +12,7 @@ use Rattle.apollo_tree.specs.Below.{at_or_below, is_leaf_place}
 use Rattle.apollo_tree.specs.Order.{Place, kind_at, parent_place, text_at}
 use Rattle.editor_answers.specs.declared.names.Meaning.{Meaning}
 use Rattle.editor_answers.specs.declared.names.NameKind.{NameKind}
-use Rattle.editor_answers.specs.declared.names.NameKind.TheVariants.{Fragment, Variable, «Type» as of_type, Directive}
+use Rattle.editor_answers.specs.declared.names.NameKind.TheVariants.{Operation, Fragment, Variable, «Type» as of_type, Directive}
 use Rattle.editor_answers.specs.declared.names.TheConstants.{TYPE_DEFINITIONS, TYPE_EXTENSIONS}
 
 -- ---- the meaning of a name
@@ -29,6 +29,7 @@ holds test (Some x) = test x
 
 -- whether the name in a node has this meaning
 abbrev pub names : NameKind → Place → Bool
+names Operation node = is_of OPERATION_DEFINITION node
 names Fragment node = is_of FRAGMENT_NAME node
 names Variable node = is_of VARIABLE node
 names of_type node = is_of NAMED_TYPE node || is_of_one TYPE_DEFINITIONS node || is_of_one TYPE_EXTENSIONS node
@@ -36,6 +37,7 @@ names Directive node = is_of DIRECTIVE node || is_of DIRECTIVE_DEFINITION node
 
 -- whether the thing is defined there
 abbrev pub defines : NameKind → Place → Bool
+defines Operation node = is_of OPERATION_DEFINITION node
 defines Fragment node = holds (is_of FRAGMENT_DEFINITION) (parent_place node)
 defines Variable node = holds (is_of VARIABLE_DEFINITION) (parent_place node)
 defines of_type node = is_of_one TYPE_DEFINITIONS node
@@ -46,7 +48,7 @@ abbrev pub named_by : Place → Option Place
 named_by leaf = option_and_then parent_place (parent_place leaf)
 
 abbrev pub kind_in : Place → Option NameKind
-kind_in node = find (λ kind. names kind node) (Fragment ∷ Variable ∷ of_type ∷ Directive ∷ [])
+kind_in node = find (λ kind. names kind node) (Operation ∷ Fragment ∷ Variable ∷ of_type ∷ Directive ∷ [])
 
 -- what a leaf that is an identifier means, where it is the name of something that a document defines
 abbrev pub meaning_at : Place → Option Meaning
@@ -66,9 +68,11 @@ is_definition kind text leaf = is_name kind text leaf && holds (defines kind) (n
 abbrev pub identifier_at : Place → ℕ → Option Place
 identifier_at root offset = find (is_of IDENT) (leaves_at offset root)
 
-abbrev pub is_variable : NameKind → Bool
-is_variable Variable = true
-is_variable _ = false
+-- whether such names are known in their own document alone
+abbrev pub is_local : NameKind → Bool
+is_local Operation = true
+is_local Variable = true
+is_local _ = false
 
 -- the nodes that an element is in
 abbrev pub above : Option Place → List Place
@@ -77,6 +81,7 @@ above (Some parent) = at_or_above parent
 
 -- Where a name has its meaning: a variable's name in the operation that it is in, any other in the whole document.
 abbrev pub scope_of : Place → Place → NameKind → Place
+scope_of root leaf Operation = root
 scope_of root leaf Fragment = root
 scope_of root leaf Variable = unwrap_or (find (is_of OPERATION_DEFINITION) (above (parent_place leaf))) root
 scope_of root leaf of_type = root
@@ -99,9 +104,9 @@ wanted_by root leaf = option_map (λ kind. wanted kind (text_at leaf) (scope_of 
 abbrev pub wanted_at : Place → ℕ → Option Wanted
 wanted_at root offset = option_and_then (wanted_by root) (identifier_at root offset)
 
--- the search for the name at an offset in another document; a variable's is in none
+-- the search for the name at an offset in another document; those of operations and variables are in none
 abbrev pub wanted_in : Place → Wanted → Option Wanted
-wanted_in other w = if is_variable w.kind then None else Some (wanted w.kind w.text other)
+wanted_in other w = if is_local w.kind then None else Some (wanted w.kind w.text other)
 
 abbrev pub wanted_elsewhere : Place → ℕ → Place → Option Wanted
 wanted_elsewhere root offset other = option_and_then (wanted_in other) (wanted_at root offset)

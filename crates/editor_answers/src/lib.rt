@@ -19,7 +19,7 @@ mod span;
 mod usage;
 
 pub use answers::{
-    Elsewhere, answer_hover, answer_symbols, answer_tokens, push_changes, push_folds,
+    Elsewhere, Markup, answer_hover, answer_symbols, answer_tokens, push_changes, push_folds,
     push_location, push_locations, push_marks, push_range, push_selections,
 };
 pub use coloring::{SemanticToken, TOKEN_TYPES, TokenType, semantic_tokens};

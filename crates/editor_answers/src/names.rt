@@ -13,6 +13,7 @@ use apollo_tree::{SyntaxKind, SyntaxNode, SyntaxToken};
 /// The meaning of a name.
 #[derive(Clone, Copy, PartialEq, Eq)]
 pub enum NameKind {
+    Operation,
     Fragment,
     Variable,
     Type,
@@ -74,6 +75,7 @@ fn names(node: SyntaxNode<'_>, kind: NameKind) -> bool
 {
     let at = node.kind();
     match kind {
+        NameKind::Operation => at.is(SyntaxKind::OPERATION_DEFINITION),
         NameKind::Fragment => at.is(SyntaxKind::FRAGMENT_NAME),
         NameKind::Variable => at.is(SyntaxKind::VARIABLE),
         NameKind::Type => at.is(SyntaxKind::NAMED_TYPE) || defines_type(at) || extends_type(at),
@@ -88,6 +90,7 @@ fn defines(node: SyntaxNode<'_>, kind: NameKind) -> bool
     ensures { result ≡ defines kind (node_place node.entry) }
 {
     match kind {
+        NameKind::Operation => node.kind().is(SyntaxKind::OPERATION_DEFINITION),
         NameKind::Fragment => is_in(node, SyntaxKind::FRAGMENT_DEFINITION),
         NameKind::Variable => is_in(node, SyntaxKind::VARIABLE_DEFINITION),
         NameKind::Type => defines_type(node.kind()),
@@ -99,7 +102,9 @@ fn defines(node: SyntaxNode<'_>, kind: NameKind) -> bool
 fn kind_in(node: SyntaxNode<'_>) -> Option<NameKind>
     ensures { result ≡ kind_in (node_place node.entry) }
 {
-    if names(node, NameKind::Fragment) {
+    if names(node, NameKind::Operation) {
+        Some(NameKind::Operation)
+    } else if names(node, NameKind::Fragment) {
         Some(NameKind::Fragment)
     } else if names(node, NameKind::Variable) {
         Some(NameKind::Variable)

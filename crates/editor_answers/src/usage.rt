@@ -52,7 +52,7 @@ fn scope_of<'t>(root: SyntaxNode<'t>, leaf: SyntaxToken<'t>, kind: NameKind) -> 
             Some(operation) => operation,
             None => root,
         },
-        NameKind::Fragment | NameKind::Type | NameKind::Directive => root,
+        NameKind::Operation | NameKind::Fragment | NameKind::Type | NameKind::Directive => root,
     }
 }
 
@@ -112,7 +112,7 @@ fn first_definition(sought: Sought<'_>) -> Option<Span>
     None
 }
 
-/// Where the fragment, variable, type or directive is defined whose name is at an offset of a text, or ends there, by the root of the text's tree:
+/// Where the operation, fragment, variable, type or directive is defined whose name is at an offset of a text, or ends there, by the root of the text's tree:
 /// the part that the name takes in the definition. `None` where there is no such name or no definition. The first counts where there are
 /// several.
 pub fn definition(root: SyntaxNode<'_>, offset: usize) -> Option<Span>
@@ -131,7 +131,7 @@ fn sought_elsewhere<'t>(
 {
     let sought = sought_at(root, offset)?;
     match sought.kind {
-        NameKind::Variable => None,
+        NameKind::Operation | NameKind::Variable => None,
         NameKind::Fragment | NameKind::Type | NameKind::Directive => Some(Sought {
             kind: sought.kind,
             text: sought.text,
@@ -140,7 +140,8 @@ fn sought_elsewhere<'t>(
     }
 }
 
-/// Where a document, by the root of its tree, defines the name at an offset of another; `None` where it doesn't, and for the name of a variable.
+/// Where a document, by the root of its tree, defines the name at an offset of another; `None` where it doesn't, and for the name of an operation or a
+/// variable.
 pub fn definition_elsewhere(
     root: SyntaxNode<'_>,
     offset: usize,
@@ -186,7 +187,7 @@ pub fn references(
 }
 
 /// Where a document, by the root of its tree, uses the name at an offset of another, in the order of its text; where it defines it too when
-/// `with_definition` says so. The name of a variable is used in its own document alone. It fails only where memory is refused.
+/// `with_definition` says so. The names of operations and variables are used in their own document alone. It fails only where memory is refused.
 pub fn references_elsewhere(
     alloc: Global,
     root: SyntaxNode<'_>,

@@ -1,10 +1,11 @@
 // What the server says that it does.
-ghost use Rattle.std.specs.Prelude.{◌≡◌, ◌++◌, IfOk, List, OnOk, flat_map};
+ghost use Rattle.std.specs.Prelude.{◌≡◌, [], ◌∷◌, ◌++◌, IfOk, List, OnOk, Some, flat_map};
 ghost use Rattle.json.specs.Tree.{HasNumbers};
 ghost use Rattle.json.specs.Value.{value_view};
 ghost use Rattle.rpc_messages.specs.Messages.{IsAnswer};
-ghost use Rattle.rpc_messages.specs.Nesting.{EndsTwoObjects};
+ghost use Rattle.rpc_messages.specs.Nesting.{EndsTwoObjects, after_all};
 ghost use Rattle.rpc_messages.specs.Pieces.{tokens_of};
+ghost use Rattle.rpc_messages.specs.declared.nesting.Expected.TheVariants.{Member};
 ghost use Rattle.rpc_messages.specs.declared.pieces.Piece.{Piece};
 ghost use Rattle.gqlls_run.specs.Conversation.{IsAnnounced, encoding_name};
 
@@ -14,8 +15,8 @@ use line_index::PositionEncoding;
 use rpc_messages::{Piece, answer};
 use std::alloc::{AllocError, Global};
 
-// What is served, up to the types of tokens.
-const SERVED: [Piece<'static>; 64] = [
+// What is served, up to the types of tokens, but for renaming.
+const SERVED: [Piece<'static>; 62] = [
     Piece::Key("documentSymbolProvider"),
     Piece::Flag(true),
     Piece::Key("foldingRangeProvider"),
@@ -31,8 +32,6 @@ const SERVED: [Piece<'static>; 64] = [
     Piece::Key("referencesProvider"),
     Piece::Flag(true),
     Piece::Key("documentHighlightProvider"),
-    Piece::Flag(true),
-    Piece::Key("renameProvider"),
     Piece::Flag(true),
     Piece::Key("hoverProvider"),
     Piece::Flag(true),
@@ -82,6 +81,17 @@ const SERVED: [Piece<'static>; 64] = [
     Piece::Array,
 ];
 
+// That names are changed, also for clients that ask first whether one may be.
+const RENAMING: [Piece<'static>; 2] = [Piece::Key("renameProvider"), Piece::Flag(true)];
+
+const PREPARED_RENAMING: [Piece<'static>; 5] = [
+    Piece::Key("renameProvider"),
+    Piece::Object,
+    Piece::Key("prepareProvider"),
+    Piece::Flag(true),
+    Piece::EndObject,
+];
+
 // What comes after the types of tokens.
 const END: [Piece<'static>; 10] = [
     Piece::EndArray,
@@ -106,10 +116,22 @@ fn encoding_name(encoding: PositionEncoding) -> &'static str
     }
 }
 
+// How names are changed, to clients that ask first or don't.
+fn renaming(asks_first: bool) -> &'static [Piece<'static>]
+    ensures { after_all (flat_map tokens_of result.now) (Some (Member ∷ Member ∷ [])) ≡ Some (Member ∷ Member ∷ []) }
+{
+    if asks_first {
+        &PREPARED_RENAMING
+    } else {
+        &RENAMING
+    }
+}
+
 // Adds what is served, and ends the result.
-fn push_served(pieces: &mut Vec<Piece<'_>>) -> Result<(), AllocError>
+fn push_served(pieces: &mut Vec<Piece<'_>>, asks_first: bool) -> Result<(), AllocError>
     ensures { OnOk result ((more : List Piece) × (pieces.new.items ≡ pieces.old.items ++ more) × EndsTwoObjects (flat_map tokens_of more)) }
 {
+    pieces.extend_from_slice(renaming(asks_first))?;
     pieces.extend_from_slice(&SERVED)?;
     for name in &TOKEN_TYPES {
         pieces.extend_from_slice(&[Piece::Text(*name)])?;
@@ -118,11 +140,12 @@ fn push_served(pieces: &mut Vec<Piece<'_>>) -> Result<(), AllocError>
     Ok(())
 }
 
-/// The answer to the first request.
+/// The answer to the first request: how columns are counted, and whether the client asks before it changes a name.
 pub(crate) fn answer_initialize(
     alloc: Global,
     id: &Value<'_>,
     encoding: PositionEncoding,
+    asks_first: bool,
 ) -> Result<Vec<u8>, AllocError>
     requires { HasNumbers (value_view id.now) }
     ensures answers { IfOk result (λ body. IsAnswer (value_view id.now) body.items) }
@@ -136,7 +159,7 @@ pub(crate) fn answer_initialize(
         Piece::Key("positionEncoding"),
         Piece::Text(encoding_name(encoding)),
     ])?;
-    push_served(&mut pieces)?;
+    push_served(&mut pieces, asks_first)?;
     // bound to a name, so that its clauses on `Ok` are found
     let body = answer(alloc, id, pieces.as_slice())?;
     Ok(body)

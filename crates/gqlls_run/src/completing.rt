@@ -1,20 +1,21 @@
 // What may come next.
 use apollo_parser::{
-    DocumentRoot, Limits, Parser, SyntaxKind, SyntaxNode, SyntaxToken, SyntaxTree,
+    DocumentRoot, Error, Limits, Parser, SyntaxKind, SyntaxNode, SyntaxToken, SyntaxTree,
 };
-use editor_answers::{NameKind, meaning_of, span_of};
+use editor_answers::{NameKind, meaning_of, span_of, symbol_of};
 use editor_diagnostics::Positions;
 use open_quotes::closed;
 use rpc_messages::Piece;
-use schema_members::{Call, Member, Schema, call_at, members_at};
+use schema_members::{Call, Member, Schema, call_at, directives_at, members_at};
 use std::alloc::{AllocError, Global};
 use std::collections::BTreeSet;
 
-// A word that may come next, and the protocol's number of its sort.
+// A word that may come next, the protocol's number of its sort, and the type or the condition that its definition gives; else empty.
 #[derive(Clone, Copy)]
 struct Candidate<'t> {
     label: &'t str,
     number: usize,
+    detail: &'t str,
 }
 
 // The protocol's number of a keyword.
@@ -58,11 +59,17 @@ fn last_definition<'t>(source: &'t str, root: SyntaxNode<'_>) -> Option<&'t str>
     Some(last)
 }
 
-// The leaf that begins at an offset of a tree whose first error, if there is one, is that the text ends.
+// What the parser reports of a selection set without a selection.
+const NO_SELECTION: &str = "expected at least one Selection in Selection Set";
+
+// Whether the parser goes on behind an error as without it: the text ends, or a selection set is empty.
+fn is_passed(error: &Error) -> bool {
+    error.is_eof() || (error.message() == NO_SELECTION && error.data() == "}")
+}
+
+// The leaf that begins at an offset of a tree, where the parser goes on behind all errors.
 fn leaf_from<'t>(tree: &'t SyntaxTree<DocumentRoot>, offset: usize) -> Option<SyntaxToken<'t>> {
-    if let Some(error) = tree.errors().as_slice().first()
-        && !error.is_eof()
-    {
+    if !tree.errors().as_slice().iter().all(is_passed) {
         return None;
     }
     let leaf = tree.root().token_at_offset(offset).right_biased()?;
@@ -144,6 +151,28 @@ impl Front<'_> {
         }
     }
 
+    // The directives that may come after the text, by the definitions of some documents.
+    fn directives<'t>(self, roots: &[SyntaxNode<'t>]) -> Result<Vec<Member<'t>>, AllocError> {
+        let front = self.text;
+        let text = format!(in self.alloc; "{front}x")?;
+        let tree = Parser::within(text.as_str(), self.limits).parse(self.alloc)?;
+        match leaf_from(&tree, front.len()) {
+            Some(leaf) => directives_at(self.alloc, Schema { roots }, leaf),
+            None => Ok(Vec::new(self.alloc)),
+        }
+    }
+
+    // Whether the grammar takes a variable as a value after the text.
+    fn takes_variable(self) -> Result<bool, AllocError> {
+        let front = self.text;
+        let text = format!(in self.alloc; "{front}$x")?;
+        let tree = Parser::within(text.as_str(), self.limits).parse(self.alloc)?;
+        match taken_at(&tree, front.len().saturating_add(1)) {
+            Some(taken) => Ok(taken.names == Some(NameKind::Variable)),
+            None => Ok(false),
+        }
+    }
+
     // Whether the grammar takes a keyword after the text, which the words begin with.
     fn takes_keyword(self, words: &str) -> Result<bool, AllocError> {
         match self.taken(words)? {
@@ -171,6 +200,7 @@ fn push_keywords(front: Front<'_>, found: &mut Vec<Candidate<'_>>) -> Result<(),
             found.push(Candidate {
                 label,
                 number: KEYWORD,
+                detail: "",
             })?;
         }
     }
@@ -180,11 +210,53 @@ fn push_keywords(front: Front<'_>, found: &mut Vec<Candidate<'_>>) -> Result<(),
 // The protocol's number of the sort of thing that a name means.
 fn name_number(kind: NameKind) -> usize {
     match kind {
-        NameKind::Fragment => 3,
+        NameKind::Operation | NameKind::Fragment => 3,
         NameKind::Variable => 6,
         NameKind::Type => 7,
         NameKind::Directive => 24,
     }
+}
+
+// The type or the condition in the definition whose name a leaf is.
+fn detail_at<'t>(leaf: SyntaxToken<'t>) -> &'t str {
+    if let Some(parent) = leaf.parent() {
+        for node in parent.ancestors() {
+            if let Some(symbol) = symbol_of(node) {
+                return symbol.detail;
+            }
+        }
+    }
+    ""
+}
+
+// The text of a variable that a leaf is the name of.
+fn variable_text<'t>(leaf: SyntaxToken<'t>) -> Option<&'t str> {
+    Some(leaf.parent()?.parent()?.text())
+}
+
+// Adds the variables that a document defines and that are not known yet, as values.
+fn push_variables<'t>(
+    alloc: Global,
+    root: SyntaxNode<'t>,
+    found: &mut Vec<Candidate<'t>>,
+) -> Result<(), AllocError> {
+    let mut known = BTreeSet::new(alloc);
+    for element in root.descendants_with_tokens() {
+        if let Some(leaf) = element.into_token()
+            && let Some(meaning) = meaning_of(leaf)
+            && meaning.defines
+            && meaning.kind == NameKind::Variable
+            && let Some(label) = variable_text(leaf)
+            && known.insert(leaf.text())?
+        {
+            found.push(Candidate {
+                label,
+                number: name_number(NameKind::Variable),
+                detail: detail_at(leaf),
+            })?;
+        }
+    }
+    Ok(())
 }
 
 // Adds the names of a kind that a document defines and that are not known yet, but for those of introspection.
@@ -205,6 +277,7 @@ fn push_names<'t>(
             found.push(Candidate {
                 label: leaf.text(),
                 number: name_number(kind),
+                detail: detail_at(leaf),
             })?;
         }
     }
@@ -233,12 +306,22 @@ fn push_all_names<'t>(
 // The protocol's number of the sort of thing that a member is.
 fn member_number(member: Member<'_>) -> usize {
     let kind = member.node.kind();
-    if kind.is(SyntaxKind::FIELD_DEFINITION) {
+    if kind.is(SyntaxKind::DIRECTIVE_DEFINITION) {
+        name_number(NameKind::Directive)
+    } else if kind.is(SyntaxKind::FIELD_DEFINITION) {
         5
     } else if kind.is(SyntaxKind::ENUM_VALUE_DEFINITION) {
         20
     } else {
         10
+    }
+}
+
+// The type of a member; empty where it has none.
+fn member_detail<'t>(member: Member<'t>) -> &'t str {
+    match symbol_of(member.node) {
+        Some(symbol) => symbol.detail,
+        None => "",
     }
 }
 
@@ -254,6 +337,7 @@ fn push_members<'t>(
             found.push(Candidate {
                 label: member.name(),
                 number: member_number(*member),
+                detail: member_detail(*member),
             })?;
         }
     }
@@ -278,7 +362,7 @@ fn last_front(
 }
 
 // The words that may come after a front of a text: the keywords that the grammar takes, and where a name is expected those that the documents
-// define, the text's first, and that are built in. There are none after an error of the same definition.
+// define, the text's first, and that are built in. There are none after an error of the same definition, but for an empty selection set.
 fn completions<'t>(
     alloc: Global,
     before: &str,
@@ -292,11 +376,33 @@ fn completions<'t>(
     };
     let members = front.members(roots)?;
     push_members(alloc, members.as_slice(), &mut found)?;
+    if front.takes_variable()? {
+        push_variables(alloc, root, &mut found)?;
+    }
     push_keywords(front, &mut found)?;
-    if let Some(kind) = front.name()? {
-        push_all_names(alloc, root, roots, kind, &mut found)?;
+    match front.name()? {
+        Some(NameKind::Directive) => {
+            let directives = front.directives(roots)?;
+            push_members(alloc, directives.as_slice(), &mut found)?;
+        }
+        Some(kind) => push_all_names(alloc, root, roots, kind, &mut found)?,
+        None => {}
     }
     Ok(found)
+}
+
+// Adds what is said beside a word, and that names of the standard come last.
+fn push_words<'p>(
+    pieces: &mut Vec<Piece<'p>>,
+    candidate: &Candidate<'p>,
+) -> Result<(), AllocError> {
+    if !candidate.detail.is_empty() {
+        pieces.extend_from_slice(&[Piece::Key("detail"), Piece::Text(candidate.detail)])?;
+    }
+    if candidate.label.starts_with("__") {
+        pieces.extend_from_slice(&[Piece::Key("sortText"), Piece::Text("~")])?;
+    }
+    Ok(())
 }
 
 // Adds a word, with the range that it replaces.
@@ -312,6 +418,7 @@ fn push_candidate<'p>(
         Piece::Key("kind"),
         Piece::Count(candidate.number),
     ])?;
+    push_words(pieces, candidate)?;
     pieces.extend_from_slice(&[Piece::Key("textEdit"), Piece::Object, Piece::Key("range")])?;
     pieces.extend_from_slice(range)?;
     pieces.extend_from_slice(&[Piece::Key("newText"), Piece::Text(candidate.label)])?;

@@ -17,7 +17,7 @@ use rpc_messages::{Piece, answer, refusal};
 use std::alloc::{AllocError, Global};
 
 // `RequestFailed` of the Language Server Protocol.
-const REQUEST_FAILED: i64 = -32803;
+pub(crate) const REQUEST_FAILED: i64 = -32803;
 
 /// The answer to a request for a layout: the edits that make the new text, null where the text is left, and an error where the new one would be too long.
 pub(crate) fn answer_layout(

@@ -84,11 +84,19 @@ impl Sought<'_, '_> {
         }
     }
 
-    // Whether it may have another name: a document defines it, by how many there are, and it is no member that another type may have to have too.
-    fn may_be_renamed(&self, documents: usize) -> bool {
-        match self {
-            Sought::Member(uses) => uses.member.document < documents && !uses.is_shared(),
-            Sought::Name(name) => name.definer.is_some(),
+    /// Why it may not have another name, by how many documents there are: none of them defines it, or it is a member that another type may have to have
+    /// too. `None` where it may.
+    pub(crate) fn objection(&self, documents: usize) -> Option<&'static str> {
+        let (is_defined, is_shared) = match self {
+            Sought::Member(uses) => (uses.member.document < documents, uses.is_shared()),
+            Sought::Name(name) => (name.definer.is_some(), false),
+        };
+        if !is_defined {
+            Some("no open document defines this name")
+        } else if is_shared {
+            Some("other types may have to have this name, by an interface")
+        } else {
+            None
         }
     }
 
@@ -120,10 +128,12 @@ impl Sought<'_, '_> {
         positions: &Positions<'_>,
     ) -> Result<(), AllocError> {
         let found = self.spans_in(alloc, index, uri, root, true)?;
-        push_marks(pieces, positions, found.as_slice())
+        pieces.extend_from_slice(&[Piece::Array])?;
+        push_marks(pieces, positions, found.as_slice())?;
+        pieces.extend_from_slice(&[Piece::EndArray])
     }
 
-    /// Adds the result of rename: the changes that give it another name wherever the documents have it, or null where it may not have another.
+    /// Adds the result of rename: the changes that give it another name wherever the documents have it.
     pub(crate) fn push_changes<'p>(
         &self,
         alloc: Global,
@@ -131,9 +141,6 @@ impl Sought<'_, '_> {
         documents: &'p BTreeMap<String, Document>,
         name: &'p str,
     ) -> Result<(), AllocError> {
-        if !self.may_be_renamed(documents.len()) {
-            return pieces.extend_from_slice(&[Piece::Null]);
-        }
         pieces.extend_from_slice(&[Piece::Object, Piece::Key("changes"), Piece::Object])?;
         for (index, (uri, document)) in documents.iter().enumerate() {
             let found = self.spans_in(alloc, index, uri.as_str(), document.root(), true)?;
@@ -178,6 +185,7 @@ fn push_changed<'p>(
         return Ok(());
     }
     let positions = document.positions(alloc)?;
-    pieces.extend_from_slice(&[Piece::Key(uri)])?;
-    push_changes(pieces, &positions, found, name)
+    pieces.extend_from_slice(&[Piece::Key(uri), Piece::Array])?;
+    push_changes(pieces, &positions, found, name)?;
+    pieces.extend_from_slice(&[Piece::EndArray])
 }

@@ -10,7 +10,7 @@ ghost use Rattle.gqlls_run.specs.Parameters.{IsVersionIn, Offers, OffersAll, num
 ghost use Rattle.gqlls_run.specs.Files.{host_named};
 ghost use Rattle.gqlls_run.specs.Parameters.{each, edit_in, edits_in, extent_in, host_in, items_at, list_of, told};
 
-use editor_answers::Span;
+use editor_answers::{Markup, Span};
 use editor_diagnostics::Positions;
 use editor_text::{Change, PositionRange};
 use embedded_documents::HostLanguage;
@@ -272,4 +272,52 @@ pub(crate) fn encoding_of(params: &Value<'_>) -> PositionEncoding
         Some(names) if has_text(names, "utf-8") => PositionEncoding::Utf8,
         _ => PositionEncoding::Utf16,
     }
+}
+
+// What a client can do with a feature of documents.
+fn capability_of<'v, 'a>(params: &'v Value<'a>, feature: &str) -> Option<&'v Value<'a>> {
+    let capabilities = params.get("capabilities")?;
+    capabilities.get("textDocument")?.get(feature)
+}
+
+// The markup that a value names.
+fn markup_named(value: &Value<'_>) -> Option<Markup> {
+    match value.as_str()? {
+        "markdown" => Some(Markup::Markdown),
+        "plaintext" => Some(Markup::PlainText),
+        _ => None,
+    }
+}
+
+// The first markup that some values name.
+fn first_markup(values: &[Value<'_>]) -> Option<Markup> {
+    for value in values {
+        if let Some(markup) = markup_named(value) {
+            return Some(markup);
+        }
+    }
+    None
+}
+
+/// The markup that a client likes best in a hover: Markdown where it doesn't say.
+pub(crate) fn markup_of(params: &Value<'_>) -> Markup {
+    match capability_of(params, "hover") {
+        Some(hover) => {
+            first_markup(items_at(hover, "contentFormat").unwrap_or_default()).unwrap_or(
+                Markup::Markdown,
+            )
+        }
+        None => Markup::Markdown,
+    }
+}
+
+fn prepare_support(params: &Value<'_>) -> Option<bool> {
+    capability_of(params, "rename")?
+        .get("prepareSupport")?
+        .as_bool()
+}
+
+/// Whether a client asks before it changes a name, whether it may be changed.
+pub(crate) fn asks_before_renaming(params: &Value<'_>) -> bool {
+    prepare_support(params) == Some(true)
 }

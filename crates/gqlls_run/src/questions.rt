@@ -6,15 +6,15 @@ ghost use Rattle.rpc_messages.specs.Messages.{IsAnswer};
 
 use crate::completing::{call_around, push_completions};
 use crate::documents::Document;
-use crate::formatting::{answer_layout, answer_null};
+use crate::formatting::{REQUEST_FAILED, answer_layout, answer_null};
 use crate::layout::format_part;
 use crate::naming::{Occurrence, Sought};
 use crate::parameters::{asks_for_definition, new_name_of, offset_of, offsets_of, span_of};
 use crate::signature::answer_signature;
 use apollo_parser::{Limits, Parser, SyntaxNode};
 use editor_answers::{
-    Elsewhere, Span, answer_hover, answer_symbols, answer_tokens, definition, definition_elsewhere,
-    identifier_at, push_folds, push_location, push_selections,
+    Elsewhere, Markup, Span, answer_hover, answer_symbols, answer_tokens, definition,
+    definition_elsewhere, identifier_at, push_folds, push_location, push_range, push_selections,
 };
 use editor_diagnostics::Positions;
 use json::Value;
@@ -34,13 +34,14 @@ pub(crate) enum Question {
     Definition,
     References,
     Highlight,
+    PrepareRename,
     Rename,
     Hover,
     Completion,
     Signature,
 }
 
-const QUESTIONS: [(&str, Question); 13] = [
+const QUESTIONS: [(&str, Question); 14] = [
     ("textDocument/documentSymbol", Question::Symbols),
     ("textDocument/foldingRange", Question::Folds),
     ("textDocument/selectionRange", Question::Selections),
@@ -50,6 +51,7 @@ const QUESTIONS: [(&str, Question); 13] = [
     ("textDocument/definition", Question::Definition),
     ("textDocument/references", Question::References),
     ("textDocument/documentHighlight", Question::Highlight),
+    ("textDocument/prepareRename", Question::PrepareRename),
     ("textDocument/rename", Question::Rename),
     ("textDocument/hover", Question::Hover),
     ("textDocument/completion", Question::Completion),
@@ -69,7 +71,7 @@ pub(crate) fn question_of(method: &str) -> Option<Question> {
     None
 }
 
-// What a question is about: a document, and parameters; and the limits of each parse for its answer, and the tree of `STANDARD`.
+// What a question is about: a document, and parameters; and the limits of each parse for its answer, the markup of hovers, and the tree of `STANDARD`.
 #[derive(Clone, Copy)]
 struct Asked<'a, 'd, 'v> {
     alloc: Global,
@@ -81,6 +83,7 @@ struct Asked<'a, 'd, 'v> {
     documents: &'a BTreeMap<String, Document>,
     params: &'a Value<'v>,
     limits: Limits,
+    markup: Markup,
 }
 
 // What defines a name, and where: an open document, with its name, or the standard.
@@ -242,18 +245,6 @@ impl<'a> Asked<'a, '_, '_> {
         )
     }
 
-    // Adds the result of rename.
-    fn push_changes(
-        self,
-        pieces: &mut Vec<Piece<'a>>,
-        offset: usize,
-        name: &'a str,
-    ) -> Result<(), AllocError> {
-        let roots = self.roots()?;
-        let sought = self.sought(roots.as_slice(), offset)?;
-        sought.push_changes(self.alloc, pieces, self.documents, name)
-    }
-
     // The answer that lacks a parameter.
     fn refused(self, id: &Value<'_>) -> Result<Vec<u8>, AllocError>
         requires { HasNumbers (value_view id.now) }
@@ -353,6 +344,49 @@ impl<'a> Asked<'a, '_, '_> {
         answer(self.alloc, id, pieces.as_slice())
     }
 
+    // The answer to prepareRename: the name at the place, if it may have another.
+    fn prepare_rename(self, id: &Value<'_>) -> Result<Vec<u8>, AllocError>
+        requires { HasNumbers (value_view id.now) }
+        ensures { IfOk result (λ body. IsAnswer (value_view id.now) body.items) }
+    {
+        let Some(offset) = offset_of(self.positions, self.params) else {
+            return self.refused(id);
+        };
+        let Some(leaf) = identifier_at(self.root, offset) else {
+            return answer_null(self.alloc, id);
+        };
+        let roots = self.roots()?;
+        let sought = self.sought(roots.as_slice(), offset)?;
+        if let Some(reason) = sought.objection(self.documents.len()) {
+            return refusal(self.alloc, id, REQUEST_FAILED, reason);
+        }
+        let span = editor_answers::span_of(leaf.text_range());
+        let mut pieces = Vec::new(self.alloc);
+        pieces.extend_from_slice(&[Piece::Object])?;
+        push_range(&mut pieces, self.positions, "range", span)?;
+        pieces.extend_from_slice(&[
+            Piece::Key("placeholder"),
+            Piece::Text(leaf.text()),
+            Piece::EndObject,
+        ])?;
+        answer(self.alloc, id, pieces.as_slice())
+    }
+
+    // The answer to rename, with a name of GraphQL.
+    fn renamed(self, id: &Value<'_>, offset: usize, name: &'a str) -> Result<Vec<u8>, AllocError>
+        requires { HasNumbers (value_view id.now) }
+        ensures { IfOk result (λ body. IsAnswer (value_view id.now) body.items) }
+    {
+        let roots = self.roots()?;
+        let sought = self.sought(roots.as_slice(), offset)?;
+        if let Some(reason) = sought.objection(self.documents.len()) {
+            return refusal(self.alloc, id, REQUEST_FAILED, reason);
+        }
+        let mut pieces: Vec<Piece<'a>> = Vec::new(self.alloc);
+        sought.push_changes(self.alloc, &mut pieces, self.documents, name)?;
+        answer(self.alloc, id, pieces.as_slice())
+    }
+
     fn rename(self, id: &Value<'_>) -> Result<Vec<u8>, AllocError>
         requires { HasNumbers (value_view id.now) }
         ensures { IfOk result (λ body. IsAnswer (value_view id.now) body.items) }
@@ -360,12 +394,10 @@ impl<'a> Asked<'a, '_, '_> {
         let Some(offset) = offset_of(self.positions, self.params) else {
             return self.refused(id);
         };
-        let Some(name) = new_name_of(self.params) else {
-            return refusal(self.alloc, id, code::INVALID_PARAMS, "no name of GraphQL");
-        };
-        let mut pieces = Vec::new(self.alloc);
-        self.push_changes(&mut pieces, offset, name)?;
-        answer(self.alloc, id, pieces.as_slice())
+        match new_name_of(self.params) {
+            Some(name) => self.renamed(id, offset, name),
+            None => refusal(self.alloc, id, code::INVALID_PARAMS, "no name of GraphQL"),
+        }
     }
 
     fn hover(self, id: &Value<'_>) -> Result<Vec<u8>, AllocError>
@@ -376,7 +408,15 @@ impl<'a> Asked<'a, '_, '_> {
             return self.refused(id);
         };
         let elsewhere = self.elsewhere(offset)?;
-        answer_hover(self.alloc, id, self.root, self.positions, offset, elsewhere)
+        answer_hover(
+            self.alloc,
+            id,
+            self.root,
+            self.positions,
+            offset,
+            elsewhere,
+            self.markup,
+        )
     }
 
     fn completion(self, id: &Value<'_>) -> Result<Vec<u8>, AllocError>
@@ -437,6 +477,7 @@ impl<'a> Asked<'a, '_, '_> {
             Question::Definition => self.definition(id),
             Question::References => self.references(id),
             Question::Highlight => self.highlights(id),
+            Question::PrepareRename => self.prepare_rename(id),
             Question::Rename => self.rename(id),
             Question::Hover => self.hover(id),
             Question::Completion => self.completion(id),
@@ -445,7 +486,7 @@ impl<'a> Asked<'a, '_, '_> {
     }
 }
 
-/// The answer to a question about the document with a name, one of those that are open, within limits.
+/// The answer to a question about the document with a name, one of those that are open, within limits, hovers in a markup.
 pub(crate) fn answer_question(
     alloc: Global,
     id: &Value<'_>,
@@ -455,6 +496,7 @@ pub(crate) fn answer_question(
     documents: &BTreeMap<String, Document>,
     params: &Value<'_>,
     limits: Limits,
+    markup: Markup,
 ) -> Result<Vec<u8>, AllocError>
     requires { HasNumbers (value_view id.now) }
     ensures { IfOk result (λ body. IsAnswer (value_view id.now) body.items) }
@@ -471,6 +513,7 @@ pub(crate) fn answer_question(
         documents,
         params,
         limits,
+        markup,
     };
     asked.answered(id, question)
 }

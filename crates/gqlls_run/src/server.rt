@@ -13,10 +13,14 @@ ghost use Rattle.gqlls_run.specs.State.{StepsOf, dialogue_of};
 use crate::capabilities::answer_initialize;
 use crate::documents::{Document, insert};
 use crate::formatting::{answer_formatting, answer_null};
-use crate::parameters::{changes_of, encoding_of, host_of, query_of, text_of, uri_of, version_of};
+use crate::parameters::{
+    asks_before_renaming, changes_of, encoding_of, host_of, markup_of, query_of, text_of, uri_of,
+    version_of,
+};
 use crate::questions::{answer_question, question_of};
 use crate::searching::answer_search;
 use apollo_parser::Limits;
+use editor_answers::Markup;
 use editor_diagnostics::withdrawal;
 use json::Value;
 use line_index::PositionEncoding;
@@ -34,12 +38,13 @@ enum Stage {
     ShutDown,
 }
 
-/// The open documents by their names, how far the conversation is, and the limits of each parse.
+/// The open documents by their names, how far the conversation is, the markup of hovers, and the limits of each parse.
 #[derive(Drop)]
 pub struct Server {
     documents: BTreeMap<String, Document>,
     stage: Stage,
     encoding: PositionEncoding,
+    markup: Markup,
     limits: Limits,
 }
 
@@ -52,6 +57,7 @@ impl Server {
             documents: BTreeMap::new(alloc),
             stage: Stage::New,
             encoding: PositionEncoding::Utf16,
+            markup: Markup::Markdown,
             limits,
         }
     }
@@ -101,22 +107,23 @@ impl Server {
         let Some(question) = question_of(method) else {
             return refused(alloc, id, code::METHOD_NOT_FOUND, "method not found");
         };
-        if let Some(uri) = uri_of(params)
-            && let Some(document) = self.documents.get(uri)
-        {
-            let documents = &self.documents;
-            return answer_question(
-                alloc,
-                id,
-                question,
-                uri,
-                document,
-                documents,
-                params,
-                self.limits,
-            );
-        }
-        refused(alloc, id, code::INVALID_PARAMS, NO_DOCUMENT)
+        let Some(uri) = uri_of(params) else {
+            return refused(alloc, id, code::INVALID_PARAMS, NO_DOCUMENT);
+        };
+        let Some(document) = self.documents.get(uri) else {
+            return refused(alloc, id, code::INVALID_PARAMS, NO_DOCUMENT);
+        };
+        answer_question(
+            alloc,
+            id,
+            question,
+            uri,
+            document,
+            &self.documents,
+            params,
+            self.limits,
+            self.markup,
+        )
     }
 
     // Opens a document, and publishes its errors.
@@ -212,7 +219,8 @@ impl Service for Server {
             Stage::New if method == "initialize" => {
                 self.stage = Stage::Running;
                 self.encoding = encoding_of(params);
-                answer_initialize(alloc, id, self.encoding)
+                self.markup = markup_of(params);
+                answer_initialize(alloc, id, self.encoding, asks_before_renaming(params))
             }
             Stage::New => refused(alloc, id, code::NOT_INITIALIZED, "not initialized"),
             Stage::Running if method == "shutdown" => {

@@ -1,4 +1,8 @@
 // Parts of a text as members of an answer.
+ghost use Rattle.std.specs.Prelude.{◌≡◌, ◌++◌, OnOk, flat_map};
+ghost use Rattle.rpc_messages.specs.Pieces.{tokens_of};
+ghost use Rattle.editor_answers.specs.Results.{range_tokens};
+
 use crate::span::Span;
 use editor_diagnostics::Positions;
 use rpc_messages::Piece;
@@ -10,7 +14,11 @@ pub fn push_range<'p>(
     positions: &Positions<'_>,
     name: &'p str,
     span: Span,
-) -> Result<(), AllocError> {
+) -> Result<(), AllocError>
+    ensures { OnOk result (flat_map tokens_of pieces.new.items ≡ flat_map tokens_of pieces.old.items
+        ++ range_tokens positions.now.encoding positions.now.text.now name.now span) }
+{
     pieces.extend_from_slice(&[Piece::Key(name)])?;
-    pieces.extend_from_slice(&positions.range(span.start, span.end))
+    pieces.extend_from_slice(&positions.range(span.start, span.end))?;
+    Ok(())
 }

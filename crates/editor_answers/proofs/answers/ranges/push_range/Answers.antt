@@ -1,0 +1,10 @@
+use Rattle.std.specs.List.{flat_map}
+use Rattle.rpc_messages.specs.Pieces.{tokens_of}
+use Rattle.editor_answers.proofs.Added.{added, added_after, added_as}
+use Rattle.editor_answers.proofs.answers.ranges.push_range.Goals as goal
+
+pub returns : goal.returns
+returns c =
+    let now = c.args.pieces.now.items in
+    added_after (flat_map tokens_of now) _ _ _ _ (added now _ _ c.in_ok-extend_from_slice.ensures.items)
+    (added_as _ _ _ _ c.in_ok-extend_from_slice-2.ensures.items c.range.ensures)
