@@ -14,6 +14,7 @@ URI = "file:///a.graphql"
 DOCUMENT = {"uri": URI}
 OPTIONS = {"tabSize": 2, "insertSpaces": True}
 REQUEST_FAILED = -32803
+VERSION = (Path(__file__).resolve().parent.parent.parent / "VERSION").read_text().strip()
 # Line 1 has a character of two units of UTF-16 and of four bytes.
 TEXT = """query Find($id: ID) {
   pet(name: "😀", id: $id) { ...parts }
@@ -158,6 +159,7 @@ def capabilities():
         client = Client(PROGRAM)
         answer = client.ask("initialize", capabilities={"textDocument": {"rename": {"prepareSupport": prepares}}})["result"]
         expect(f"renaming for a client that asks first: {prepares}", answer["capabilities"]["renameProvider"], wanted)
+        expect("the server", answer["serverInfo"], {"name": "gqlls", "version": VERSION})
 
 
 # ---- changes and errors

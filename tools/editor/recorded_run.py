@@ -5,7 +5,9 @@ import json
 import sys
 from pathlib import Path
 
-CRATE = Path(__file__).resolve().parent.parent.parent / "crates/gqlls"
+TOP = Path(__file__).resolve().parent.parent.parent
+CRATE = TOP / "crates/gqlls"
+VERSION = (TOP / "VERSION").read_text().strip()
 URI = "file:///a.graphql"
 DOCUMENT = {"uri": URI}
 # The errors of this text are those in README.md.
@@ -87,7 +89,7 @@ def selection(smallest, *others):
 
 CONVERSATION = [
     (request(0, "textDocument/hover", textDocument=DOCUMENT), error(0, -32002, "not initialized")),
-    (request(1, "initialize", capabilities={}), result(1, {"capabilities": CAPABILITIES, "serverInfo": {"name": "gqlls"}})),
+    (request(1, "initialize", capabilities={}), result(1, {"capabilities": CAPABILITIES, "serverInfo": {"name": "gqlls", "version": VERSION}})),
     (notification("initialized"), b""),
     (notification("textDocument/didOpen", textDocument={"uri": URI, "languageId": "graphql", "version": 1, "text": FAULTY}),
      published(1, diagnostic(9, 10, "expected : (1 more error before the next definition)"))),

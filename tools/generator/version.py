@@ -10,6 +10,7 @@ PLACES = {
     CRATES / "gqlcheck_run/src/command.rt": ('pub const VERSION: &str = "gqlcheck ', '\\n";'),
     CRATES / "gqlfmt_run/src/command.rt": ('pub const VERSION: &str = "gqlfmt ', '\\n";'),
     CRATES / "gqlls/src/command.rt": ('pub const VERSION: &str = "gqlls ', '\\n";'),
+    CRATES / "gqlls_run/src/capabilities.rt": ('const VERSION: &str = "', '";'),
     TOP / "bindings/python/pyproject.toml": ('version = "', '"'),
     TOP / "bindings/npm/package.json": ('"version": "', '"'),
     TOP / "bindings/rust/Cargo.toml": ('version = "', '"'),

@@ -15,6 +15,8 @@ use line_index::PositionEncoding;
 use rpc_messages::{Piece, answer};
 use std::alloc::{AllocError, Global};
 
+const VERSION: &str = "0.1.0";
+
 // What is served, up to the types of tokens, but for renaming.
 const SERVED: [Piece<'static>; 62] = [
     Piece::Key("documentSymbolProvider"),
@@ -93,7 +95,7 @@ const PREPARED_RENAMING: [Piece<'static>; 5] = [
 ];
 
 // What comes after the types of tokens.
-const END: [Piece<'static>; 10] = [
+const END: [Piece<'static>; 12] = [
     Piece::EndArray,
     Piece::EndObject,
     Piece::EndObject,
@@ -102,6 +104,8 @@ const END: [Piece<'static>; 10] = [
     Piece::Object,
     Piece::Key("name"),
     Piece::Text("gqlls"),
+    Piece::Key("version"),
+    Piece::Text(VERSION),
     Piece::EndObject,
     Piece::EndObject,
 ];
