@@ -85,7 +85,8 @@ def states():
     for method in ["workspace/executeCommand", "textDocument/codeAction", "$/other", ""]:
         expect(f"the method {method}", code(client.ask(method)), -32601)
     for feature in [*FEATURES, "prepareRename"]:
-        expect(f"{feature} of an unknown document", code(client.ask(f"textDocument/{feature}", textDocument=DOCUMENT, **at(0, 0))), -32602)
+        expect(f"{feature} of a document that isn't open", client.ask_about(URI, feature, **at(0, 0)), None)
+        expect(f"{feature} of no document", code(client.ask(f"textDocument/{feature}", **at(0, 0))), -32602)
     expect("no parameters", code(client.ask("textDocument/hover")), -32602)
     for method in ["$/cancelRequest", "$/other", "workspace/didChangeConfiguration", "textDocument/didSave", "textDocument/didChange", "textDocument/didClose", "other"]:
         client.notify(method, textDocument={**DOCUMENT, "version": 1}, contentChanges=[{"text": "{"}])
@@ -242,7 +243,7 @@ def diagnostics():
     expect("closing", client.close(URI), {"uri": URI, "diagnostics": []})
     client.notify("textDocument/didChange", textDocument={"uri": URI, "version": 3}, contentChanges=[{"text": "{"}])
     client.notify("textDocument/didClose", textDocument=DOCUMENT)
-    expect("a closed document", code(client.ask("textDocument/documentSymbol", textDocument=DOCUMENT)), -32602)
+    expect("a closed document", client.ask_about(URI, "documentSymbol"), None)
     expect("nothing is published after closing", client.end(), 0)
 
 

@@ -136,7 +136,7 @@ CONVERSATION = [
     (request("search", "workspace/symbol", query="s"),
      result("search", [{"name": "S", "kind": 26, "location": {"uri": URI, "range": span(7, 7, 8)}}])),
     (notification("textDocument/didClose", textDocument=DOCUMENT), published(None)),
-    (request(18, "textDocument/hover", textDocument=DOCUMENT, position=at(0, 0)), error(18, -32602, "no such document is open")),
+    (request(18, "textDocument/hover", textDocument=DOCUMENT, position=at(0, 0)), result(18, None)),
     (request(19, "shutdown"), result(19, None)),
     (notification("exit"), b""),
 ]

@@ -65,11 +65,12 @@ pub record IsRefused (id : Json) (code : ℤ) (reply : Reply) (old new : Dialogu
 abbrev pub LacksDocument : Json → List ℕ → Type 0
 LacksDocument id body = IsRefusalOf id (neg_ℤ (pos 32602)) body
 
--- `textDocument/formatting`: the body has the layout of the document that the message names, or refuses where none of that name is open
+-- `textDocument/formatting`: the body has the layout of the document that the message names; it is null where that isn't open, and refuses where none is
+-- named
 abbrev pub Formats : Json → Json → Dialogue → List ℕ → Type 0
 Formats id params dialogue body =
     MatchOption (uri_in params) (LacksDocument id body)
-    (λ uri. MatchOption (dialogue.documents uri) (LacksDocument id body) (λ file. IsFormattingIn dialogue.limits id file body))
+    (λ uri. MatchOption (dialogue.documents uri) (IsResult id json.null body) (λ file. IsFormattingIn dialogue.limits id file body))
 
 -- The outcome of a request, by the stage and the method: the conversation begins, or the request is refused as `ServerNotInitialized`; it is shut
 -- down; or nothing changes, and a layout is the document's. After that each request is refused as `InvalidRequest`.

@@ -29,7 +29,7 @@ use std::alloc::{AllocError, Global};
 use std::collections::BTreeMap;
 
 // Why a question about a document is refused.
-const NO_DOCUMENT: &str = "no such document is open";
+const NO_DOCUMENT: &str = "no document is named";
 
 #[derive(Clone, Copy)]
 enum Stage {
@@ -76,10 +76,10 @@ impl Server {
         let Some(uri) = uri_of(params) else {
             return refused(alloc, id, code::INVALID_PARAMS, NO_DOCUMENT);
         };
-        let Some(document) = self.documents.get(uri) else {
-            return refused(alloc, id, code::INVALID_PARAMS, NO_DOCUMENT);
-        };
-        answer_formatting(alloc, id, document, self.limits)
+        match self.documents.get(uri) {
+            Some(document) => answer_formatting(alloc, id, document, self.limits),
+            None => answer_null(alloc, id),
+        }
     }
 
     // The answer to a question about an open document.
@@ -111,7 +111,7 @@ impl Server {
             return refused(alloc, id, code::INVALID_PARAMS, NO_DOCUMENT);
         };
         let Some(document) = self.documents.get(uri) else {
-            return refused(alloc, id, code::INVALID_PARAMS, NO_DOCUMENT);
+            return answer_null(alloc, id);
         };
         answer_question(
             alloc,
