@@ -3,3 +3,4 @@ pub mod FolderLemmas
 pub mod Printing
 pub mod Outputs
 pub mod Saying
+pub mod TooLong
