@@ -3,7 +3,7 @@ use Rattle.std.specs.Prelude.{Bool, ◌||◌, if◌then◌else◌, List, ℕ, �
 use Rattle.document_grammar.specs.declared.kind.SyntaxKind.TheVariants.{DIRECTIVE_DEFINITION, SCHEMA_DEFINITION, SCHEMA_EXTENSION}
 use Rattle.document_grammar.specs.Numbers.{is_kind}
 use Rattle.apollo_tree.specs.Order.{Place, kind_at, parent_place}
-use Rattle.name_lists.specs.Names.{Name}
+use Rattle.executable_document.specs.Names.{Name}
 use Rattle.definition_rules.specs.declared.violations.Rule.{Rule}
 use Rattle.definition_rules.specs.declared.violations.Rule.TheVariants.{ExecutableDefinitions, UniqueOperationNames, LoneAnonymousOperation}
 use Rattle.definition_rules.specs.declared.violations.Rule.TheVariants.{UniqueArgumentNames, UniqueFragmentNames, NoUnusedFragments, KnownFragmentNames}

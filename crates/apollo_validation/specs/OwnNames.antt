@@ -5,7 +5,7 @@ use Rattle.document_grammar.specs.declared.kind.SyntaxKind.TheVariants.{ENUM_VAL
 use Rattle.document_grammar.specs.declared.kind.SyntaxKind.TheVariants.{FRAGMENT_SPREAD, VARIABLE, VARIABLE_DEFINITION}
 use Rattle.document_grammar.specs.Numbers.{is_kind}
 use Rattle.apollo_tree.specs.Order.{Place, kind_at}
-use Rattle.name_lists.specs.Names.{Name}
+use Rattle.executable_document.specs.Names.{Name}
 use Rattle.executable_document.specs.Mentions.{name_in, name_of}
 
 abbrev pub is_about_fragment : SyntaxKind → Bool

@@ -1,7 +1,7 @@
 // All rules on a document.
 ghost use Rattle.std.specs.Prelude.{◌≡◌, ◌<◌, ◌↔◌, ℕ, [], IfOk, OnOk, map};
 ghost use Rattle.apollo_tree.specs.References.{node_place};
-ghost use Rattle.name_lists.specs.Names.{AreFirstNumbers};
+ghost use Rattle.executable_document.specs.Names.{AreFirstNumbers};
 ghost use Rattle.executable_document.specs.Definitions.{as_defined, defined, fragment_names, named_definitions};
 ghost use Rattle.definition_rules.specs.Parts.{as_parts, definitions as definitions_of};
 ghost use Rattle.definition_rules.specs.Rules.{AreUnique, Repeats};

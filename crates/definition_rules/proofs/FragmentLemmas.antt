@@ -4,7 +4,7 @@ use Rattle.std.specs.List.{Contains}
 use Rattle.std.proofs.lemmas.Bool.{cases_lt}
 use Rattle.std.proofs.lemmas.List.{get_or_default, get_or_past}
 use Rattle.apollo_tree.specs.Order.{Place}
-use Rattle.name_lists.specs.Names.{Name, Entries, HasEntry, AreFirstNumbers}
+use Rattle.executable_document.specs.Names.{Name, Entries, HasEntry, AreFirstNumbers}
 use Rattle.directed_graph.specs.Graph.{Graph, IsClosed, row_of}
 use Rattle.directed_graph.specs.Returns.{AreReturns, IsReturn}
 use Rattle.executable_document.specs.Definitions.{fragment_names}

@@ -5,10 +5,10 @@ use Rattle.std.proofs.Math.ListN.{get_or-map}
 use Rattle.std.proofs.lemmas.List.{get_or_default, length-map, take_more}
 use Rattle.std.proofs.lemmas.Grind.{common_steps}
 use Rattle.std.proofs.lemmas.Slice.Eq.{bytes_eq-Decides}
-use Rattle.name_lists.proofs.Numbers.{first_has_name, first_in_front, name_at, none_in_front}
+use Rattle.executable_document.proofs.Numbers.{first_has_name, first_in_front, name_at, none_in_front}
 use Rattle.std.proofs.lemmas.List.Elements.{Contains-get_or}
 use Rattle.apollo_tree.specs.Order.{Place}
-use Rattle.name_lists.specs.Names.{Name, first_number}
+use Rattle.executable_document.specs.Names.{Name, first_number}
 use Rattle.executable_document.specs.declared.mentioning.Mention.{Mention}
 use Rattle.executable_document.specs.Mentions.{Named, as_named}
 use Rattle.definition_rules.specs.declared.violations.Rule.{Rule}

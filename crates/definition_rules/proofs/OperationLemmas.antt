@@ -5,7 +5,7 @@ use Rattle.std.specs.List.{All, Contains, find, range_with_len}
 use Rattle.std.proofs.lemmas.Bool.Decides.{nat_tests}
 use Rattle.std.proofs.lemmas.List.{get_or_default, length-map}
 use Rattle.std.proofs.lemmas.List.Elements.{Contains-get_or}
-use Rattle.name_lists.proofs.Lists.{in_filter, in_range}
+use Rattle.executable_document.proofs.Lists.{in_filter, in_range}
 use Rattle.directed_graph.specs.Graph.{Graph, HasEdge, Reached, start, next}
 use Rattle.definition_rules.specs.declared.violations.Rule.TheVariants.{LoneAnonymousOperation}
 use Rattle.definition_rules.specs.declared.reading.DefinitionParts.{DefinitionParts}

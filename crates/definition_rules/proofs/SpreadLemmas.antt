@@ -5,13 +5,13 @@ use Rattle.std.specs.declared.vec.Vec.{Vec}
 use Rattle.std.proofs.Math.ListN.{get_or-map}
 use Rattle.std.proofs.lemmas.List.{length-map}
 use Rattle.std.proofs.lemmas.List.Quantifiers.{position-Some}
-use Rattle.name_lists.specs.Names.{Name, Entries, AreFirstNumbers, has_name}
+use Rattle.executable_document.specs.Names.{Name, Entries, AreFirstNumbers, has_name}
 use Rattle.directed_graph.specs.Graph.{Graph, row_of, IsClosed}
 use Rattle.executable_document.specs.Mentions.{Named}
 use Rattle.executable_document.specs.Definitions.{fragment_names}
 use Rattle.definition_rules.specs.Parts.{Parts, at, definitions, fragment_named, nothing, targets}
 use Rattle.definition_rules.specs.Graphs.{IsSpreadGraph, numbers_of}
-use Rattle.name_lists.proofs.Lists.{filter_map_same, in_filter_map}
+use Rattle.executable_document.proofs.Lists.{filter_map_same, in_filter_map}
 
 abbrev pub row_items : Vec ℕ Global → List ℕ
 row_items row = row.items

@@ -6,7 +6,7 @@ use Rattle.std.specs.List.{Contains}
 use Rattle.std.proofs.lemmas.List.{get_or_default}
 use Rattle.std.proofs.lemmas.List.Elements.{Contains-append_left, Contains-get_or, Contains-push, Contains-push_cases}
 use Rattle.std.proofs.lemmas.Slice.Eq.{bytes_eq-Decides}
-use Rattle.name_lists.specs.Names.{Name, Entries, Enters, HasEntry, entry_of}
+use Rattle.executable_document.specs.Names.{Name, Entries, Enters, HasEntry, entry_of}
 use Rattle.directed_graph.specs.Graph.{Graph, HasEdge, Reached}
 use Rattle.executable_document.specs.Mentions.{Named}
 use Rattle.definition_rules.specs.declared.violations.Violations.{Violations}

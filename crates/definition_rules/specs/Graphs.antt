@@ -2,7 +2,7 @@
 use Rattle.std.specs.Prelude.{◌≡◌, ℕ, List, length}
 use Rattle.std.specs.List.{filter_map}
 use Rattle.directed_graph.specs.Graph.{Graph, row_of}
-use Rattle.name_lists.specs.Names.{Entries, entry_of}
+use Rattle.executable_document.specs.Names.{Entries, entry_of}
 use Rattle.executable_document.specs.Mentions.{Named}
 use Rattle.definition_rules.specs.Parts.{Parts, at, targets}
 

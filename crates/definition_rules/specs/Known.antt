@@ -1,7 +1,7 @@
 -- Names that are entered.
 use Rattle.std.specs.Prelude.{◌⊎◌, ◌↔◌, ℕ, List, [], ◌∷◌, Some}
 use Rattle.std.specs.List.{Contains}
-use Rattle.name_lists.specs.Names.{Name, Entries, HasEntry}
+use Rattle.executable_document.specs.Names.{Name, Entries, HasEntry}
 use Rattle.executable_document.specs.Mentions.{Named}
 use Rattle.definition_rules.specs.declared.violations.Rule.TheVariants.{NoUndefinedVariables}
 use Rattle.definition_rules.specs.Violations.{Breach}

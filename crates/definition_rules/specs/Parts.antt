@@ -3,7 +3,7 @@ use Rattle.std.specs.Prelude.{ℕ, List, [], length, map, Bool, true, false, Opt
 use Rattle.std.specs.List.{Contains, filter, filter_map, range_with_len}
 use Rattle.document_grammar.specs.Forests.{none}
 use Rattle.apollo_tree.specs.Order.{Place}
-use Rattle.name_lists.specs.Names.{Name, first_number}
+use Rattle.executable_document.specs.Names.{Name, first_number}
 use Rattle.directed_graph.specs.Graph.{Reached}
 use Rattle.executable_document.specs.declared.executables.DefinitionKind.TheVariants.{Operation, Fragment}
 use Rattle.executable_document.specs.declared.mentioning.MentionKind.TheVariants.{Spread, Declared, Used}

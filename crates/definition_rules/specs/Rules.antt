@@ -2,7 +2,7 @@
 use Rattle.std.specs.Prelude.{◌≡◌, ◌≢◌, ◌⊎◌, ◌==◌, ℕ, ◌<◌, List, [], ◌∷◌, length, map, true, not, Option, Some, None, slice_index_or}
 use Rattle.std.specs.List.{Contains, find}
 use Rattle.apollo_tree.specs.Order.{Place}
-use Rattle.name_lists.specs.Names.{Name, first_number}
+use Rattle.executable_document.specs.Names.{Name, first_number}
 use Rattle.executable_document.specs.Mentions.{Named}
 use Rattle.definition_rules.specs.declared.violations.Rule.{Rule}
 use Rattle.definition_rules.specs.declared.violations.Rule.TheVariants.{LoneAnonymousOperation, NoUnusedFragments, KnownFragmentNames}

@@ -2,7 +2,7 @@
 ghost use Rattle.std.specs.Prelude.{◌≡◌, ◌==◌, OnOk, Some, map, not, option_map};
 ghost use Rattle.std.specs.List.{find};
 ghost use Rattle.apollo_tree.specs.References.{node_place};
-ghost use Rattle.name_lists.specs.Names.{HasEntry};
+ghost use Rattle.executable_document.specs.Names.{HasEntry};
 ghost use Rattle.executable_document.specs.Mentions.{as_named};
 ghost use Rattle.definition_rules.specs.Parts.{as_parts, operations};
 ghost use Rattle.definition_rules.specs.Rules.{AnonymousIsAlone, AreKnown, AreUnique, IsNotAlone, IsUnknown, Repeats};
@@ -11,8 +11,7 @@ ghost use Rattle.definition_rules.specs.Violations.{Adds, breach};
 use crate::reading::{DefinitionParts, part_at};
 use crate::violations::{Rule, Violations};
 use apollo_tree::SyntaxNode;
-use executable_document::Mention;
-use name_lists::{enter, is_entered};
+use executable_document::{Mention, enter, is_entered};
 use std::alloc::{AllocError, Global};
 use std::collections::BTreeMap;
 

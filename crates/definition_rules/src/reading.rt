@@ -1,7 +1,7 @@
 // What the rules ask of a document's definitions.
 ghost use Rattle.std.specs.Prelude.{◌≡◌, ◌<◌, IfOk, length, map};
 ghost use Rattle.directed_graph.specs.Graph.{IsClosed};
-ghost use Rattle.name_lists.specs.Names.{AreFirstNumbers};
+ghost use Rattle.executable_document.specs.Names.{AreFirstNumbers};
 ghost use Rattle.executable_document.specs.Definitions.{as_defined, fragment_names};
 ghost use Rattle.executable_document.specs.Mentions.{as_named};
 ghost use Rattle.definition_rules.specs.Graphs.{IsSpreadGraph, numbers_of};

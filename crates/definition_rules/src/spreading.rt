@@ -2,7 +2,7 @@
 ghost use Rattle.std.specs.Prelude.{◌≡◌, OnOk, map};
 ghost use Rattle.directed_graph.specs.Graph.{IsClosed};
 ghost use Rattle.executable_document.specs.Definitions.{fragment_names};
-ghost use Rattle.name_lists.specs.Names.{AreFirstNumbers};
+ghost use Rattle.executable_document.specs.Names.{AreFirstNumbers};
 ghost use Rattle.definition_rules.specs.Graphs.{IsSpreadGraph};
 ghost use Rattle.definition_rules.specs.Parts.{as_parts, definitions, operations};
 ghost use Rattle.definition_rules.specs.Rules.{FragmentsAreUsed, HasNoCycles, IsOnCycle, IsUndefinedSpread, IsUnusedFragment, SpreadsAreDefined};

@@ -4,7 +4,7 @@ ghost use Rattle.std.specs.List.{All};
 ghost use Rattle.directed_graph.specs.Graph.{IsClosed};
 ghost use Rattle.directed_graph.specs.Marks.{AreUnmarked};
 ghost use Rattle.executable_document.specs.Mentions.{as_named};
-ghost use Rattle.name_lists.specs.Names.{HasEntry, Name};
+ghost use Rattle.executable_document.specs.Names.{HasEntry, Name};
 ghost use Rattle.definition_rules.specs.Graphs.{IsSpreadGraph};
 ghost use Rattle.definition_rules.specs.Known.{AreReached, DefinedIn, EntersNames, IsUsedAmong, UndefinedIn};
 ghost use Rattle.definition_rules.specs.Parts.{as_parts, operations};
@@ -15,8 +15,7 @@ use crate::naming::add_unknown;
 use crate::reading::{DefinitionParts, part_at};
 use crate::violations::{Rule, Violations};
 use directed_graph::reach;
-use executable_document::Mention;
-use name_lists::enter;
+use executable_document::{Mention, enter};
 use std::alloc::{AllocError, Global};
 use std::collections::BTreeMap;
 

@@ -6,7 +6,7 @@ use Rattle.apollo_lexer.specs.declared.limits.Limits.{Limits}
 use Rattle.apollo_tree.specs.Order.{Place}
 use Rattle.apollo_parser.specs.Parsed.{Parsed}
 use Rattle.apollo_parser.specs.Promise.{Promise}
-use Rattle.name_lists.specs.Names.{Name}
+use Rattle.executable_document.specs.Names.{Name}
 use Rattle.executable_document.specs.Definitions.{defined, operation_name}
 use Rattle.expansion_figures.specs.declared.figures.Figures.{Figures}
 use Rattle.operation_limits.specs.Measures.{Measure, AreMeasures}

@@ -3,7 +3,8 @@
 //! A change replaces a range of positions, or the whole text. After it the document has the text that the client has: the contract says so for
 //! a client that counts lines and units of an encoding.
 //!
-//! `gqlls_run`, the crate above, keeps an `OpenDocument` for each file and calls its `change_all`.
+//! `gqlls_run`, the crate above, keeps an `OpenDocument` for each file and calls its `change_all`. For its answers it parses a text whose
+//! quoted strings are `closed` where their lines leave them open.
 #![tactic(auto)]
 
 ghost use Rattle.std.specs.Prelude.{◌≡◌, string_bytes, IfOk, OnOk, OnErr};
@@ -11,7 +12,10 @@ ghost use Rattle.line_index.specs.LineStarts.{AreFirstStarts};
 ghost use Rattle.line_index.specs.Positions.{units};
 ghost use Rattle.editor_text.specs.Client.{AreOffsets, changed, changed_all, replaced};
 
+mod open_quotes;
+
 use line_index::{FirstLines, Position, PositionEncoding};
+pub use open_quotes::closed;
 use std::alloc::{AllocError, Global};
 use std::marker::Model;
 

@@ -7,7 +7,7 @@ use Rattle.document_grammar.specs.Numbers.{is_kind}
 use Rattle.apollo_tree.specs.Order.{Place, kind_at}
 use Rattle.apollo_tree.specs.Children.{child_nodes}
 use Rattle.apollo_tree.specs.References.{node_place}
-use Rattle.name_lists.specs.Names.{Name}
+use Rattle.executable_document.specs.Names.{Name}
 use Rattle.executable_document.specs.declared.executables.DefinitionKind.{DefinitionKind}
 use Rattle.executable_document.specs.declared.executables.DefinitionKind.TheVariants.{Operation, Fragment}
 use Rattle.executable_document.specs.declared.executables.ExecutableDefinition.{ExecutableDefinition}

@@ -1,2 +1,3 @@
 pub mod Definitions
 pub mod Mentions
+pub mod Names

@@ -9,7 +9,7 @@ use Rattle.apollo_tree.specs.Children.{is_node_place}
 use Rattle.apollo_tree.specs.Below.{at_or_below}
 use Rattle.apollo_tree.specs.References.{node_place}
 use Rattle.apollo_cst_core.specs.Cast.{cast_children, first_of}
-use Rattle.name_lists.specs.Names.{Name}
+use Rattle.executable_document.specs.Names.{Name}
 use Rattle.executable_document.specs.declared.mentioning.Mention.{Mention}
 use Rattle.executable_document.specs.declared.mentioning.MentionKind.{MentionKind}
 use Rattle.executable_document.specs.declared.mentioning.MentionKind.TheVariants.{Spread, Declared, Used}

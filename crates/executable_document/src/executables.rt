@@ -1,13 +1,13 @@
 // The operations and fragments of a document.
 ghost use Rattle.std.specs.Prelude.{◌≡◌, IfOk, map, option_map};
 ghost use Rattle.apollo_tree.specs.References.{node_place};
-ghost use Rattle.name_lists.specs.Names.{AreFirstNumbers};
+ghost use Rattle.executable_document.specs.Names.{AreFirstNumbers};
 ghost use Rattle.executable_document.specs.Definitions.{as_defined, defined, defined_at, fragment_names, named, named_definitions};
 ghost use Rattle.executable_document.specs.Mentions.{as_named};
 
 use crate::mentioning::{Mention, name, name_of_fragment};
+use crate::names::enter;
 use apollo_tree::{SyntaxKind, SyntaxNode};
-use name_lists::enter;
 use std::alloc::{AllocError, Allocator};
 use std::collections::BTreeMap;
 

@@ -5,8 +5,8 @@ use Rattle.lexical_grammar.specs.declared.TokenKind.TheVariants.{StringValue}
 use Rattle.lexical_grammar.specs.declared.edge.Edge.{Edge}
 use Rattle.lexical_grammar.specs.Cut.{Word}
 use Rattle.lexical_grammar.specs.Kept.{is_kept_kind, kept_word}
-use Rattle.format_tokens.specs.Laid.{Laid, Keeps, Adds}
-use Rattle.format_strings.specs.Respelled.{SameBlock, SameWord, AreSameWords}
+use Rattle.format_layout.specs.Laid.{Laid, Keeps, Adds}
+use Rattle.format_layout.specs.Respelled.{SameBlock, SameWord, AreSameWords}
 use Rattle.format_layout.specs.Written.{LaidSame, AddsSame}
 
 kept-alone : (word : Word) → is_kept_kind word.kind ≡ true → kept_word word ≡ word ∷ []

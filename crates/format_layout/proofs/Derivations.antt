@@ -11,7 +11,7 @@ use Rattle.document_grammar.specs.Rows.{Row}
 use Rattle.document_grammar.specs.Derivation.{kinds, text, texts, LeafRule, NameRule, on_text, true_text, false_text, null_text, NoVariable, NoVariables}
 use Rattle.document_grammar.specs.Derivation.{ConstantDirectives, Braced, NoBlock, LacksBlock, StartsWithSelections, IsQuery, NotBefore, BraceRule, FitsBy}
 use Rattle.document_grammar.specs.Derivation.{AllFitBy, Derivation, document}
-use Rattle.format_strings.specs.Respelled.{SameBlock, Alike, AllAlike}
+use Rattle.format_layout.specs.Respelled.{SameBlock, Alike, AllAlike}
 
 pub alike-root : (t u : Tree) → Alike t u → root u ≡ root t
 alike-root (leaf k x) (leaf j y) a = sym a.0

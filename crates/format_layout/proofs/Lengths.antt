@@ -4,7 +4,7 @@ use Rattle.std.proofs.Math.Nat.{mul-add}
 use Rattle.lexical_grammar.specs.Answers.{Answer, answer_text, answers_text}
 use Rattle.lexical_grammar.specs.declared.edge.Edge.{Edge}
 use Rattle.lexical_grammar.specs.declared.edge.Edge.TheVariants.{Comment}
-use Rattle.format_tokens.specs.Laid.{ended_length}
+use Rattle.format_layout.specs.Laid.{ended_length}
 
 -- for each byte of a token, the token takes no more than there is for it
 pub own-room : (indent bytes : ℕ) → 0 < bytes → bytes + indent + 5 ≤ (indent + 6) * bytes

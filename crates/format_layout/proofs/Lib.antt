@@ -7,3 +7,7 @@ pub mod Adding
 pub mod Lengths
 pub mod Reading
 pub mod Sentences
+pub mod Tokens
+pub mod Blanks
+pub mod Written
+pub mod Blocks

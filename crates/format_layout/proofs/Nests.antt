@@ -4,7 +4,7 @@ use Rattle.std.specs.Prelude.{max}
 use Rattle.document_grammar.specs.Kinds.{DOCUMENT}
 use Rattle.document_grammar.specs.Tree.{Tree, leaf, node, Forest, none, ◌▸◌, root}
 use Rattle.document_grammar.specs.Derivation.{counts, below, belows, nest}
-use Rattle.format_strings.specs.Respelled.{Alike, AllAlike}
+use Rattle.format_layout.specs.Respelled.{Alike, AllAlike}
 use Rattle.format_layout.proofs.Derivations.{alike-root}
 
 mutual

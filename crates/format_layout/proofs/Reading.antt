@@ -7,8 +7,8 @@ use Rattle.lexical_grammar.specs.declared.edge.Edge.{Edge}
 use Rattle.lexical_grammar.specs.Answers.{Answer, AreAnswers, IsTokenText, gives, limit_at, limited}
 use Rattle.lexical_grammar.specs.Cut.{Item, Word}
 use Rattle.lexical_grammar.specs.Kept.{Holds, kept_item, kept_word, Kept}
-use Rattle.format_tokens.specs.Laid.{Keeps, Laid}
-use Rattle.format_strings.specs.Respelled.{AreSameWords}
+use Rattle.format_layout.specs.Laid.{Keeps, Laid}
+use Rattle.format_layout.specs.Respelled.{AreSameWords}
 use Rattle.format_layout.specs.Written.{HoldsSame, LaidSame, AddsSame}
 
 -- the significant tokens and the comments among a lexer's answers

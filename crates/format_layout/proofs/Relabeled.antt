@@ -6,7 +6,7 @@ use Rattle.document_grammar.specs.Kinds.{IDENT, STRING}
 use Rattle.document_grammar.specs.Choices.{is_ignored, is_keyword}
 use Rattle.document_grammar.specs.Tree.{Text, Token, Tree, leaf, node, Forest, none, ◌▸◌}
 use Rattle.document_grammar.specs.Derivation.{Yield, Yields, spelled}
-use Rattle.format_strings.specs.Respelled.{SameBlock, Alike, AllAlike}
+use Rattle.format_layout.specs.Respelled.{SameBlock, Alike, AllAlike}
 
 abbrev pub SameToken : Token → Token → Type 0
 SameToken a b = (a ≡ b) ⊎ ((a.0 ≡ STRING) × (b.0 ≡ STRING) × SameBlock a.1 b.1)

@@ -10,7 +10,7 @@ use Rattle.document_grammar.specs.Sentence.{Sentence, token_of, leaf_number}
 use Rattle.document_grammar.proofs.Texts.{one-cut}
 use Rattle.lexical_grammar.specs.Kept.{Kept}
 use Rattle.format_layout.proofs.Significant.{significant, significant-kept}
-use Rattle.format_strings.specs.Respelled.{SameWord, AreSameWords, Respelled}
+use Rattle.format_layout.specs.Respelled.{SameWord, AreSameWords, Respelled}
 use Rattle.format_layout.proofs.Derivations.{alike-derivation}
 use Rattle.format_layout.proofs.Relabeled.{SameToken, AreSame, relabel}
 

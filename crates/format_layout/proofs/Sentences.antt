@@ -7,7 +7,7 @@ use Rattle.lexical_grammar.specs.Reads.{items_of}
 use Rattle.lexical_grammar.specs.Kept.{Kept}
 use Rattle.lexical_grammar.proofs.TheCut.{is-cut}
 use Rattle.document_grammar.proofs.Texts.{one-cut}
-use Rattle.format_strings.specs.Respelled.{AreSameWords}
+use Rattle.format_layout.specs.Respelled.{AreSameWords}
 use Rattle.format_layout.proofs.Respelling.{respelled}
 use Rattle.format_layout.specs.Written.{HoldsSame}
 use Rattle.format_layout.specs.Formatted.{IsSentence, Formatted}

@@ -6,7 +6,7 @@ use Rattle.lexical_grammar.specs.Kept.{Kept}
 use Rattle.document_grammar.specs.Tree.{Tree}
 use Rattle.document_grammar.specs.Derivation.{document}
 use Rattle.document_grammar.specs.Sentence.{Sentence, Within}
-use Rattle.format_strings.specs.Respelled.{AreSameWords, Respelled}
+use Rattle.format_layout.specs.Respelled.{AreSameWords, Respelled}
 
 -- The text is a document, of no more items than a number of the target counts.
 pub record IsSentence (source : List ℕ) : Type 0 where

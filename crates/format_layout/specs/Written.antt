@@ -3,8 +3,8 @@ use Rattle.std.specs.Prelude.{ℕ, List, ◌++◌}
 use Rattle.lexical_grammar.specs.declared.edge.Edge.{Edge}
 use Rattle.lexical_grammar.specs.Cut.{Word}
 use Rattle.lexical_grammar.specs.Kept.{Holds, kept_word}
-use Rattle.format_tokens.specs.Laid.{Laid}
-use Rattle.format_strings.specs.Respelled.{AreSameWords}
+use Rattle.format_layout.specs.Laid.{Laid}
+use Rattle.format_layout.specs.Respelled.{AreSameWords}
 
 -- It has written these words, or block strings with the same values.
 pub record LaidSame (text : List ℕ) (edge : Edge) (words : List Word) : Type 0 where

@@ -1,5 +1,5 @@
-// How a block string is spelled in an indented line. Nothing is promised of it: `format_strings` compares the values.
-use format_strings::{BlockStyle, WriteError};
+// How a block string is spelled in an indented line. Nothing is promised of it: `spelled` compares the values.
+use crate::style::{BlockStyle, WriteError};
 use std::alloc::{AllocError, Allocator};
 
 /// How block strings are spelled in a line that is indented by a number of spaces: with a line for the quotes before them, one for each line of the

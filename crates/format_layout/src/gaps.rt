@@ -1,8 +1,8 @@
 // The gaps before the tokens of a document, one after another.
 use crate::elements::Elements;
+use crate::gap::Gap;
 use crate::slot::{BREAKS, Part, Separator, Slot};
 use crate::walk::slots_of;
-use format_tokens::Gap;
 use std::alloc::{AllocError, Allocator};
 
 // How many columns a line has at most, where it can be broken.

@@ -6,7 +6,7 @@ ghost use Rattle.lexical_grammar.specs.Kept.{Kept};
 ghost use Rattle.document_grammar.specs.Tree.{Tree};
 ghost use Rattle.document_grammar.specs.Derivation.{document, nest};
 ghost use Rattle.document_grammar.specs.Sentence.{Sentence};
-ghost use Rattle.format_strings.specs.Respelled.{Alike, AreSameWords, Respelled};
+ghost use Rattle.format_layout.specs.Respelled.{Alike, AreSameWords, Respelled};
 
 /// A text that has the tokens and comments of a sentence, but that block strings may be others with the same values, is a sentence. Its
 /// derivation is the first one's but for these strings.

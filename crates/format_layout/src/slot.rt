@@ -2,7 +2,7 @@
 ghost use Rattle.std.specs.Prelude.{◌≡◌, ◌<◌, true, false};
 ghost use Rattle.format_layout.specs.Breaking.{ends_line};
 
-use format_tokens::Gap;
+use crate::gap::Gap;
 
 // How many spaces a level of indent has.
 const INDENT: u16 = 2;

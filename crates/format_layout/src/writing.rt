@@ -4,19 +4,22 @@ ghost use Rattle.lexical_grammar.specs.Answers.{IsTokenText, usize_max};
 ghost use Rattle.lexical_grammar.specs.Tokens.{IsString, Tok};
 ghost use Rattle.lexical_grammar.specs.Reads.{items_of};
 ghost use Rattle.lexical_grammar.specs.Kept.{Kept, is_kept_kind};
-ghost use Rattle.format_tokens.specs.Laid.{Keeps, ended_length};
-ghost use Rattle.format_strings.specs.Respelled.{SameBlock};
-ghost use Rattle.format_strings.specs.declared.style.WriteError.TheVariants.{Memory, TooLong};
+ghost use Rattle.format_layout.specs.Laid.{Keeps, ended_length};
+ghost use Rattle.format_layout.specs.Respelled.{SameBlock};
+ghost use Rattle.format_layout.specs.declared.style.WriteError.TheVariants.{Memory, TooLong};
 ghost use Rattle.format_layout.specs.Formatted.{Formatted, IsSentence};
 ghost use Rattle.format_layout.specs.Lengths.{bytes_for_each, deepest_indent, longest_layout};
 ghost use Rattle.format_layout.specs.Written.{AddsSame, HoldsSame};
 
 use crate::block_text::Indented;
+use crate::gap::Gap;
 use crate::gaps::{Gaps, column_after};
+use crate::kept::is_kept;
+use crate::layout::Layout;
 use crate::size::{QUOTES, columns, has_lines};
+use crate::spelling::spelled;
+use crate::style::WriteError;
 use apollo_lexer::{Lexer, Token};
-use format_strings::{WriteError, spelled};
-use format_tokens::{Gap, Layout, is_kept};
 use lexical_grammar::TokenKind;
 use std::alloc::Allocator;
 

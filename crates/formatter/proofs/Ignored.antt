@@ -20,7 +20,7 @@ use Rattle.apollo_lexer.specs.declared.lexer.Lexer.{Lexer}
 use Rattle.apollo_lexer.specs.declared.lex_error.LexError.{LexError}
 use Rattle.apollo_lexer.specs.Answers.{answers_left, answer_of, error_answer}
 use Rattle.apollo_lexer.proofs.Law.{answers-fit, limited-length}
-use Rattle.format_strings.specs.Respelled.{SameWord, AreSameWords}
+use Rattle.format_layout.specs.Respelled.{SameWord, AreSameWords}
 use Rattle.format_layout.specs.Written.{HoldsSame}
 use Rattle.formatter.specs.Comments.{HasNoDefinitions, HasSameComments}
 

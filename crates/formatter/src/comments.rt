@@ -3,14 +3,13 @@ ghost use Rattle.std.specs.Prelude.{◌≡◌, ◌<◌, ◌≤◌, true, false, 
 ghost use Rattle.lexical_grammar.specs.Answers.{usize_max};
 ghost use Rattle.lexical_grammar.specs.Cut.{Significant, are_tokens, is_significant_kind};
 ghost use Rattle.lexical_grammar.specs.Reads.{items_of};
-ghost use Rattle.format_strings.specs.declared.style.WriteError.TheVariants.{TooLong};
+ghost use Rattle.format_layout.specs.declared.style.WriteError.TheVariants.{TooLong};
 ghost use Rattle.format_layout.specs.Lengths.{longest_layout};
 ghost use Rattle.formatter.specs.Comments.{HasNoDefinitions, HasSameComments};
 
 use crate::TreeElements;
 use apollo_parser::{Lexer, Parser, TokenKind};
-use format_layout::{Gaps, format_text};
-use format_strings::WriteError;
+use format_layout::{Gaps, WriteError, format_text};
 use std::alloc::{AllocError, Allocator};
 
 fn is_ignored(kind: TokenKind) -> bool

@@ -2,22 +2,25 @@
 //!
 //! `format` parses the text and writes it anew. It keeps significant tokens and comments, in their order; only block strings may be spelled
 //! anew, with the same value. `format_within` has a bound on the formatted text, and `format_comments` is for texts without definitions. `gqlls_run` and
-//! `dumyroke_flat` call `format_within`. `gqlfmt_run` has both through the trait `DocumentFormatter`, so that it is proved without the code of the parser.
+//! `dumyroke_flat` call `format_within`. `gqlfmt_run` has both through the trait `DocumentFormatter`, and the errors that it shows through
+//! `ErrorFinder`, so that it is proved without the code of the parser.
 #![tactic(auto)]
 
 ghost use Rattle.std.specs.Prelude.{◌≡◌, ◌<◌, ◌≤◌, ℕ, true, false, List, None, length, IfErr, IfOk, IfSome, OnOk, string_bytes};
 ghost use Rattle.lexical_grammar.specs.Reads.{items_of};
-ghost use Rattle.format_strings.specs.declared.style.WriteError.TheVariants.{TooLong};
+ghost use Rattle.format_layout.specs.declared.style.WriteError.TheVariants.{TooLong};
 ghost use Rattle.format_layout.specs.Lengths.{longest_layout};
 ghost use Rattle.formatter.specs.Comments.{HasNoDefinitions, HasSameComments};
 ghost use Rattle.formatter.specs.Formatted.{IsDocument, IsFormatted, IsRefused};
 
 mod comments;
+mod error_finder;
 
 use apollo_parser::{DocumentRoot, Error, IndexedElement, Lexer, Limits, Parser, SyntaxTree};
 pub use comments::format_comments;
+pub use error_finder::ErrorFinder;
+pub use format_layout::WriteError;
 use format_layout::{Elements, Gaps, format_document};
-pub use format_strings::WriteError;
 use std::alloc::{AllocError, Allocator};
 
 // A tree, as the layout reads it.

@@ -3,9 +3,8 @@
 //! Here are only the words, the standard devices and the exit status. What is done between them is `run` of `gqlcheck_run`.
 #![tactic(auto)]
 
-use byte_devices::{StdSink, StdSource};
+use byte_devices::{Patient, StdSink, StdSource, views, words};
 use gqlcheck_run::{Checker, run};
-use program_inputs::{Patient, views, words};
 use std::process::ExitCode;
 use std_files::StdFiles;
 

@@ -6,11 +6,10 @@
 
 mod command;
 
-use byte_devices::{StdSink, StdSource};
+use byte_devices::{StdSink, StdSource, views, words};
 use command::{HELP, VERSION};
 use gqlcst_run::ending::{USAGE, ending};
 use gqlcst_run::{Limits, Mode, options, run};
-use program_inputs::{views, words};
 use program_words::information::{Information, information_of};
 use std::alloc::AllocError;
 use std::process::ExitCode;

@@ -4,9 +4,8 @@
 //! between them is `run` of `gqlfmt_run`.
 #![tactic(auto)]
 
-use byte_devices::{StdSink, StdSource};
+use byte_devices::{Patient, StdSink, StdSource, views, words};
 use gqlfmt_run::{Formatter, run};
-use program_inputs::{Patient, views, words};
 use std::process::ExitCode;
 use std_files::StdFiles;
 

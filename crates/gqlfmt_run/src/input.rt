@@ -9,8 +9,7 @@ ghost use Rattle.gqlfmt_run.specs.Input.{IsOutput, kept, settled_of};
 use crate::job::Job;
 use crate::showing::shown;
 use byte_devices::{Fault, Sink, Source, read_to_end, write_all};
-use error_finder::ErrorFinder;
-use formatter::DocumentFormatter;
+use formatter::{DocumentFormatter, ErrorFinder};
 use gqlfmt_files::{Mode, Revised, Settled};
 use std::alloc::{AllocError, Allocator};
 

@@ -6,10 +6,9 @@
 
 mod command;
 
-use byte_devices::{Fault, StdSink, StdSource};
+use byte_devices::{Fault, StdSink, StdSource, views, words};
 use command::{HELP, USAGE, VERSION};
 use gqlls_run::{Limits, run};
-use program_inputs::{views, words};
 use program_words::gqlls::options;
 use program_words::information::{Information, information_of};
 use std::alloc::AllocError;

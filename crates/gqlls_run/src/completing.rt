@@ -4,7 +4,7 @@ use apollo_parser::{
 };
 use editor_answers::{NameKind, meaning_of, span_of, symbol_of};
 use editor_diagnostics::Positions;
-use open_quotes::closed;
+use editor_text::closed;
 use rpc_messages::Piece;
 use schema_members::{Call, Member, Schema, call_at, directives_at, members_at};
 use std::alloc::{AllocError, Global};

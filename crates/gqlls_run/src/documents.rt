@@ -11,11 +11,10 @@ ghost use Rattle.gqlls_run.specs.Told.{AreRemarksOf, IsTold};
 
 use apollo_parser::{DocumentRoot, Limits, Parser, SyntaxNode, SyntaxTree};
 use editor_diagnostics::{Positions, Remark, publication};
-use editor_text::{Change, OpenDocument};
+use editor_text::{Change, OpenDocument, closed};
 use editor_validation::remarks;
 use embedded_documents::{HostLanguage, is_blank, is_in_document, masked};
 use line_index::PositionEncoding;
-use open_quotes::closed;
 use std::alloc::{AllocError, Global};
 use std::collections::BTreeMap;
 

@@ -2,7 +2,7 @@
 use Rattle.std.proofs.Common.{◌≡◌, ℕ, Bool, true, false, List, ◌∷◌, ◌++◌, refl, sym, ap, ◌∙◌, inl, inr}
 use Rattle.lexical_grammar.specs.Strings.{BlockCharacters, BlockString, begins, closing, escaped, plain, triple_quote, escaped_triple_quote}
 use Rattle.lexical_grammar.specs.Values.{joined_by_lf, without_blank_ends, dedented, block_string_value}
-use Rattle.format_strings.specs.Respelled.{SameBlock}
+use Rattle.format_layout.specs.Respelled.{SameBlock}
 use Rattle.line_ends.specs.declared.LineEnd.{LineEnd}
 use Rattle.line_ends.specs.declared.LineEnd.TheVariants.{Lf, Crlf}
 use Rattle.line_ends.specs.LineEnds.{end_bytes}

@@ -6,7 +6,7 @@ use Rattle.lexical_grammar.specs.Cut.{Item, Word, are_tokens}
 use Rattle.lexical_grammar.specs.Kept.{Holds, Kept}
 use Rattle.lexical_grammar.specs.Values.{Block}
 use Rattle.lexical_grammar.proofs.StringValues.{block-one}
-use Rattle.format_strings.specs.Respelled.{AreSameWords, SameBlock, SameWord}
+use Rattle.format_layout.specs.Respelled.{AreSameWords, SameBlock, SameWord}
 use Rattle.format_layout.specs.Formatted.{Formatted}
 use Rattle.format_layout.proofs.Respelling.{respelled}
 use Rattle.formatter.specs.Comments.{HasSameComments}

@@ -6,7 +6,7 @@ use Rattle.lexical_grammar.specs.declared.TokenKind.{TokenKind}
 use Rattle.lexical_grammar.specs.Cut.{Item, Cut, CutFrom, IsItem, are_tokens, texts}
 use Rattle.lexical_grammar.specs.Kept.{Kept, kept_item}
 use Rattle.format_layout.proofs.Respelling.{both-same}
-use Rattle.format_strings.specs.Respelled.{AreSameWords}
+use Rattle.format_layout.specs.Respelled.{AreSameWords}
 use Rattle.line_ends.specs.declared.LineEnd.{LineEnd}
 use Rattle.line_ends.proofs.Ends.{turn}
 use Rattle.line_ends.proofs.Turning.{turned, turned-stands, turned-before}

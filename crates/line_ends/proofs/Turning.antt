@@ -18,7 +18,7 @@ use Rattle.lexical_grammar.proofs.Runs.{run-stops}
 use Rattle.lexical_grammar.proofs.Standing.{stands, stops}
 use Rattle.lexical_grammar.proofs.TokenReads.{goes_on}
 use Rattle.format_layout.proofs.Respelling.{same-refl}
-use Rattle.format_strings.specs.Respelled.{AreSameWords}
+use Rattle.format_layout.specs.Respelled.{AreSameWords}
 use Rattle.line_ends.specs.declared.LineEnd.{LineEnd}
 use Rattle.line_ends.specs.declared.LineEnd.TheVariants.{Lf, Crlf}
 use Rattle.line_ends.specs.LineEnds.{end_bytes}

@@ -8,7 +8,7 @@ use Rattle.std.proofs.lemmas.Bool.Decides.{nat_tests}
 use Rattle.std.proofs.lemmas.List.{get_or-map, length-map}
 use Rattle.std.proofs.lemmas.List.Sums.{fails_before_first}
 use Rattle.std.proofs.lemmas.Slice.Eq.{bytes_eq-Decides}
-use Rattle.name_lists.specs.Names.{Name, Entries, entry_of, has_name, first_number, AreFirstNumbers}
+use Rattle.executable_document.specs.Names.{Name, Entries, entry_of, has_name, first_number, AreFirstNumbers}
 use Rattle.executable_document.specs.Definitions.{as_defined, fragment_name, fragment_names}
 use Rattle.executable_document.specs.declared.executables.ExecutableDefinition.{ExecutableDefinition}
 use Rattle.operation_limits.specs.Measures.{IsFirst, IsSecond}

@@ -19,15 +19,15 @@ use Rattle.document_grammar.specs.Forests.{Forest, none as no_tree, leaf, node, 
 use Rattle.document_grammar.specs.Numbers.{is_kind}
 use Rattle.apollo_tree.specs.Order.{Place, tree_at, tree_kids, kind_at}
 use Rattle.apollo_tree.specs.References.{node_place}
-use Rattle.name_lists.specs.Names.{Name, Entries, AreFirstNumbers}
+use Rattle.executable_document.specs.Names.{Name, Entries, AreFirstNumbers}
 use Rattle.executable_document.specs.Mentions.{name_in}
 use Rattle.executable_document.specs.Definitions.{Defined, as_defined, fragment_names}
 use Rattle.executable_document.specs.declared.executables.ExecutableDefinition.{ExecutableDefinition}
 use Rattle.executable_document.specs.declared.executables.DefinitionKind.{DefinitionKind}
 use Rattle.executable_document.specs.declared.executables.DefinitionKind.TheVariants.{Operation, Fragment}
-use Rattle.definition_items.specs.Items.{field_items, is_new, response_name, span_at, items_of as own_items, seen_after, inside, items_below}
-use Rattle.definition_items.specs.Items.{definition_items}
-use Rattle.definition_items.specs.Collecting.{number_of}
+use Rattle.operation_limits.specs.Items.{field_items, is_new, response_name, span_at, items_of as own_items, seen_after, inside, items_below}
+use Rattle.operation_limits.specs.Items.{definition_items}
+use Rattle.operation_limits.specs.Collecting.{number_of}
 use Rattle.operation_limits.specs.Measures.{Measure, number_in, items_of, is_operation, operations}
 use Rattle.operation_limits.specs.Limits.{exceeded_by, IsWithin}
 

@@ -1,2 +1,4 @@
 pub mod Measures
 pub mod Limits
+pub mod Items
+pub mod Collecting

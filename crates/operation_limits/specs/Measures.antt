@@ -2,13 +2,13 @@
 use Rattle.std.specs.Prelude.{◌≡◌, ℕ, suc, ◌-◌, ◌^◌, ◌<◌, List, [], ◌∷◌, length, map, Bool, true, false, if◌then◌else◌, Option, Some, None, unwrap_or}
 use Rattle.std.specs.Prelude.{slice_index_or, Contains}
 use Rattle.std.specs.List.{filter}
-use Rattle.name_lists.specs.Names.{Name, first_number}
+use Rattle.executable_document.specs.Names.{Name, first_number}
 use Rattle.executable_document.specs.Definitions.{Defined, as_defined, fragment_names}
 use Rattle.executable_document.specs.declared.executables.DefinitionKind.TheVariants.{Operation, Fragment}
 use Rattle.expansion_figures.specs.declared.items.Item.{Item}
 use Rattle.expansion_figures.specs.declared.figures.Figures.{Figures}
 use Rattle.expansion_figures.specs.Outcome.{AreMeasured, IsCycle, IsUndefined}
-use Rattle.definition_items.specs.Items.{definition_items}
+use Rattle.operation_limits.specs.Items.{definition_items}
 use Rattle.operation_limits.specs.declared.measuring.OperationFigures.{OperationFigures}
 use Rattle.operation_limits.specs.declared.measuring.MeasureError.{MeasureError}
 use Rattle.operation_limits.specs.declared.measuring.MeasureError.TheVariants.{SameName, Cycle, Undefined, Memory}

@@ -11,8 +11,10 @@
 //! A gateway that executes one of several operations hands only that one to `within`.
 #![tactic(auto)]
 
+mod collecting;
 mod limiting;
 mod measuring;
+mod naming;
 
 pub use executable_document::{DefinitionKind, ExecutableDefinition};
 pub use expansion_figures::{Figures, Limit, Span};

@@ -2,12 +2,12 @@
 ghost use Rattle.std.specs.Prelude.{◌≡◌, ◌<◌, map, length, IfOk, IfErr, IfSome, IfNone};
 ghost use Rattle.std.specs.List.{filter};
 ghost use Rattle.apollo_tree.specs.References.{node_place};
-ghost use Rattle.name_lists.specs.Names.{AreFirstNumbers};
+ghost use Rattle.executable_document.specs.Names.{AreFirstNumbers};
 ghost use Rattle.executable_document.specs.Definitions.{as_defined, defined, fragment_names};
 ghost use Rattle.operation_limits.specs.Measures.{IsFirst, AreDistinct, IsSecond, AreTwins, AreMeasures, IsMeasureError, as_measure, is_operation, items_of, operations};
 
+use crate::collecting::items;
 use apollo_tree::SyntaxNode;
-use definition_items::items;
 use executable_document::{DefinitionKind, ExecutableDefinition, definitions, fragments};
 use expansion_figures::{Fault, Figures, Item, Span};
 use std::alloc::{AllocError, Allocator};

@@ -10,7 +10,7 @@ use Rattle.byte_devices.specs.Writing as writing
 use Rattle.byte_devices.specs.declared.fault.Fault.{Fault}
 use Rattle.byte_devices.specs.declared.fault.Fault.TheVariants.{Read, Utf8, Memory, Write}
 use Rattle.byte_devices.proofs.Accounts.{moved_moved}
-use Rattle.rpc_frames.specs.Frames.{HasNoFrame}
+use Rattle.rpc_serving.specs.Frames.{HasNoFrame}
 use Rattle.rpc_messages.specs.declared.reply.Reply.{Reply}
 use Rattle.rpc_serving.specs.Exchange.{Exchange}
 use Rattle.rpc_serving.specs.Serving.{EndsServing}

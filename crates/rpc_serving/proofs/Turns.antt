@@ -4,7 +4,7 @@ use Rattle.std.proofs.Common.{sym, ap, ◌∙◌, subst, append_assoc, arith, le
 use Rattle.std.proofs.lemmas.Bool.Decides.{nat_tests}
 use Rattle.std.proofs.lemmas.List.{append-nil}
 use Rattle.json.specs.Json.{Json}
-use Rattle.rpc_frames.specs.Frames.{BeginsWithFrame, HasNoFrame, IsSkipped, NeverHasFrame}
+use Rattle.rpc_serving.specs.Frames.{BeginsWithFrame, HasNoFrame, IsSkipped, NeverHasFrame}
 use Rattle.rpc_messages.specs.declared.reply.Reply.{Reply}
 use Rattle.rpc_messages.specs.declared.reply.Reply.TheVariants.{Nothing, Answer, Notice, Exit}
 use Rattle.rpc_messages.specs.Messages.{Asks, AsksForEnd}

@@ -1,7 +1,7 @@
 -- A conversation: the bytes that a client sent, and those that are said to it.
 use Rattle.std.specs.Prelude.{◌≡◌, ℕ, List, [], ◌∷◌, ◌++◌, Option, Some, None}
 use Rattle.json.specs.Json.{Json}
-use Rattle.rpc_frames.specs.Frames.{BeginsWithFrame, HasNoFrame, NeverHasFrame, frame_of}
+use Rattle.rpc_serving.specs.Frames.{BeginsWithFrame, HasNoFrame, NeverHasFrame, frame_of}
 use Rattle.rpc_messages.specs.declared.reply.Reply.{Reply}
 use Rattle.rpc_messages.specs.declared.reply.Reply.TheVariants.{Nothing, Answer, Notice, Exit}
 use Rattle.rpc_messages.specs.Messages.{Asks, AsksForEnd}

@@ -1,2 +1,3 @@
 pub mod Exchange
 pub mod Serving
+pub mod Frames

@@ -1,10 +1,10 @@
 // From the bytes that a client has sent to the bytes that are said to it, with no devices.
 ghost use Rattle.std.specs.Prelude.{◌≡◌, ◌≢◌, ◌++◌, IfOk, OnOk, false};
-ghost use Rattle.rpc_frames.specs.declared.FrameError.TheVariants.{Memory};
+ghost use Rattle.rpc_serving.specs.declared.frames.FrameError.TheVariants.{Memory};
 ghost use Rattle.rpc_messages.specs.Steps.{Takes};
 ghost use Rattle.rpc_serving.specs.Exchange.{Exchange, said_for, status_of};
 
-use rpc_frames::{FrameBuffer, FrameError, put_frame};
+use crate::frames::{FrameBuffer, FrameError, put_frame};
 use rpc_messages::{Reply, Service, handle};
 use std::alloc::{AllocError, Global};
 

@@ -9,6 +9,8 @@
 #![tactic(auto)]
 
 mod exchange;
+mod frames;
+mod garbage;
 mod serving;
 
 pub use exchange::{Turn, take_turn};

@@ -4,8 +4,8 @@ ghost use Rattle.rpc_messages.specs.Steps.{Takes};
 ghost use Rattle.rpc_serving.specs.Serving.{EndsServing, IsServed};
 
 use crate::exchange::take_turn;
+use crate::frames::FrameBuffer;
 use byte_devices::{Fault, Sink, Source, write_all};
-use rpc_frames::FrameBuffer;
 use rpc_messages::Service;
 use std::alloc::Global;
 

@@ -1,6 +1,6 @@
 use Rattle.std.proofs.Common.{◌≡◌, List, map, ap, subst, sym, ◌∙◌}
 use Rattle.apollo_tree.specs.References.{node_place}
-use Rattle.name_lists.specs.Names.{AreFirstNumbers}
+use Rattle.executable_document.specs.Names.{AreFirstNumbers}
 use Rattle.executable_document.specs.Definitions.{Defined, as_defined, fragment_names}
 use Rattle.definition_rules.specs.Parts.{as_parts, definitions, parts_of}
 use Rattle.apollo_validation.specs.Validity.{Breaks, IsValid}

@@ -2,8 +2,8 @@ use Rattle.std.proofs.Common.{◌≡◌, ◌<◌, ◌≤◌, arith, length, map,
 use Rattle.std.proofs.lemmas.List.{length-map}
 use Rattle.std.proofs.lemmas.Bool.Decides.{nat_tests}
 use Rattle.executable_document.specs.Mentions.{as_named}
-use Rattle.name_lists.specs.Names.{first_number}
-use Rattle.name_lists.proofs.Numbers.{named_more}
+use Rattle.executable_document.specs.Names.{first_number}
+use Rattle.executable_document.proofs.Numbers.{named_more}
 use Rattle.definition_rules.specs.Violations.{count}
 use Rattle.definition_rules.specs.Rules.{item_at, names}
 use Rattle.definition_rules.proofs.NameLemmas.{first_earlier, item_read, names_long}

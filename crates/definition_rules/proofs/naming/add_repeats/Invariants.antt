@@ -1,6 +1,6 @@
 use Rattle.std.proofs.Common.{map, take}
 use Rattle.executable_document.specs.Mentions.{as_named}
-use Rattle.name_lists.specs.Names.{AreFirstNumbers}
+use Rattle.executable_document.specs.Names.{AreFirstNumbers}
 use Rattle.definition_rules.specs.Rules.{names}
 use Rattle.definition_rules.specs.Violations.{Adds}
 use Rattle.definition_rules.proofs.AddLemmas.{AllBelow, Below}

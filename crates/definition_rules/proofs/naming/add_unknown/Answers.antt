@@ -3,7 +3,7 @@ use Rattle.std.proofs.lemmas.List.{length-map}
 use Rattle.std.proofs.lemmas.Bool.Decides.{nat_tests}
 use Rattle.apollo_tree.specs.References.{node_place}
 use Rattle.executable_document.specs.Mentions.{as_named}
-use Rattle.name_lists.specs.Names.{HasEntry}
+use Rattle.executable_document.specs.Names.{HasEntry}
 use Rattle.definition_rules.specs.Violations.{count}
 use Rattle.definition_rules.proofs.NameLemmas.{item_read, known_more, unknown_all, unknown_full, unknown_more}
 use Rattle.definition_rules.proofs.naming.add_unknown.Goals as goal

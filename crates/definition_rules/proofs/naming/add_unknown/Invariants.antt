@@ -1,7 +1,7 @@
 use Rattle.std.proofs.Common.{map, option_map}
 use Rattle.apollo_tree.specs.References.{node_place}
 use Rattle.executable_document.specs.Mentions.{as_named}
-use Rattle.name_lists.specs.Names.{HasEntry}
+use Rattle.executable_document.specs.Names.{HasEntry}
 use Rattle.definition_rules.specs.Violations.{Adds}
 use Rattle.definition_rules.proofs.AddLemmas.{AllBelow, Below}
 use Rattle.definition_rules.proofs.NameLemmas.{KnownAt, UnknownAt}

@@ -1,7 +1,7 @@
 use Rattle.std.proofs.Common.{◌≡◌, ap, append-nil, arith, length, map, sym, ◌++◌, ◌∷◌, [], ◌∙◌, true, false}
 use Rattle.std.proofs.lemmas.List.{length-map}
 use Rattle.definition_rules.specs.Parts.{as_parts, at, is_operation}
-use Rattle.name_lists.proofs.Lists.{filter_range_more}
+use Rattle.executable_document.proofs.Lists.{filter_range_more}
 use Rattle.definition_rules.proofs.PartsLemmas.{at_read}
 use Rattle.definition_rules.proofs.reading.operations.Goals as goal
 use Rattle.definition_rules.proofs.reading.operations.Goals.{then-is_operation+in_ok-push, else-is_operation}

@@ -1,7 +1,7 @@
 use Rattle.std.proofs.Common.{ap, append-nil, ◌++◌, ◌∷◌, []}
 use Rattle.executable_document.specs.Mentions.{as_named, Named}
-use Rattle.name_lists.specs.Names.{entry_of}
-use Rattle.name_lists.proofs.Lists.{filter_map_more}
+use Rattle.executable_document.specs.Names.{entry_of}
+use Rattle.executable_document.proofs.Lists.{filter_map_more}
 use Rattle.definition_rules.proofs.reading.targets.Goals as goal
 use Rattle.definition_rules.proofs.reading.targets.Goals.{in-Some+in_ok-push, in_default}
 

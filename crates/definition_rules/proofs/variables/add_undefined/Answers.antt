@@ -1,6 +1,6 @@
 use Rattle.std.proofs.Common.{◌≡◌, ◌≤◌, arith, length, map, ap, ◌∙◌, get_or, Some}
 use Rattle.std.proofs.lemmas.Bool.Decides.{nat_tests}
-use Rattle.name_lists.specs.Names.{HasEntry}
+use Rattle.executable_document.specs.Names.{HasEntry}
 use Rattle.executable_document.specs.Mentions.{as_named}
 use Rattle.definition_rules.specs.declared.violations.Rule.TheVariants.{NoUndefinedVariables}
 use Rattle.definition_rules.specs.Known.{DefinedIn, UndefinedIn}

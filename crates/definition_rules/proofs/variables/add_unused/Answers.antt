@@ -1,5 +1,5 @@
 use Rattle.std.proofs.Common.{map, ap, ◌∙◌, Some}
-use Rattle.name_lists.specs.Names.{HasEntry}
+use Rattle.executable_document.specs.Names.{HasEntry}
 use Rattle.executable_document.specs.Mentions.{as_named}
 use Rattle.definition_rules.specs.declared.violations.Rule.TheVariants.{NoUnusedVariables}
 use Rattle.definition_rules.specs.Parts.{Parts, as_parts, at, place_at}

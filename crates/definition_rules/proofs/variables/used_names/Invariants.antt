@@ -1,6 +1,6 @@
 use Rattle.std.proofs.Common.{map, take}
 use Rattle.std.specs.Prelude.{◌↔◌}
-use Rattle.name_lists.specs.Names.{HasEntry, Name}
+use Rattle.executable_document.specs.Names.{HasEntry, Name}
 use Rattle.definition_rules.specs.Known.{IsUsedAmong}
 use Rattle.definition_rules.specs.Parts.{as_parts}
 use Rattle.definition_rules.proofs.variables.used_names.Given as goal

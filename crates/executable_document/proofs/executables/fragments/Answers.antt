@@ -1,7 +1,7 @@
 use Rattle.std.proofs.Common.{◌≡◌, ◌+◌, ◌<◌, Option, ◌++◌, ◌∷◌, [], ℕ, List, map, take, length, arith, get_or}
 use Rattle.std.proofs.lemmas.List.{take_more, map-append, length-map, length-take}
-use Rattle.name_lists.specs.Names.{Name}
-use Rattle.name_lists.proofs.Numbers.{named_more, unnamed_more}
+use Rattle.executable_document.specs.Names.{Name}
+use Rattle.executable_document.proofs.Numbers.{named_more, unnamed_more}
 use Rattle.executable_document.specs.Definitions.{as_defined, fragment_name, fragment_names}
 use Rattle.executable_document.specs.declared.executables.ExecutableDefinition.{ExecutableDefinition}
 use Rattle.executable_document.proofs.executables.fragments.Goals as goal

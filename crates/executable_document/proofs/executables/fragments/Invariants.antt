@@ -1,5 +1,5 @@
 use Rattle.std.proofs.Common.{map, take}
-use Rattle.name_lists.specs.Names.{AreFirstNumbers}
+use Rattle.executable_document.specs.Names.{AreFirstNumbers}
 use Rattle.executable_document.specs.Definitions.{as_defined, fragment_names}
 use Rattle.executable_document.proofs.executables.fragments.Given as goal
 

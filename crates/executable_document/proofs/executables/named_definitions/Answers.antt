@@ -2,7 +2,7 @@ use Rattle.std.proofs.Common.{ap, append-nil, ◌++◌, ◌∷◌, []}
 use Rattle.std.proofs.lemmas.List.{map-append}
 use Rattle.executable_document.specs.Definitions.{as_defined, named}
 use Rattle.executable_document.specs.Mentions.{as_named}
-use Rattle.name_lists.proofs.Lists.{filter_map_more}
+use Rattle.executable_document.proofs.Lists.{filter_map_more}
 use Rattle.executable_document.proofs.executables.named_definitions.Goals as goal
 use Rattle.executable_document.proofs.executables.named_definitions.Goals.{in-Some+in_ok-push, in_default}
 

@@ -3,7 +3,7 @@ use Rattle.apollo_lexer.specs.Answers.{answers_left}
 use Rattle.lexical_grammar.specs.Answers.{answers_text}
 use Rattle.lexical_grammar.specs.Reads.{items_of}
 use Rattle.lexical_grammar.specs.Kept.{Kept}
-use Rattle.format_tokens.specs.Laid.{ended_length}
+use Rattle.format_layout.specs.Laid.{ended_length}
 use Rattle.format_layout.specs.Lengths.{bytes_for_each}
 use Rattle.format_layout.proofs.Reading.{Writes, kept_answers}
 use Rattle.format_layout.proofs.writing.write.Given as goal

@@ -3,8 +3,8 @@ use Rattle.std.proofs.lemmas.List.{map_more, map_push, take_all}
 use Rattle.apollo_tree.specs.References.{node_place}
 use Rattle.executable_document.specs.declared.executables.ExecutableDefinition.{ExecutableDefinition}
 use Rattle.expansion_figures.specs.declared.items.Item.{Item}
-use Rattle.definition_items.specs.Items.{definition_items}
-use Rattle.definition_items.specs.Collecting.{number_of}
+use Rattle.operation_limits.specs.Items.{definition_items}
+use Rattle.operation_limits.specs.Collecting.{number_of}
 use Rattle.operation_limits.proofs.Lists.{items_are}
 use Rattle.operation_limits.proofs.measuring.all_items.Goals as goal
 

@@ -1,7 +1,7 @@
 use Rattle.std.proofs.Common.{◌≡◌, map, take}
 use Rattle.apollo_tree.specs.References.{node_place}
-use Rattle.definition_items.specs.Items.{definition_items}
-use Rattle.definition_items.specs.Collecting.{number_of}
+use Rattle.operation_limits.specs.Items.{definition_items}
+use Rattle.operation_limits.specs.Collecting.{number_of}
 use Rattle.operation_limits.proofs.measuring.all_items.Given as goal
 
 abbrev pub invariant-loop-definition : goal.invariant-loop-definition

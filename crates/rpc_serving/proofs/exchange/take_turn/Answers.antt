@@ -1,6 +1,6 @@
 use Rattle.std.proofs.Common.{◌≡◌, ◌<◌, ℕ, List, None, length, sym, ap, ◌∙◌, subst, arith}
-use Rattle.rpc_frames.specs.Frames.{BeginsWithFrame, HasNoFrame, IsSkipped, NeverHasFrame}
-use Rattle.rpc_frames.proofs.FrameLemmas.{shorter}
+use Rattle.rpc_serving.specs.Frames.{BeginsWithFrame, HasNoFrame, IsSkipped, NeverHasFrame}
+use Rattle.rpc_serving.proofs.FrameLemmas.{shorter}
 use Rattle.rpc_messages.specs.Messages.{AsksForEnd}
 use Rattle.rpc_messages.specs.Replies.{EndsOnlyIf}
 use Rattle.rpc_messages.specs.Steps.{Takes}

@@ -1,6 +1,6 @@
 use Rattle.std.proofs.Common.{◌≡◌, ℕ, ◌≤◌, List, length}
 use Rattle.byte_devices.specs.Devices.{moved}
-use Rattle.rpc_frames.specs.Frames.{HasNoFrame}
+use Rattle.rpc_serving.specs.Frames.{HasNoFrame}
 use Rattle.rpc_messages.specs.Steps.{Takes}
 use Rattle.rpc_serving.proofs.Conversations.{GoesOn}
 use Rattle.rpc_serving.proofs.serving.serve.Given as goal

@@ -1,6 +1,6 @@
 use Rattle.std.proofs.Common.{◌≡◌, length, rules, arith, sym, subst}
 use Rattle.lexical_grammar.specs.declared.TokenKind.TheVariants.{StringValue}
-use Rattle.format_strings.specs.Respelled.{SameBlock}
+use Rattle.format_layout.specs.Respelled.{SameBlock}
 use Rattle.lexical_grammar.proofs.Cuts.{tok-some}
 use Rattle.format_layout.proofs.Lengths.{own-room}
 use Rattle.format_layout.proofs.Adding.{adds-token, adds-block}

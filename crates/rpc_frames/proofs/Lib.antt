@@ -1,4 +1,0 @@
-mod NameLemmas
-pub mod FrameLemmas
-pub mod NumeralLemmas
-pub mod WrittenLemmas

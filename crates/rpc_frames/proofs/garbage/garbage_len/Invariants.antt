@@ -1,9 +1,0 @@
-use Rattle.std.proofs.Common.{◌-◌, ◌≤◌, length}
-use Rattle.rpc_frames.specs.Frames.{AreGarbage}
-use Rattle.rpc_frames.proofs.garbage.garbage_len.Given as goal
-
-abbrev pub invariant-loop-passed : goal.invariant-loop-passed
-invariant-loop-passed l = AreGarbage l.bytes l.passed × (l.passed ≤ length l.bytes)
-
-abbrev pub decreases-loop-passed : goal.decreases-loop-passed
-decreases-loop-passed l = length l.bytes - l.passed

@@ -1,7 +1,0 @@
-use Rattle.std.proofs.Common.{◌≡◌, drop, map}
-use Rattle.httparse.specs.Spans.{header_bytes}
-use Rattle.rpc_frames.specs.Frames.{length_in}
-use Rattle.rpc_frames.proofs.length_in.Given as goal
-
-abbrev pub invariant-loop-header : goal.invariant-loop-header
-invariant-loop-header l = length_in (map (header_bytes l.bytes) l.headers) ≡ length_in (map (header_bytes l.bytes) (drop l.header-index l.headers))
