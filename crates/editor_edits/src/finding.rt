@@ -4,6 +4,7 @@ ghost use Rattle.std.specs.Str.{IsCharBoundary};
 ghost use Rattle.line_index.specs.Positions.{IsCursor};
 ghost use Rattle.editor_edits.specs.Finding.{AreEdits, IsStep};
 
+use line_index::line_end;
 use std::alloc::{AllocError, Global};
 
 /// A text that takes the place of another's part between two byte offsets.
@@ -173,17 +174,6 @@ fn joined(old: &str, new: &str, from: usize, to: usize, first: Step, end: usize)
     step
 }
 
-// Where the line ends that a byte offset is in.
-fn line_end(text: &str, offset: usize) -> usize {
-    let text = text.as_bytes();
-    for i in offset..text.len() {
-        if matches!(text[i], b'\r' | b'\n') {
-            return i;
-        }
-    }
-    text.len()
-}
-
 // The line of the old text that the last edit begins in: where it ends, and how many edits begin in it.
 #[derive(Clone, Copy)]
 struct EditedLine {
@@ -193,7 +183,9 @@ struct EditedLine {
 
 impl EditedLine {
     // The line of the next edit.
-    fn after(self, old: &str, next: &Step) -> EditedLine {
+    fn after(self, old: &str, next: &Step) -> EditedLine
+        requires { next.now.start ≤ length old.now }
+    {
         if next.start <= self.end {
             EditedLine {
                 edits: self.edits.saturating_add(1),
@@ -201,7 +193,7 @@ impl EditedLine {
             }
         } else {
             EditedLine {
-                end: line_end(old, next.start),
+                end: line_end(old.as_bytes(), next.start),
                 edits: 1,
             }
         }

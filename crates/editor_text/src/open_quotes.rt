@@ -1,6 +1,7 @@
 // Quoted strings that their lines leave open, which then take all that follows up to the next quote.
 ghost use Rattle.std.specs.Prelude.{◌≡◌, ◌<◌, ◌≤◌, IfOk, IfSome, length, string_bytes};
 
+use line_index::line_end;
 use std::alloc::{AllocError, Global};
 
 // Something that begins at a byte: where it ends, and whether it is a string that its line leaves open.
@@ -8,20 +9,6 @@ use std::alloc::{AllocError, Global};
 struct Part {
     end: usize,
     is_open: bool,
-}
-
-// Where a line ends, from a byte in it.
-fn line_end(bytes: &[u8], start: usize) -> usize
-    requires { start < length bytes.now }
-    ensures from { start < result }
-    ensures within { result ≤ length bytes.now }
-{
-    for i in start + 1..bytes.len() {
-        if matches!(bytes[i], b'\n' | b'\r') {
-            return i;
-        }
-    }
-    bytes.len()
 }
 
 // The quoted string that begins at a byte (GraphQL, October 2021, section 2.9.4).
@@ -79,7 +66,7 @@ fn part_at(bytes: &[u8], start: usize) -> Part
     let end = match bytes[start] {
         b'"' if bytes[start..].starts_with(BLOCK_QUOTES) => block_end(bytes, start),
         b'"' => return quoted(bytes, start),
-        b'#' => line_end(bytes, start),
+        b'#' => line_end(bytes, start + 1),
         _ => start + 1,
     };
     Part {

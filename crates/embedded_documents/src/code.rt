@@ -7,20 +7,7 @@ ghost use Rattle.embedded_documents.specs.declared.scanning.Place.TheVariants.{Q
 
 use crate::quoted::{Opening, opening_at};
 use crate::scanning::{HostLanguage, Move, Place, Step};
-
-// Where a line ends, from a byte in it.
-fn line_end(bytes: &[u8], start: usize) -> usize
-    requires { start < length bytes.now }
-    ensures from { start < result }
-    ensures within { result ≤ length bytes.now }
-{
-    for i in start + 1..bytes.len() {
-        if matches!(bytes[i], b'\n' | b'\r') {
-            return i;
-        }
-    }
-    bytes.len()
-}
+use line_index::line_end;
 
 // Where the comment ends that begins at a byte.
 fn comment_end(bytes: &[u8], start: usize) -> usize
@@ -131,7 +118,7 @@ fn slash_end(bytes: &[u8], start: usize) -> usize
     ensures within { result ≤ length bytes.now }
 {
     match bytes.get(start + 1) {
-        Some(b'/') => line_end(bytes, start),
+        Some(b'/') => line_end(bytes, start + 1),
         Some(b'*') => comment_end(bytes, start),
         _ if begins_pattern(bytes, start) => pattern_end(bytes, start),
         _ => start + 1,
@@ -146,7 +133,7 @@ fn part_end(bytes: &[u8], start: usize, language: HostLanguage) -> usize
 {
     match (language, bytes[start]) {
         (HostLanguage::JavaScript, b'/') => slash_end(bytes, start),
-        (HostLanguage::Python, b'#') => line_end(bytes, start),
+        (HostLanguage::Python, b'#') => line_end(bytes, start + 1),
         (_, byte) if is_in_word(byte) => word_end(bytes, start),
         _ => start + 1,
     }

@@ -6,7 +6,7 @@
 //! The crates above make one `LineIndex` for each text, and call its `line_column` and `position`.
 #![tactic(auto)]
 
-ghost use Rattle.std.specs.Prelude.{◌≡◌, ℕ, ◌+◌, ◌^◌, ◌<◌, ◌==◌, ◌&&◌, ◌≤◌, length, slice_index, slice_range, take, IfOk, MatchOption, take_while, not};
+ghost use Rattle.std.specs.Prelude.{◌≡◌, ℕ, ◌+◌, ◌^◌, ◌<◌, ◌==◌, ◌&&◌, ◌≤◌, length, slice_index, slice_range, take, drop, IfOk, MatchOption, take_while, not};
 ghost use Rattle.std.specs.List.{sum_by};
 ghost use Rattle.std.specs.Str.{IsCharBoundary};
 ghost use Rattle.lexical_grammar.specs.Characters.{is_line_terminator};
@@ -159,6 +159,19 @@ fn fitting(bytes: &[u8], room: usize) -> usize
         left -= units;
     }
     bytes.len()
+}
+
+/// Where the line of a byte offset ends: at the first LF or CR from there on, or else at the end of the text.
+pub fn line_end(bytes: &[u8], offset: usize) -> usize
+    requires { offset ≤ length bytes.now }
+    ensures from { offset ≤ result }
+    ensures within { result ≤ length bytes.now }
+    ensures line { slice_range bytes.now offset result ≡ take_while (λ c. not (is_line_terminator c)) (drop offset bytes.now) }
+{
+    match memchr2(b'\n', b'\r', &bytes[offset..]) {
+        Some(length) => offset + length,
+        None => bytes.len(),
+    }
 }
 
 // What is in front of the first line terminator.
