@@ -1,27 +1,20 @@
 -- The names in a document, their meanings (GraphQL, October 2021), and where these are defined and used.
 use Rattle.std.specs.Prelude.{ℕ, List, [], ◌∷◌, Bool, true, false, not, if◌then◌else◌, ◌&&◌, ◌||◌, Option, Some, None, option_and_then, option_map, unwrap_or}
-use Rattle.std.specs.List.{filter, find, list_any}
+use Rattle.std.specs.List.{filter, find}
 use Rattle.std.specs.Str.{bytes_eq}
-use Rattle.document_grammar.specs.declared.kind.SyntaxKind.{SyntaxKind}
 use Rattle.document_grammar.specs.declared.kind.SyntaxKind.TheVariants.{DIRECTIVE, DIRECTIVE_DEFINITION, FRAGMENT_DEFINITION, FRAGMENT_NAME}
 use Rattle.document_grammar.specs.declared.kind.SyntaxKind.TheVariants.{IDENT, NAMED_TYPE, OPERATION_DEFINITION, VARIABLE, VARIABLE_DEFINITION}
-use Rattle.document_grammar.specs.Numbers.{is_kind}
 use Rattle.apollo_tree.specs.Above.{at_or_above}
 use Rattle.apollo_tree.specs.AtOffset.{leaves_at}
 use Rattle.apollo_tree.specs.Below.{at_or_below, is_leaf_place}
-use Rattle.apollo_tree.specs.Order.{Place, kind_at, parent_place, text_at}
+use Rattle.apollo_tree.specs.Order.{Place, parent_place, text_at}
+use Rattle.apollo_cst_core.specs.Kinds.{is_of, is_of_one}
 use Rattle.editor_answers.specs.declared.names.Meaning.{Meaning}
 use Rattle.editor_answers.specs.declared.names.NameKind.{NameKind}
 use Rattle.editor_answers.specs.declared.names.NameKind.TheVariants.{Operation, Fragment, Variable, «Type» as of_type, Directive}
 use Rattle.editor_answers.specs.declared.names.TheConstants.{TYPE_DEFINITIONS, TYPE_EXTENSIONS}
 
 -- ---- the meaning of a name
-
-abbrev pub is_of : SyntaxKind → Place → Bool
-is_of kind place = is_kind kind (kind_at place)
-
-abbrev pub is_of_one : List SyntaxKind → Place → Bool
-is_of_one kinds place = list_any (λ kind. is_of kind place) kinds
 
 abbrev pub holds : {A : Type 0} → (A → Bool) → Option A → Bool
 holds test None = false

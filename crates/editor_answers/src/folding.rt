@@ -1,7 +1,6 @@
 // What an editor may fold.
-use crate::labels::is_one_of;
 use crate::span::{Span, span_of};
-use apollo_cst_core::token;
+use apollo_cst_core::{is_one_of, token};
 use apollo_tree::{SyntaxKind, SyntaxNode};
 
 const FOLDABLE: [SyntaxKind; 12] = [

@@ -1,9 +1,9 @@
 // What is said of a name.
-use crate::labels::{child_of, identifier_at, is_one_of};
+use crate::labels::identifier_at;
 use crate::names::{is_in, meaning_of, named_by};
 use crate::span::{Span, span_of};
 use crate::usage::definition;
-use apollo_cst_core::child;
+use apollo_cst_core::{child, child_of, is_one_of};
 use apollo_cst_executable::Description;
 use apollo_tree::{SyntaxKind, SyntaxNode, SyntaxToken};
 use std::alloc::{AllocError, Global};

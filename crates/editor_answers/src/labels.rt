@@ -1,35 +1,19 @@
 // What a node is called.
 ghost use Rattle.std.specs.Prelude.{◌≡◌, ◌∷◌, [], option_map};
-ghost use Rattle.std.specs.List.{find, list_any};
-ghost use Rattle.document_grammar.specs.Numbers.{is_kind};
+ghost use Rattle.std.specs.List.{find};
 ghost use Rattle.document_grammar.specs.declared.kind.SyntaxKind.TheVariants.{IDENT};
 ghost use Rattle.apollo_tree.specs.References.{node_place, token_place};
-ghost use Rattle.editor_answers.specs.Names.{identifier_at, is_of};
+ghost use Rattle.apollo_cst_core.specs.Kinds.{is_of};
+ghost use Rattle.editor_answers.specs.Names.{identifier_at};
 
+use apollo_cst_core::child_of;
 use apollo_tree::{SyntaxKind, SyntaxNode, SyntaxToken, TokenAtOffset};
-
-/// Whether a kind is one of these.
-pub(crate) fn is_one_of(kind: SyntaxKind, kinds: &[SyntaxKind]) -> bool
-    ensures { result ≡ list_any (λ one. is_kind one kind) kinds.now }
-{
-    kinds.iter().any(|one| kind.is(*one))
-}
 
 /// What a table has for a kind.
 pub(crate) fn found_in<T: Copy>(table: &[(SyntaxKind, T)], kind: SyntaxKind) -> Option<T> {
     for row in table {
         if kind.is(row.0) {
             return Some(row.1);
-        }
-    }
-    None
-}
-
-/// The first child of one of these kinds.
-pub(crate) fn child_of<'t>(node: SyntaxNode<'t>, kinds: &[SyntaxKind]) -> Option<SyntaxNode<'t>> {
-    for child in node.children() {
-        if is_one_of(child.kind(), kinds) {
-            return Some(child);
         }
     }
     None

@@ -5,9 +5,10 @@ ghost use Rattle.document_grammar.specs.Numbers.{is_kind};
 ghost use Rattle.document_grammar.specs.declared.kind.SyntaxKind.TheVariants.{IDENT};
 ghost use Rattle.apollo_tree.specs.Order.{parent_place};
 ghost use Rattle.apollo_tree.specs.References.{node_place, token_place};
-ghost use Rattle.editor_answers.specs.Names.{defines, holds, is_of, kind_in, meaning_at, named_by, names};
+ghost use Rattle.apollo_cst_core.specs.Kinds.{is_of};
+ghost use Rattle.editor_answers.specs.Names.{defines, holds, kind_in, meaning_at, named_by, names};
 
-use crate::labels::is_one_of;
+use apollo_cst_core::is_one_of;
 use apollo_tree::{SyntaxKind, SyntaxNode, SyntaxToken};
 
 /// The meaning of a name.

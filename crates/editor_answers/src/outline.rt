@@ -1,6 +1,7 @@
 // What is in the outline of a document.
-use crate::labels::{child_of, found_in, name_of, type_of};
+use crate::labels::{found_in, name_of, type_of};
 use crate::span::{Span, span_of};
+use apollo_cst_core::child_of;
 use apollo_tree::{SyntaxElement, SyntaxKind, SyntaxNode, SyntaxToken};
 
 /// What a part of a document is, with the protocol's number.

@@ -7,7 +7,8 @@ ghost use Rattle.apollo_tree.specs.Order.{parent_place, range_at};
 ghost use Rattle.apollo_tree.specs.References.{node_place, token_place};
 ghost use Rattle.apollo_tree.specs.Yields.{element_place};
 ghost use Rattle.document_grammar.specs.declared.kind.SyntaxKind.TheVariants.{OPERATION_DEFINITION};
-ghost use Rattle.editor_answers.specs.Names.{above, definition_elsewhere, definition_in, is_definition, is_name, is_of, is_reference, references_elsewhere, references_in, scope_of, wanted, wanted_at, wanted_elsewhere};
+ghost use Rattle.apollo_cst_core.specs.Kinds.{is_of};
+ghost use Rattle.editor_answers.specs.Names.{above, definition_elsewhere, definition_in, is_definition, is_name, is_reference, references_elsewhere, references_in, scope_of, wanted, wanted_at, wanted_elsewhere};
 ghost use Rattle.editor_answers.specs.Parts.{bounds};
 
 use crate::labels::identifier_at;

@@ -7,7 +7,8 @@ use Rattle.document_grammar.specs.declared.kind.SyntaxKind.TheVariants.{INPUT_VA
 use Rattle.apollo_tree.specs.Children.{child_nodes}
 use Rattle.apollo_tree.specs.Order.{Place, parent_place, text_at}
 use Rattle.apollo_tree.specs.declared.node.SyntaxNode.{SyntaxNode}
-use Rattle.schema_members.specs.Members.{Located, in_documents, is_of, is_of_one}
+use Rattle.apollo_cst_core.specs.Kinds.{is_of, is_of_one}
+use Rattle.schema_members.specs.Members.{Located, in_documents}
 
 -- the word with which an operation begins
 abbrev pub operation_word : Place → List ℕ

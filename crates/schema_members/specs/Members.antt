@@ -2,25 +2,18 @@
 use Rattle.std.specs.Prelude.{ℕ, suc, Bool, false, ◌&&◌, ◌||◌, if◌then◌else◌, List, [], ◌∷◌, ◌++◌, map, bytes_eq}
 use Rattle.std.specs.Prelude.{Option, Some, None, option_and_then, option_map, unwrap_or}
 use Rattle.std.specs.List.{filter, find, flat_map, list_any}
-use Rattle.document_grammar.specs.Numbers.{is_kind}
-use Rattle.document_grammar.specs.declared.kind.SyntaxKind.{SyntaxKind}
 use Rattle.document_grammar.specs.declared.kind.SyntaxKind.TheVariants.{ENUM_VALUE, ENUM_VALUE_DEFINITION, FIELD_DEFINITION, IMPLEMENTS_INTERFACES}
 use Rattle.document_grammar.specs.declared.kind.SyntaxKind.TheVariants.{INPUT_VALUE_DEFINITION, INTERFACE_TYPE_DEFINITION, INTERFACE_TYPE_EXTENSION, NAME}
 use Rattle.apollo_tree.specs.Above.{at_or_above}
 use Rattle.apollo_tree.specs.Children.{child_nodes}
-use Rattle.apollo_tree.specs.Order.{Place, kind_at, parent_place, range_at, text_at}
+use Rattle.apollo_tree.specs.Order.{Place, parent_place, range_at, text_at}
 use Rattle.apollo_tree.specs.References.{node_place}
 use Rattle.apollo_tree.specs.declared.node.SyntaxNode.{SyntaxNode}
+use Rattle.apollo_cst_core.specs.Kinds.{is_of, is_of_one}
 use Rattle.schema_members.specs.declared.definitions.Member.{Member}
 use Rattle.schema_members.specs.declared.definitions.TheConstants.{MEMBERS, TYPES}
 
 -- ---- names
-
-abbrev pub is_of : SyntaxKind → Place → Bool
-is_of kind place = is_kind kind (kind_at place)
-
-abbrev pub is_of_one : List SyntaxKind → Place → Bool
-is_of_one kinds place = list_any (λ kind. is_of kind place) kinds
 
 -- the node that is the name in a definition or in a mention of one; the name in the definition of an enum's value is the value
 abbrev pub name_node : Place → Option Place

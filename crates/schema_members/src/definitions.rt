@@ -1,12 +1,10 @@
 // The definitions of some documents.
 ghost use Rattle.std.specs.Prelude.{◌≡◌, ◌++◌, IfOk, OnOk, map, option_map};
-ghost use Rattle.std.specs.List.{find, list_any};
-ghost use Rattle.document_grammar.specs.Numbers.{is_kind};
-ghost use Rattle.apollo_tree.specs.Children.{child_nodes};
 ghost use Rattle.apollo_tree.specs.References.{node_place};
-ghost use Rattle.schema_members.specs.Members.{is_of_one, located, located_in, members_in, members_of_block, name_at, name_node, name_start};
+ghost use Rattle.schema_members.specs.Members.{located, located_in, members_in, members_of_block, name_at, name_node, name_start};
 
 use crate::standard::{EACH_TYPE, QUERY_ROOT};
+use apollo_cst_core::{child_of, is_one_of};
 use apollo_tree::{SyntaxKind, SyntaxNode};
 use std::alloc::{AllocError, Global};
 
@@ -49,24 +47,6 @@ pub(crate) const MEMBERS: [SyntaxKind; 3] = [
 
 // What a node is named by.
 const NAMES: [SyntaxKind; 2] = [SyntaxKind::NAME, SyntaxKind::ENUM_VALUE];
-
-pub(crate) fn is_one_of(kind: SyntaxKind, kinds: &[SyntaxKind]) -> bool
-    ensures { result ≡ list_any (λ one. is_kind one kind) kinds.now }
-{
-    kinds.iter().any(|one| kind.is(*one))
-}
-
-/// The first child of one of these kinds.
-pub(crate) fn child_of<'t>(node: SyntaxNode<'t>, kinds: &[SyntaxKind]) -> Option<SyntaxNode<'t>>
-    ensures { option_map node_place result ≡ find (is_of_one kinds.now) (child_nodes (node_place node.entry)) }
-{
-    for child in node.children() {
-        if is_one_of(child.kind(), kinds) {
-            return Some(child);
-        }
-    }
-    None
-}
 
 // The node that is the name in a definition or in a mention of one.
 fn name_node<'t>(node: SyntaxNode<'t>) -> Option<SyntaxNode<'t>>

@@ -5,7 +5,8 @@ ghost use Rattle.apollo_tree.specs.References.{node_place, token_place};
 ghost use Rattle.schema_members.specs.Locations.{operation_word};
 ghost use Rattle.schema_members.specs.Members.{members_in, name_at};
 
-use crate::definitions::{Member, Schema, child_of, name_in, type_in};
+use crate::definitions::{Member, Schema, name_in, type_in};
+use apollo_cst_core::child_of;
 use apollo_tree::{SyntaxKind, SyntaxNode, SyntaxToken};
 use std::alloc::{AllocError, Global};
 

@@ -4,13 +4,14 @@ ghost use Rattle.std.specs.List.{All, find, list_any};
 ghost use Rattle.apollo_tree.specs.Above.{at_or_above};
 ghost use Rattle.apollo_tree.specs.Order.{text_at};
 ghost use Rattle.apollo_tree.specs.References.{node_place, token_place};
-ghost use Rattle.schema_members.specs.Members.{defined_in, has_interface, has_interface_named, is_of_one, is_shared_in, located, name_at};
+ghost use Rattle.apollo_cst_core.specs.Kinds.{is_of_one};
+ghost use Rattle.schema_members.specs.Members.{defined_in, has_interface, has_interface_named, is_shared_in, located, name_at};
 ghost use Rattle.schema_members.specs.Uses.{IsDefinedOrNamed, IsIdentifier, defined_by};
 
-use crate::definitions::{Member, Schema, TYPES, is_one_of, name_in, type_in};
+use crate::definitions::{Member, Schema, TYPES, name_in, type_in};
 use crate::places::{member_at, operation_word};
 use crate::table::Table;
-use apollo_cst_core::child;
+use apollo_cst_core::{child, is_one_of};
 use apollo_cst_executable::Name;
 use apollo_tree::{SyntaxKind, SyntaxNode, SyntaxToken};
 use std::alloc::{AllocError, Global};

@@ -4,7 +4,7 @@ use Rattle.document_grammar.specs.declared.kind.SyntaxKind.TheVariants.{OPERATIO
 use Rattle.apollo_tree.specs.Above.{at_or_above}
 use Rattle.apollo_tree.specs.References.{node_place}
 use Rattle.apollo_tree.specs.Yields.{rest_ancestors}
-use Rattle.editor_answers.specs.Names.{is_of}
+use Rattle.apollo_cst_core.specs.Kinds.{is_of}
 use Rattle.editor_answers.proofs.usage.operation_from.Given as goal
 
 abbrev pub invariant-loop-outer : goal.invariant-loop-outer

@@ -4,7 +4,7 @@ use Rattle.document_grammar.specs.declared.kind.SyntaxKind.TheVariants.{IMPLEMEN
 use Rattle.apollo_tree.specs.Children.{child_nodes}
 use Rattle.apollo_tree.specs.References.{node_place}
 use Rattle.apollo_tree.specs.Yields.{rest_nodes}
-use Rattle.schema_members.specs.Members.{is_of}
+use Rattle.apollo_cst_core.specs.Kinds.{is_of}
 use Rattle.schema_members.proofs.usage.has_interface.Given as goal
 
 abbrev pub invariant-loop-part : goal.invariant-loop-part

@@ -3,7 +3,7 @@ use Rattle.std.specs.List.{find}
 use Rattle.apollo_tree.specs.Above.{at_or_above}
 use Rattle.apollo_tree.specs.References.{node_place}
 use Rattle.apollo_tree.specs.Yields.{rest_ancestors}
-use Rattle.schema_members.specs.Members.{is_of_one}
+use Rattle.apollo_cst_core.specs.Kinds.{is_of_one}
 use Rattle.schema_members.specs.declared.definitions.TheConstants.{TYPES}
 use Rattle.schema_members.proofs.usage.type_around.Given as goal
 
