@@ -2,7 +2,7 @@
 //!
 //! `validate_executable` finds each place at which operations and fragments break a rule of section 5, up to a bound, and none exactly if the
 //! document keeps them all; `validate_type_system` finds names that are defined twice in one definition (section 3). `validate` takes the one
-//! that fits the document, and `message` says what is wrong.
+//! that fits the document, and `message` says what is wrong. `document_checks`, `editor_validation` and `dumyroke_validation` call both.
 #![tactic(auto)]
 
 mod lists;

@@ -2,6 +2,8 @@
 //!
 //! A definition, which is an operation or a fragment, is the list of the items in it that are counted, in the order of the text. The figures are
 //! those of the expanded list, which may be exponentially long; time and memory are linear in the lists that are given.
+//!
+//! `operation_limits`, the crate above, calls `measure` with the lists of a document's definitions.
 #![tactic(auto)]
 
 mod figures;

@@ -1,4 +1,4 @@
-//! The files of a runtime, as `gqlfmt` finds, reads and replaces them and `gqlcheck` finds and reads them.
+//! The files of a runtime, as `gqlfmt` finds, reads and replaces them and `gqlcheck` finds and reads them. Both hand `StdFiles` to their `run`.
 //!
 //! A file is replaced by writing over it, so that it stays the same file, after a copy of its text is stored beside it under a hidden name. Where that
 //! fails, the old text is written back; the copy stays only where this fails too, or where the program is ended in between. A file that has changed since it
