@@ -1,8 +1,8 @@
 -- What steps through a file may say.
 use Rattle.std.specs.Prelude.{◌≡◌, ℕ, Bool, true, List}
 use Rattle.embedded_documents.specs.Masked.{HasTag}
-use Rattle.embedded_documents.specs.declared.scanning.Place.{Place}
-use Rattle.embedded_documents.specs.declared.scanning.Place.TheVariants.{Braces, Quoted, Escaped}
+use Rattle.embedded_documents.specs.declared.scanning.Context.{Context}
+use Rattle.embedded_documents.specs.declared.scanning.Context.TheVariants.{Braces, Quoted, Escaped}
 use Rattle.embedded_documents.specs.declared.scanning.Move.{Move}
 use Rattle.embedded_documents.specs.declared.scanning.Move.TheVariants.{Stay, Enter, Leave}
 
@@ -10,14 +10,14 @@ use Rattle.embedded_documents.specs.declared.scanning.Move.TheVariants.{Stay, En
 abbrev pub IsTagged : List ℕ → Bool → Type 0
 IsTagged text is_document = is_document ≡ true → HasTag text
 
--- so it is in this place
-abbrev pub IsPlaceIn : List ℕ → Place → Type 0
-IsPlaceIn text (Braces is_in_template) = Unit {0}
-IsPlaceIn text (Quoted quote is_document) = IsTagged text is_document
-IsPlaceIn text (Escaped quote is_document) = IsTagged text is_document
+-- so it is in this context
+abbrev pub IsContextIn : List ℕ → Context → Type 0
+IsContextIn text (Braces is_in_template) = Unit {0}
+IsContextIn text (Quoted quote is_document) = IsTagged text is_document
+IsContextIn text (Escaped quote is_document) = IsTagged text is_document
 
--- so it is in the place that is entered
+-- so it is in the context that is entered
 abbrev pub IsMoveIn : List ℕ → Move → Type 0
 IsMoveIn text Stay = Unit {0}
-IsMoveIn text (Enter place) = IsPlaceIn text place
+IsMoveIn text (Enter context) = IsContextIn text context
 IsMoveIn text Leave = Unit {0}

@@ -3,10 +3,10 @@ ghost use Rattle.std.specs.Prelude.{◌≡◌, ◌<◌, ◌≤◌, IfSome, false
 ghost use Rattle.embedded_documents.specs.Masked.{IsTag};
 ghost use Rattle.embedded_documents.specs.Steps.{IsMoveIn, IsTagged};
 ghost use Rattle.embedded_documents.specs.declared.scanning.Move.TheVariants.{Enter};
-ghost use Rattle.embedded_documents.specs.declared.scanning.Place.TheVariants.{Quoted};
+ghost use Rattle.embedded_documents.specs.declared.scanning.Context.TheVariants.{Quoted};
 
 use crate::quoted::{Opening, opening_at};
-use crate::scanning::{HostLanguage, Move, Place, Step};
+use crate::scanning::{Context, HostLanguage, Move, Step};
 use line_index::line_end;
 
 // Where the comment ends that begins at a byte.
@@ -223,7 +223,7 @@ pub(crate) fn code_step(
         return quoted_from(opening, false);
     }
     let next = match bytes[start] {
-        b'{' => Move::Enter(Place::Braces { is_in_template }),
+        b'{' => Move::Enter(Context::Braces { is_in_template }),
         b'}' => Move::Leave,
         _ => Move::Stay,
     };
@@ -243,7 +243,7 @@ fn quoted_from(opening: Opening, is_document: bool) -> Step
     Step {
         end: opening.start,
         is_document: false,
-        next: Move::Enter(Place::Quoted {
+        next: Move::Enter(Context::Quoted {
             quote: opening.quote,
             is_document,
         }),

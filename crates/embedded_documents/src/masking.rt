@@ -1,9 +1,9 @@
 // Texts of which only the documents are left.
 ghost use Rattle.std.specs.Prelude.{◌≡◌, ℕ, ◌⊎◌, ◌++◌, ◌≤◌, ◌∷◌, List, [], All, IfOk, IfSome, OnOk, false, length, map, slice_range, string_bytes, true};
 ghost use Rattle.embedded_documents.specs.Masked.{HasTag, IsMasked, blank, is_blank};
-ghost use Rattle.embedded_documents.specs.Steps.{IsMoveIn, IsPlaceIn, IsTagged};
+ghost use Rattle.embedded_documents.specs.Steps.{IsMoveIn, IsContextIn, IsTagged};
 
-use crate::scanning::{HostLanguage, Move, Place, next_step};
+use crate::scanning::{Context, HostLanguage, Move, next_step};
 use std::alloc::{AllocError, Global};
 
 // The blank in place of a byte: the end of a line stays.
@@ -47,17 +47,17 @@ fn push_part(
     push_blanks(masked, &text.as_bytes()[start..end])
 }
 
-// Goes into a place, or out of the innermost one.
-fn go(text: &str, places: &mut Vec<Place>, next: Move) -> Result<(), AllocError>
-    requires places { All (IsPlaceIn text.now) places.old.items }
+// Goes into a context, or out of the innermost one.
+fn go(text: &str, contexts: &mut Vec<Context>, next: Move) -> Result<(), AllocError>
+    requires contexts { All (IsContextIn text.now) contexts.old.items }
     requires next { IsMoveIn text.now next }
-    ensures { OnOk result (All (IsPlaceIn text.now) places.new.items) }
+    ensures { OnOk result (All (IsContextIn text.now) contexts.new.items) }
 {
     match next {
         Move::Stay => {}
-        Move::Enter(place) => places.push(place)?,
+        Move::Enter(context) => contexts.push(context)?,
         Move::Leave => {
-            places.pop();
+            contexts.pop();
         }
     }
     Ok(())
@@ -70,25 +70,26 @@ pub fn masked(alloc: Global, text: &str, language: HostLanguage) -> Result<Strin
 {
     let bytes = text.as_bytes();
     let mut masked = String::new(alloc);
-    let mut places = Vec::new(alloc);
+    let mut contexts = Vec::new(alloc);
     let mut start = 0;
     while start < bytes.len() {
-        let place = places.as_slice().last().copied();
-        let step = next_step(bytes, start, language, place);
+        let context = contexts.as_slice().last().copied();
+        let step = next_step(bytes, start, language, context);
         push_part(&mut masked, text, start, step.end, step.is_document)?;
-        go(text, &mut places, step.next)?;
+        go(text, &mut contexts, step.next)?;
         start = step.end;
     }
     Ok(masked)
 }
 
-// Whether a place is one of a document.
-fn is_document(place: Option<Place>) -> bool
-    ensures { (text : List ℕ) → IfSome place (IsPlaceIn text) → IsTagged text result }
+// Whether a context is one of a document.
+fn is_document(context: Option<Context>) -> bool
+    ensures { (text : List ℕ) → IfSome context (IsContextIn text) → IsTagged text result }
 {
-    match place {
-        Some(Place::Quoted { is_document, .. } | Place::Escaped { is_document, .. }) => is_document,
-        Some(Place::Braces { .. }) | None => false,
+    match context {
+        Some(Context::Quoted { is_document, .. } | Context::Escaped { is_document, .. }) =>
+            is_document,
+        Some(Context::Braces { .. }) | None => false,
     }
 }
 
@@ -102,18 +103,18 @@ pub fn is_in_document(
     ensures { IfOk result (λ is_inside. is_inside ≡ true → HasTag text.now) }
 {
     let bytes = text.as_bytes();
-    let mut places = Vec::new(alloc);
+    let mut contexts = Vec::new(alloc);
     let mut start = 0;
     while start < bytes.len() {
-        let place = places.as_slice().last().copied();
-        let step = next_step(bytes, start, language, place);
+        let context = contexts.as_slice().last().copied();
+        let step = next_step(bytes, start, language, context);
         if offset < step.end {
-            return Ok(is_document(place));
+            return Ok(is_document(context));
         }
-        go(text, &mut places, step.next)?;
+        go(text, &mut contexts, step.next)?;
         start = step.end;
     }
-    Ok(is_document(places.as_slice().last().copied()))
+    Ok(is_document(contexts.as_slice().last().copied()))
 }
 
 /// Whether a text has only spaces and ends of lines.

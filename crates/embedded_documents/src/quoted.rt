@@ -2,7 +2,7 @@
 ghost use Rattle.std.specs.Prelude.{◌<◌, ◌≤◌, IfSome, length};
 ghost use Rattle.embedded_documents.specs.Steps.{IsMoveIn, IsTagged};
 
-use crate::scanning::{HostLanguage, Move, Place, Step};
+use crate::scanning::{Context, HostLanguage, Move, Step};
 
 // How a string or a template begins and ends: by a byte, or by three. In a raw one a backslash is only a backslash.
 #[derive(Clone, Copy)]
@@ -111,10 +111,10 @@ impl Quote {
         ensures next { IsMoveIn bytes.now result.0 }
     {
         if self.is_left_at(bytes, offset) {
-            let place = Place::Braces {
+            let context = Context::Braces {
                 is_in_template: true,
             };
-            return (Move::Enter(place), 2);
+            return (Move::Enter(context), 2);
         }
         (Move::Leave, if self.is_triple { 3 } else { 1 })
     }
@@ -123,7 +123,7 @@ impl Quote {
 // The step from a byte of a string or a template on.
 pub(crate) fn quoted_step(bytes: &[u8], start: usize, quote: Quote, is_document: bool) -> Step
     requires start { start < length bytes.now }
-    requires place { IsTagged bytes.now is_document }
+    requires context { IsTagged bytes.now is_document }
     ensures from { start < result.end }
     ensures within { result.end ≤ length bytes.now }
     ensures document { IsTagged bytes.now result.is_document }
@@ -140,7 +140,7 @@ pub(crate) fn quoted_step(bytes: &[u8], start: usize, quote: Quote, is_document:
         return Step {
             end: start + 1,
             is_document: is_document && quote.is_raw,
-            next: Move::Enter(Place::Escaped { quote, is_document }),
+            next: Move::Enter(Context::Escaped { quote, is_document }),
         };
     }
     let (next, len) = quote.turn_at(bytes, start);
@@ -154,7 +154,7 @@ pub(crate) fn quoted_step(bytes: &[u8], start: usize, quote: Quote, is_document:
 // The step from the byte behind a backslash on: it is text, whatever it is.
 pub(crate) fn escaped_step(bytes: &[u8], start: usize, quote: Quote, is_document: bool) -> Step
     requires start { start < length bytes.now }
-    requires place { IsTagged bytes.now is_document }
+    requires context { IsTagged bytes.now is_document }
     ensures from { start < result.end }
     ensures within { result.end ≤ length bytes.now }
     ensures document { IsTagged bytes.now result.is_document }

@@ -1,6 +1,6 @@
 // Steps through a file.
 ghost use Rattle.std.specs.Prelude.{◌<◌, ◌≤◌, IfSome, length};
-ghost use Rattle.embedded_documents.specs.Steps.{IsMoveIn, IsPlaceIn, IsTagged};
+ghost use Rattle.embedded_documents.specs.Steps.{IsMoveIn, IsContextIn, IsTagged};
 
 use crate::code::code_step;
 use crate::quoted::{Quote, escaped_step, quoted_step};
@@ -15,7 +15,7 @@ pub enum HostLanguage {
 
 // What a byte is in.
 #[derive(Clone, Copy)]
-pub(crate) enum Place {
+pub(crate) enum Context {
     // code in braces: inside a template it is left alone
     Braces { is_in_template: bool },
     // a string or a template: it may be a document
@@ -24,11 +24,11 @@ pub(crate) enum Place {
     Escaped { quote: Quote, is_document: bool },
 }
 
-// Whether the next step is in another place.
+// Whether the next step is in another context.
 #[derive(Clone, Copy)]
 pub(crate) enum Move {
     Stay,
-    Enter(Place),
+    Enter(Context),
     Leave,
 }
 
@@ -40,25 +40,35 @@ pub(crate) struct Step {
     pub next: Move,
 }
 
-// The step from a byte on, in the innermost place there, if it is in any.
+// The step from a byte on, in the innermost context there, if it is in any.
 pub(crate) fn next_step(
     bytes: &[u8],
     start: usize,
     language: HostLanguage,
-    place: Option<Place>,
+    context: Option<Context>,
 ) -> Step
     requires start { start < length bytes.now }
-    requires place { IfSome place (IsPlaceIn bytes.now) }
+    requires context { IfSome context (IsContextIn bytes.now) }
     ensures from { start < result.end }
     ensures within { result.end ≤ length bytes.now }
     ensures document { IsTagged bytes.now result.is_document }
     ensures next { IsMoveIn bytes.now result.next }
 {
-    match place {
+    match context {
         None => code_step(bytes, start, language, false),
-        Some(Place::Braces { is_in_template }) => code_step(bytes, start, language, is_in_template),
-        Some(Place::Quoted { quote, is_document }) => quoted_step(bytes, start, quote, is_document),
-        Some(Place::Escaped { quote, is_document }) => {
+        Some(Context::Braces { is_in_template }) => code_step(
+            bytes,
+            start,
+            language,
+            is_in_template,
+        ),
+        Some(Context::Quoted { quote, is_document }) => quoted_step(
+            bytes,
+            start,
+            quote,
+            is_document,
+        ),
+        Some(Context::Escaped { quote, is_document }) => {
             escaped_step(bytes, start, quote, is_document)
         }
     }

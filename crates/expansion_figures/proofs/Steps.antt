@@ -14,7 +14,7 @@ use Rattle.expansion_figures.specs.declared.items.Span.{Span}
 use Rattle.expansion_figures.specs.declared.items.Item.TheVariants.{Spread}
 use Rattle.expansion_figures.specs.declared.figures.Figures.{Figures}
 use Rattle.expansion_figures.specs.declared.walk.Frame.{Frame}
-use Rattle.expansion_figures.specs.declared.walk.Walk.{Walk}
+use Rattle.expansion_figures.specs.declared.walk.OpenDefinitions.{OpenDefinitions}
 use Rattle.expansion_figures.specs.declared.walk.Mark.{Mark}
 use Rattle.expansion_figures.specs.declared.walk.Mark.TheVariants.{Untouched, Open, Done}
 use Rattle.expansion_figures.proofs.Expansions.{Expands-append}
@@ -162,7 +162,7 @@ frame_past d f g x out h i a p e q =
           (sym q.next) m);
     }
 
-past : {A : Type 0} (d : List (List Item)) (w v : Walk A) (x : Item) (out : List Item) (h : Figures) → Sound d w
+past : {A : Type 0} (d : List (List Item)) (w v : OpenDefinitions A) (x : Item) (out : List Item) (h : Figures) → Sound d w
     → IsAt (definition d w.current.definition) w.current.next x
     → Expands d (x ∷ []) out → h ≡ figures_of out
     → v.marks.items ≡ w.marks.items → v.waiting.items ≡ w.waiting.items → IsPast w.current v.current h → Goes d w v true
@@ -187,13 +187,13 @@ past d w v x out h s a p e marks waiting q = record {
   };
 }
 
-pub past_other : {A : Type 0} (d : List (List Item)) (w v : Walk A) (x : Item) (h : Figures) → Sound d w
+pub past_other : {A : Type 0} (d : List (List Item)) (w v : OpenDefinitions A) (x : Item) (h : Figures) → Sound d w
     → IsAt (definition d w.current.definition) w.current.next x
     → is_spread x ≡ false → h ≡ figures_of (x ∷ [])
     → v.marks.items ≡ w.marks.items → v.waiting.items ≡ w.waiting.items → IsPast w.current v.current h → Goes d w v true
 past_other d w v x h s a n e marks waiting q = past d w v x (x ∷ []) h s a (other n nothing) e marks waiting q
 
-pub past_spread : {A : Type 0} (d : List (List Item)) (w v : Walk A) (e k : ℕ) (i : Span) (f h : Figures) → Sound d w
+pub past_spread : {A : Type 0} (d : List (List Item)) (w v : OpenDefinitions A) (e k : ℕ) (i : Span) (f h : Figures) → Sound d w
     → IsAt (definition d w.current.definition) w.current.next (Spread e k i) → k < length d → mark w.marks.items k ≡ Done f
     → ((xs : List Item) → f ≡ figures_of xs → h ≡ figures_of (within e xs))
     → v.marks.items ≡ w.marks.items → v.waiting.items ≡ w.waiting.items → IsPast w.current v.current h → Goes d w v true
@@ -222,7 +222,7 @@ left_in_all-last d (g ∷ fs) f = omega (arith, left_in_all-last d fs f)
 begun : (d : List (List Item)) (k : ℕ) → k < length d → IsFrame d (record { definition = k; next = 0; figures = figures_of [] })
 begun d k known = record { is_one = known; in_range = omega arith; so_far = record { expansion = []; expands = nothing; figures = refl } }
 
-pub entered : {A : Type 0} (d : List (List Item)) (w v : Walk A) (e k : ℕ) (i : Span) → Sound d w
+pub entered : {A : Type 0} (d : List (List Item)) (w v : OpenDefinitions A) (e k : ℕ) (i : Span) → Sound d w
     → IsAt (definition d w.current.definition) w.current.next (Spread e k i)
     → k < length d → mark w.marks.items k ≡ Untouched
     → v.marks.items ≡ set w.marks.items k Open → v.waiting.items ≡ w.waiting.items ++ w.current ∷ []
@@ -267,7 +267,7 @@ untouched-done (xs ∷ d) (Done f ∷ ms) (suc k) g = untouched-done d ms k g
 whole : (d : List (List Item)) (f : Frame) → IsFrame d f → f.next ≡ length (definition d f.definition) → Measured d (definition d f.definition) f.figures
 whole d f i e = subst (λ xs. Measured d xs f.figures) (take_all f.next (definition d f.definition) (omega arith)) i.so_far
 
-module _ {A : Type 0} (d : List (List Item)) (w v : Walk A) (s : Sound d w) (e : w.current.next ≡ length (definition d w.current.definition))
+module _ {A : Type 0} (d : List (List Item)) (w v : OpenDefinitions A) (s : Sound d w) (e : w.current.next ≡ length (definition d w.current.definition))
     (marks : v.marks.items ≡ set w.marks.items w.current.definition (Done w.current.figures)) where
   noted : Noted d v.marks.items
   noted =
@@ -321,7 +321,7 @@ module _ {A : Type 0} (d : List (List Item)) (w v : Walk A) (s : Sound d w) (e :
 
 -- ---- faults
 
-pub cyclic : {A : Type 0} (d : List (List Item)) (w : Walk A) (e k : ℕ) (i : Span) → Sound d w
+pub cyclic : {A : Type 0} (d : List (List Item)) (w : OpenDefinitions A) (e k : ℕ) (i : Span) → Sound d w
     → IsAt (definition d w.current.definition) w.current.next (Spread e k i)
     → mark w.marks.items k ≡ Open → IsCycle d (root w) i
 cyclic d w e k i s a o = record {
@@ -333,7 +333,7 @@ cyclic d w e k i s a o = record {
   back = led_back k s.path (s.waits k o);
 }
 
-pub undefined : {A : Type 0} (d : List (List Item)) (w : Walk A) (e k : ℕ) (i : Span) → Sound d w
+pub undefined : {A : Type 0} (d : List (List Item)) (w : OpenDefinitions A) (e k : ℕ) (i : Span) → Sound d w
     → IsAt (definition d w.current.definition) w.current.next (Spread e k i)
     → length d ≤ k → IsUndefined d (root w) i
 undefined d w e k i s a h = record {
@@ -347,7 +347,7 @@ undefined d w e k i s a h = record {
 
 -- ---- beginning and end
 
-pub at_start : {A : Type 0} (d : List (List Item)) (w v : Walk A) (k : ℕ) → k < length d → Idle d w → v.marks.items ≡ set w.marks.items k Open
+pub at_start : {A : Type 0} (d : List (List Item)) (w v : OpenDefinitions A) (k : ℕ) → k < length d → Idle d w → v.marks.items ≡ set w.marks.items k Open
     → v.waiting.items ≡ w.waiting.items
     → v.current ≡ record { definition = k; next = 0; figures = figures_of [] } → Sound d v × (root v ≡ k)
 at_start d w v k known i marks waiting current =
@@ -365,12 +365,13 @@ at_start d w v k known i marks waiting current =
     )
 
 -- what a step says where nothing is left to do
-pub ended : {A : Type 0} (d : List (List Item)) (w v : Walk A) (b : Bool) → b ≡ false → Goes d w v b → Finished d v
+pub ended : {A : Type 0} (d : List (List Item)) (w v : OpenDefinitions A) (b : Bool) → b ≡ false → Goes d w v b → Finished d v
 ended d w v true e g = absurd (let r : ⊥ = cc in r)
 ended d w v false e g = g.state
 
 -- the end of a walk that began at `r`
-pub measured_root : {A : Type 0} (d : List (List Item)) (w : Walk A) (r : ℕ) → Finished d w → root w ≡ r → Measured d (definition d r) w.current.figures
+pub measured_root : {A : Type 0} (d : List (List Item)) (w : OpenDefinitions A) (r : ℕ)
+    → Finished d w → root w ≡ r → Measured d (definition d r) w.current.figures
 measured_root d w r f e = subst (λ k. Measured d (definition d k) w.current.figures) (sym (ap (λ fs. first fs w.current) f.idle.none_waits) ∙ e) f.measured
 
 -- before anything is done
@@ -386,7 +387,7 @@ not_marked_done f e = cc
 not_marked_open : Untouched ≡ Open → ⊥
 not_marked_open e = cc
 
-pub idle_first : {A : Type 0} (d : List (List Item)) (w : Walk A) → w.marks.items ≡ replicate (length d) Untouched → w.waiting.items ≡ [] → Idle d w
+pub idle_first : {A : Type 0} (d : List (List Item)) (w : OpenDefinitions A) → w.marks.items ≡ replicate (length d) Untouched → w.waiting.items ≡ [] → Idle d w
 idle_first d w m none = record {
   noted = record {
     marked = ap (λ ms. length ms) m ∙ length-replicate (length d) Untouched;

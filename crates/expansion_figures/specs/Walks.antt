@@ -5,7 +5,7 @@ use Rattle.expansion_figures.specs.declared.items.Span.{Span}
 use Rattle.expansion_figures.specs.declared.items.Item.TheVariants.{Spread}
 use Rattle.expansion_figures.specs.declared.figures.Figures.{Figures}
 use Rattle.expansion_figures.specs.declared.walk.Frame.{Frame}
-use Rattle.expansion_figures.specs.declared.walk.Walk.{Walk}
+use Rattle.expansion_figures.specs.declared.walk.OpenDefinitions.{OpenDefinitions}
 use Rattle.expansion_figures.specs.declared.walk.Mark.{Mark}
 use Rattle.expansion_figures.specs.declared.walk.Mark.TheVariants.{Untouched, Open, Done}
 use Rattle.expansion_figures.specs.Expansion.{Expands, definition}
@@ -49,7 +49,7 @@ abbrev pub first : List Frame → Frame → ℕ
 first [] f = f.definition
 first (g ∷ fs) f = g.definition
 
-abbrev pub root : {A : Type 0} → Walk A → ℕ
+abbrev pub root : {A : Type 0} → OpenDefinitions A → ℕ
 root w = first w.waiting.items w.current
 
 abbrev pub Among : ℕ → List Frame → Type 0
@@ -65,19 +65,19 @@ pub record Noted (d : List (List Item)) (ms : List Mark) : Type 0 where
   pub done : (k : ℕ) (f : Figures) → mark ms k ≡ Done f → Measured d (definition d k) f
 
 -- what is true between two steps
-pub record Sound {A : Type 0} (d : List (List Item)) (w : Walk A) : Type 0 where
+pub record Sound {A : Type 0} (d : List (List Item)) (w : OpenDefinitions A) : Type 0 where
   pub noted : Noted d w.marks.items
   pub waits : (k : ℕ) → mark w.marks.items k ≡ Open → (k ≡ w.current.definition) ⊎ Among k w.waiting.items
   pub path : Path d w.waiting.items w.current
 
 -- what is true where no definition is open
-pub record Idle {A : Type 0} (d : List (List Item)) (w : Walk A) : Type 0 where
+pub record Idle {A : Type 0} (d : List (List Item)) (w : OpenDefinitions A) : Type 0 where
   pub noted : Noted d w.marks.items
   pub none_open : (k : ℕ) → mark w.marks.items k ≡ Open → ⊥
   pub none_waits : w.waiting.items ≡ []
 
 -- what is true at the end of a walk
-pub record Finished {A : Type 0} (d : List (List Item)) (w : Walk A) : Type 0 where
+pub record Finished {A : Type 0} (d : List (List Item)) (w : OpenDefinitions A) : Type 0 where
   pub idle : Idle d w
   pub measured : Measured d (definition d w.current.definition) w.current.figures
 
@@ -95,15 +95,15 @@ abbrev pub left_in_all : List (List Item) → List Frame → ℕ
 left_in_all d [] = 0
 left_in_all d (f ∷ fs) = left_in d f + left_in_all d fs
 
-abbrev pub steps_left : {A : Type 0} → List (List Item) → Walk A → ℕ
+abbrev pub steps_left : {A : Type 0} → List (List Item) → OpenDefinitions A → ℕ
 steps_left d w = untouched d w.marks.items + left_in_all d w.waiting.items + left_in d w.current
 
 -- what is true after a step, while there is more to do
-pub record Nearer {A : Type 0} (d : List (List Item)) (old new : Walk A) : Type 0 where
+pub record Nearer {A : Type 0} (d : List (List Item)) (old new : OpenDefinitions A) : Type 0 where
   pub sound : Sound d new
   pub smaller : steps_left d new < steps_left d old
 
 -- one step
-pub record Goes {A : Type 0} (d : List (List Item)) (old new : Walk A) (more : Bool) : Type 0 where
+pub record Goes {A : Type 0} (d : List (List Item)) (old new : OpenDefinitions A) (more : Bool) : Type 0 where
   pub root : root new ≡ root old
   pub state : MatchBool more (Nearer d old new) (Finished d new)

@@ -37,13 +37,13 @@ struct Frame {
 
 // The definitions that are open: the current one, and those of which each waits at a spread for the next.
 #[derive(Drop)]
-struct Walk<A: Allocator> {
+struct OpenDefinitions<A: Allocator> {
     marks: Vec<Mark, A>,
     waiting: Vec<Frame, A>,
     current: Frame,
 }
 
-impl<A: Allocator> Walk<A> {
+impl<A: Allocator> OpenDefinitions<A> {
     // Past one item, into a fragment or out of a definition. Whether there is more to do.
     fn step(&mut self, definitions: &[Vec<Item, A>]) -> Result<bool, Fault>
         requires { Sound (map (λ v. v.items) definitions.now) self.old }
@@ -202,7 +202,7 @@ pub fn measure<A: Allocator + Copy>(
     let Ok(marks) = Vec::from_elem(alloc, Mark::Untouched, definitions.len()) else {
         return Err(Fault::Memory);
     };
-    let mut walk = Walk {
+    let mut walk = OpenDefinitions {
         marks,
         waiting: Vec::new(alloc),
         current: Frame {

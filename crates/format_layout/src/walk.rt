@@ -48,7 +48,7 @@ enum Uncounted {
 struct Ended {
     // the number of its first slot
     first: usize,
-    // the place of its first token
+    // the column in front of its first token
     start: usize,
 }
 
@@ -59,7 +59,7 @@ pub struct Frame {
     after: usize,
     // the number of its first slot
     first: usize,
-    // the place of its first token
+    // the column in front of its first token
     start: usize,
     /// How many levels deep a line is indented that begins with the node.
     pub level: u16,
@@ -113,7 +113,7 @@ struct Walk<'t, A: Allocator> {
     // the number of the last slot in which a line ends, or of the last token in which one does
     last_line: usize,
     // where the last token ends, in columns while nothing breaks; it is counted only while a group is open, or one that has ended waits
-    place: usize,
+    column: usize,
 }
 
 // Adds an item, mostly where there is room: then without a call.
@@ -144,11 +144,11 @@ impl<'t, A: Allocator + Copy> Walk<'t, A> {
             ended: Vec::new(alloc),
             is_after_group: false,
             last_line: 0,
-            place: 0,
+            column: 0,
         })
     }
 
-    // Whether places are counted.
+    // Whether columns are counted.
     #[inline(always)]
     fn is_counting(&self) -> bool {
         self.group_count > 0 || !self.ended.is_empty()
@@ -167,7 +167,7 @@ impl<'t, A: Allocator + Copy> Walk<'t, A> {
         let Some(group) = self.ended.pop() else {
             return;
         };
-        let width = self.place.saturating_sub(group.start);
+        let width = self.column.saturating_sub(group.start);
         if let Some(slot) = self.slots.get_mut(group.first) {
             slot.width = u8::try_from(width).unwrap_or(BREAKS);
         }
@@ -177,10 +177,10 @@ impl<'t, A: Allocator + Copy> Walk<'t, A> {
     fn count_string(&mut self, end: usize) {
         let text = self.source.get(self.here..end).unwrap_or("");
         if !has_lines(text) {
-            self.place = self.place.saturating_add(columns(text));
+            self.column = self.column.saturating_add(columns(text));
             return;
         }
-        self.place = self.place.saturating_add(QUOTES);
+        self.column = self.column.saturating_add(QUOTES);
         // a line ends in it
         self.last_line = self.slots.len().saturating_sub(1);
         self.may_end_line();
@@ -191,8 +191,8 @@ impl<'t, A: Allocator + Copy> Walk<'t, A> {
     fn count_token(&mut self, end: usize) {
         match self.uncounted {
             Uncounted::Nothing => return,
-            Uncounted::Word => self.place = self
-                .place
+            Uncounted::Word => self.column = self
+                .column
                 .saturating_add(end.saturating_sub(self.here)),
             Uncounted::String => self.count_string(end),
         }
@@ -263,7 +263,7 @@ impl<'t, A: Allocator + Copy> Walk<'t, A> {
             if ends_line || slot.separator.is_soft() {
                 self.may_end_line();
             }
-            self.place = self.place.saturating_add(slot.separator.width());
+            self.column = self.column.saturating_add(slot.separator.width());
         }
         add(&mut self.slots, slot)?;
         Ok(())
@@ -435,7 +435,7 @@ impl<'t, A: Allocator + Copy> Walk<'t, A> {
         Ok(Frame {
             after: element.after,
             first,
-            start: self.place,
+            start: self.column,
             level,
             kind,
             is_beside,

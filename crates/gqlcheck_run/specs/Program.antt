@@ -7,7 +7,7 @@ use Rattle.byte_devices.specs.Writing.{EndsWriting}
 use Rattle.byte_devices.specs.declared.fault.Fault.{Fault}
 use Rattle.document_checks.specs.Checking.{Asked}
 use Rattle.gqlfmt_files.specs.Listing.{Listing}
-use Rattle.named_files.specs.Finding.{Place, file, unreadable, IsNamed, Lists}
+use Rattle.named_files.specs.Finding.{FoundPath, file, unreadable, IsNamed, Lists}
 use Rattle.program_words.specs.Gqlcheck.{Run, request_of}
 use Rattle.program_words.specs.Misuse.{IsAmong, complaint}
 use Rattle.program_words.specs.declared.misuse.Mistake.{Mistake}
@@ -120,24 +120,24 @@ module _ {S : Type 0} (reads : S → List ℕ → Result (List ℕ) Error → S 
     pub follows : FollowsRead asked given ended
 
   -- A file that was found is handled, and a path that could not be read is left alone.
-  abbrev pub HandlesPlace : Asked → Place → Result Bool FileFault → S → S → Type 0
-  HandlesPlace asked (file path) ended old new = Handles asked path ended old new
-  HandlesPlace asked (unreadable path) (Err (NotRead error)) old new = new ≡ old
-  HandlesPlace asked place ended old new = ⊥
+  abbrev pub HandlesFound : Asked → FoundPath → Result Bool FileFault → S → S → Type 0
+  HandlesFound asked (file path) ended old new = Handles asked path ended old new
+  HandlesFound asked (unreadable path) (Err (NotRead error)) old new = new ≡ old
+  HandlesFound asked found_path ended old new = ⊥
 
   -- These were handled, one after the other, and the status is the greatest of theirs.
-  abbrev pub ChecksFiles : Asked → Bool → List Place → ℕ → Desk S → Desk S → Type 0
+  abbrev pub ChecksFiles : Asked → Bool → List FoundPath → ℕ → Desk S → Desk S → Type 0
   ChecksFiles asked figures [] status old new = (status ≡ 0) × (new ≡ old)
-  ChecksFiles asked figures (place ∷ found) status old new =
+  ChecksFiles asked figures (found_path ∷ found) status old new =
       (ended : Result Bool FileFault) × (rest : ℕ) × (next : Desk S) × (status ≡ max (status_of ended) rest)
-      × HandlesPlace asked place ended old.files next.files × IsQuiet figures ended old.output next.output
+      × HandlesFound asked found_path ended old.files next.files × IsQuiet figures ended old.output next.output
       × SaysOnlyFaults ended old.complaints next.complaints × ChecksFiles asked figures found rest next new
 
 -- the same, as a trait tells what listing a folder does, too
 module _ {S : Type 0} (lists : S → List ℕ → Listing → S → Type 0) (reads : S → List ℕ → Result (List ℕ) Error → S → Type 0) where
   -- The files that a path names are found, and then checked.
   pub record ChecksNamed (asked : Asked) (figures : Bool) (path : List ℕ) (status : ℕ) (old new : Desk S) : Type 0 where
-    pub found : List Place
+    pub found : List FoundPath
     pub middle : S
     pub named : IsNamed lists [] path found old.files middle
     pub checked : ChecksFiles reads asked figures found status (record old { files = middle }) new

@@ -33,8 +33,8 @@ fn put_text<A: Allocator>(out: &mut Writer<A>, key: &str, text: &str) -> Result<
     out.string(text)
 }
 
-// The file, and the place in it.
-fn put_place<A: Allocator>(
+// The file, and the position in it.
+fn put_position<A: Allocator>(
     out: &mut Writer<A>,
     name: &str,
     source: &str,
@@ -66,7 +66,7 @@ fn finding_line<A: Allocator>(
 {
     let mut out = Writer::new(lines);
     out.begin_object()?;
-    put_place(&mut out, name, source, index, finding.start)?;
+    put_position(&mut out, name, source, index, finding.start)?;
     put_text(&mut out, "rule", finding.rule)?;
     put_text(&mut out, "message", finding.message.as_str())?;
     out.end_object()?;
@@ -112,7 +112,7 @@ fn operation_line<A: Allocator>(
 {
     let mut out = Writer::new(lines);
     out.begin_object()?;
-    put_place(&mut out, name, source, index, operation.start)?;
+    put_position(&mut out, name, source, index, operation.start)?;
     put_text(&mut out, "operation", operation.name.as_str())?;
     put_figures(&mut out, operation)?;
     out.end_object()?;

@@ -4,7 +4,7 @@ ghost use Rattle.byte_devices.specs.Runs.{Reads};
 ghost use Rattle.document_checks.specs.Checking.{as_asked};
 ghost use Rattle.named_files.specs.Finding.{as_named};
 ghost use Rattle.gqlcheck_run.specs.Ending.{Ends};
-ghost use Rattle.gqlcheck_run.specs.Program.{ChecksFiles, ChecksInput, IsQuiet, Handles, HandlesPlace};
+ghost use Rattle.gqlcheck_run.specs.Program.{ChecksFiles, ChecksInput, IsQuiet, Handles, HandlesFound};
 
 use crate::ending::{FileFault, status_of};
 use crate::job::Job;
@@ -70,7 +70,7 @@ impl<A: Allocator + Copy, C: DocumentChecker> Job<'_, '_, A, C> {
         writer: &mut W,
         named: &Named<A>,
     ) -> Result<bool, FileFault>
-        ensures handles { HandlesPlace F.reads (as_asked self.now.checks) (as_named named.now) result files.old files.new }
+        ensures handles { HandlesFound F.reads (as_asked self.now.checks) (as_named named.now) result files.old files.new }
         ensures quiet { IsQuiet self.now.figures result (W.account writer.old) (W.account writer.new) }
     {
         match named {

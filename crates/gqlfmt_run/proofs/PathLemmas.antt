@@ -15,13 +15,13 @@ use Rattle.gqlfmt_files.specs.declared.settling.Revised.TheVariants.{Same, Chang
 use Rattle.gqlfmt_files.specs.declared.settling.Settled.{Settled}
 use Rattle.gqlfmt_files.specs.declared.settling.Settled.TheVariants.{Found}
 use Rattle.gqlfmt_files.specs.Settling.{Settles}
-use Rattle.named_files.specs.Finding.{Place, path_of}
+use Rattle.named_files.specs.Finding.{FoundPath, path_of}
 use Rattle.gqlfmt_run.specs.declared.fault.FileFault.{FileFault}
 use Rattle.gqlfmt_run.specs.declared.formatting.Refusal.{Refusal}
 use Rattle.gqlfmt_run.specs.Complaints.{IsSilent, SaysOfFile}
 use Rattle.gqlfmt_run.specs.Formatting.{IsRevised}
 use Rattle.gqlfmt_run.specs.Status.{status_of}
-use Rattle.gqlfmt_run.specs.Paths.{Desk, FollowsText, Handles, HandlesAll, HandlesPlace}
+use Rattle.gqlfmt_run.specs.Paths.{Desk, FollowsText, Handles, HandlesAll, HandlesFound}
 use Rattle.gqlfmt_run.specs.Showing.{Shows}
 
 pub ord_max-nat : (a b : ℕ) → ord_max nat_cmp a b ≡ max a b
@@ -54,25 +54,25 @@ module _ {S : Type 0} (reads : S → List ℕ → Result (List ℕ) Error → S 
   }
 
   module _ (mode : Mode) (bounds : Bounds) where
-    abbrev Ends : Place → Result Settled FileFault → Desk S → Desk S → Type 0
-    Ends place ended old new = HandlesPlace reads replaces mode bounds place ended old.files old.output new.files new.output
-        × SaysOfFile (path_of place) ended old.complaints new.complaints
+    abbrev Ends : FoundPath → Result Settled FileFault → Desk S → Desk S → Type 0
+    Ends found_path ended old new = HandlesFound reads replaces mode bounds found_path ended old.files old.output new.files new.output
+        × SaysOfFile (path_of found_path) ended old.complaints new.complaints
 
-    -- one place more
-    handles-more : (places : List Place) (status : ℕ) (place : Place) (ended : Result Settled FileFault) (old middle new : Desk S)
-        → HandlesAll reads replaces mode bounds places status old middle
-        → Ends place ended middle new → HandlesAll reads replaces mode bounds (places ++ place ∷ []) (max status (status_of ended)) old new
-    handles-more [] status place ended old middle new h one =
-        let last : Ends place ended old new = subst (λ (s : Desk S). Ends place ended s new) h.1 one in
+    -- one path more
+    handles-more : (found : List FoundPath) (status : ℕ) (found_path : FoundPath) (ended : Result Settled FileFault) (old middle new : Desk S)
+        → HandlesAll reads replaces mode bounds found status old middle
+        → Ends found_path ended middle new → HandlesAll reads replaces mode bounds (found ++ found_path ∷ []) (max status (status_of ended)) old new
+    handles-more [] status found_path ended old middle new h one =
+        let last : Ends found_path ended old new = subst (λ (s : Desk S). Ends found_path ended s new) h.1 one in
         (ended, 0, new, (omega (arith, h.0)), last.0, last.1, (refl, refl))
-    handles-more (p ∷ places) status place ended old middle new h one =
-        (h.0, max h.1 (status_of ended), h.2, (omega (arith, h.3)), h.4, h.5, handles-more places h.1 place ended h.2 middle new h.6 one)
+    handles-more (p ∷ found) status found_path ended old middle new h one =
+        (h.0, max h.1 (status_of ended), h.2, (omega (arith, h.3)), h.4, h.5, handles-more found h.1 found_path ended h.2 middle new h.6 one)
 
-    -- the same where the place is the next of a list, as the code has it
-    pub handles-next : {X : Type 0} (f : X → Place) (items : List X) (i status one worst : ℕ) (x : X) (ended : Result Settled FileFault)
+    -- the same where the path is the next of a list, as the code has it
+    pub handles-next : {X : Type 0} (f : X → FoundPath) (items : List X) (i status one worst : ℕ) (x : X) (ended : Result Settled FileFault)
         (old middle new : Desk S) (path : List ℕ) (said : Account) → i < length items → x ≡ get_or items i x
         → HandlesAll reads replaces mode bounds (map f (take i items)) status old middle
-        → HandlesPlace reads replaces mode bounds (f x) ended middle.files middle.output new.files new.output
+        → HandlesFound reads replaces mode bounds (f x) ended middle.files middle.output new.files new.output
         → IsSilent ended middle.complaints said
         → path ≡ path_of (f x)
         → ((before : Account) → IsSilent ended before said → SaysOfFile path ended before new.complaints)
@@ -84,5 +84,5 @@ module _ {S : Type 0} (reads : S → List ℕ → Result (List ℕ) Error → S 
         let top : worst ≡ max status (status_of ended) = most ∙ ord_max-nat status one ∙ ap (max status) is in
         let told = subst (λ (p : List ℕ). SaysOfFile p ended middle.complaints new.complaints) named (tells middle.complaints silent) in
         subst (λ (n : ℕ). HandlesAll reads replaces mode bounds (map f (take (i + 1) items)) n old new) (sym top)
-        (subst (λ (places : List Place). HandlesAll reads replaces mode bounds places (max status (status_of ended)) old new) (sym more)
+        (subst (λ (found : List FoundPath). HandlesAll reads replaces mode bounds found (max status (status_of ended)) old new) (sym more)
         (handles-more (map f (take i items)) status (f x) ended old middle new h (last, told)))

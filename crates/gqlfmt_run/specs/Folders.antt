@@ -6,7 +6,7 @@ use Rattle.gqlfmt_files.specs.Listing.{Listing}
 use Rattle.gqlfmt_files.specs.Reading.{IsAbsent}
 use Rattle.gqlfmt_files.specs.declared.settling.Mode.{Mode}
 use Rattle.ignore_rules.specs.Lines.{Rule, rules_of}
-use Rattle.named_files.specs.Finding.{Place, IsNamed, Lists}
+use Rattle.named_files.specs.Finding.{FoundPath, IsNamed, Lists}
 use Rattle.gqlfmt_run.specs.declared.fault.FileFault.{FileFault}
 use Rattle.gqlfmt_run.specs.declared.fault.FileFault.TheVariants.{NotRead, Device}
 use Rattle.gqlfmt_run.specs.declared.job.Bounds.{Bounds}
@@ -51,7 +51,7 @@ module _ {S : Type 0} (lists : S → List ℕ → Listing → S → Type 0) (rea
     (replaces : S → List ℕ → List ℕ → Bool → S → Type 0) where
   -- The files that a path names are found, and then handled.
   pub record HandlesNamed (mode : Mode) (bounds : Bounds) (ignored : List (List Rule)) (path : List ℕ) (status : ℕ) (old new : Desk S) : Type 0 where
-    pub found : List Place
+    pub found : List FoundPath
     pub middle : S
     pub named : IsNamed lists ignored path found old.files middle
     pub handled : HandlesAll reads replaces mode bounds found status (record old { files = middle }) new

@@ -14,7 +14,7 @@ use Rattle.gqlfmt_run.specs.declared.fault.FileFault.{FileFault}
 use Rattle.gqlfmt_run.specs.declared.fault.FileFault.TheVariants.{NotRead, NotReplaced, Device}
 use Rattle.gqlfmt_files.specs.declared.settling.Settled.{Settled}
 use Rattle.gqlfmt_files.specs.declared.settling.Settled.TheVariants.{Done, Found}
-use Rattle.named_files.specs.Finding.{Place, file, unreadable, path_of}
+use Rattle.named_files.specs.Finding.{FoundPath, file, unreadable, path_of}
 use Rattle.gqlfmt_run.specs.Complaints.{SaysOfFile}
 use Rattle.gqlfmt_run.specs.Formatting.{IsLaidOut, IsRefused, IsChanged, IsListed}
 use Rattle.gqlfmt_run.specs.Input.{IsOutput}
@@ -87,15 +87,16 @@ module _ {S : Type 0} (reads : S → List ℕ → Result (List ℕ) Error → S 
   HandlesFile mode bounds path ended old output new output' = Handles mode bounds path ended old output new output'
 
   -- A file that was found is handled, and a path that could not be read is left alone.
-  abbrev pub HandlesPlace : Mode → Bounds → Place → Result Settled FileFault → S → Account → S → Account → Type 0
-  HandlesPlace mode bounds (file path) ended old output new output' = HandlesFile mode bounds path ended old output new output'
-  HandlesPlace mode bounds (unreadable path) (Err (NotRead error)) old output new output' = (new ≡ old) × (output' ≡ output)
-  HandlesPlace mode bounds place ended old output new output' = ⊥
+  abbrev pub HandlesFound : Mode → Bounds → FoundPath → Result Settled FileFault → S → Account → S → Account → Type 0
+  HandlesFound mode bounds (file path) ended old output new output' = HandlesFile mode bounds path ended old output new output'
+  HandlesFound mode bounds (unreadable path) (Err (NotRead error)) old output new output' = (new ≡ old) × (output' ≡ output)
+  HandlesFound mode bounds found_path ended old output new output' = ⊥
 
   -- These were handled, one after the other, and the status is the greatest of theirs. Why one was not formatted is said.
-  abbrev pub HandlesAll : Mode → Bounds → List Place → ℕ → Desk S → Desk S → Type 0
+  abbrev pub HandlesAll : Mode → Bounds → List FoundPath → ℕ → Desk S → Desk S → Type 0
   HandlesAll mode bounds [] status old new = (status ≡ 0) × (new ≡ old)
-  HandlesAll mode bounds (place ∷ found) status old new =
+  HandlesAll mode bounds (found_path ∷ found) status old new =
       (ended : Result Settled FileFault) × (rest : ℕ) × (next : Desk S) × (status ≡ max (status_of ended) rest)
-      × HandlesPlace mode bounds place ended old.files old.output next.files next.output × SaysOfFile (path_of place) ended old.complaints next.complaints
+      × HandlesFound mode bounds found_path ended old.files old.output next.files next.output
+      × SaysOfFile (path_of found_path) ended old.complaints next.complaints
       × HandlesAll mode bounds found rest next new

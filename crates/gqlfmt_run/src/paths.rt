@@ -2,7 +2,7 @@
 ghost use Rattle.std.specs.Prelude.{◌≡◌, OnErr, map};
 ghost use Rattle.named_files.specs.Finding.{as_named};
 ghost use Rattle.gqlfmt_run.specs.Complaints.{IsSilent};
-ghost use Rattle.gqlfmt_run.specs.Paths.{Handles, HandlesAll, HandlesFile, HandlesPlace, Prints};
+ghost use Rattle.gqlfmt_run.specs.Paths.{Handles, HandlesAll, HandlesFile, HandlesFound, Prints};
 ghost use Rattle.gqlfmt_files.specs.declared.settling.Mode.TheVariants.{Print};
 ghost use Rattle.gqlfmt_run.specs.Showing.{Shows};
 
@@ -122,7 +122,7 @@ impl<A: Allocator + Copy, L: DocumentFormatter + ErrorFinder> Job<'_, A, L> {
         complaints: &mut E,
         named: &Named<A>,
     ) -> Result<Settled, FileFault>
-        ensures handles { HandlesPlace F.reads F.replaces self.now.mode self.now.bounds (as_named named.now) result
+        ensures handles { HandlesFound F.reads F.replaces self.now.mode self.now.bounds (as_named named.now) result
             files.old (W.account writer.old) files.new (W.account writer.new) }
         ensures silent { IsSilent result (E.account complaints.old) (E.account complaints.new) }
     {

@@ -11,16 +11,16 @@ use Rattle.named_files.specs.declared.finding.Named.TheVariants as variant
 use Rattle.named_files.specs.Names.{is_hidden, is_of_others, is_graphql, path_in}
 
 -- A path where there is a file, where there may be a folder, or where something could not be read.
-pub data Place : Type 0 where
-  file : List ℕ → Place
-  folder : List ℕ → Place
-  unreadable : List ℕ → Place
+pub data FoundPath : Type 0 where
+  file : List ℕ → FoundPath
+  folder : List ℕ → FoundPath
+  unreadable : List ℕ → FoundPath
 
-abbrev pub as_named : {A : Type 0} → Named A → Place
+abbrev pub as_named : {A : Type 0} → Named A → FoundPath
 as_named (variant.File path) = file (string_bytes path)
 as_named (variant.Failed path error) = unreadable (string_bytes path)
 
-abbrev pub path_of : Place → List ℕ
+abbrev pub path_of : FoundPath → List ℕ
 path_of (file path) = path
 path_of (folder path) = path
 path_of (unreadable path) = path
@@ -29,48 +29,48 @@ path_of (unreadable path) = path
 abbrev pub is_left_out : List (List Rule) → List ℕ → Bool → Bool
 is_left_out ignored path is_folder = list_any (λ rules. ignores rules path is_folder) ignored
 
-abbrev pub unless : Bool → Place → Option Place
-unless left_out place = if left_out then None else Some place
+abbrev pub unless : Bool → FoundPath → Option FoundPath
+unless left_out found_path = if left_out then None else Some found_path
 
--- The place, if it is looked at, by a path, a name and its kind: a folder that package managers do not fill, or a file whose name is a GraphQL file's,
+-- What is looked at, by a path, a name and its kind: a folder that package managers do not fill, or a file whose name is a GraphQL file's,
 -- unless it is left out. Symbolic links, pipes and devices never are looked at.
-abbrev pub place_of : List (List Rule) → List ℕ → List ℕ → Kind → Option Place
-place_of ignored path name kind.File = if is_graphql name then unless (is_left_out ignored path false) (file path) else None
-place_of ignored path name kind.Folder = if is_of_others name then None else unless (is_left_out ignored path true) (folder path)
-place_of ignored path name kind.Other = None
-place_of ignored path name (kind.Failed error) = Some (unreadable path)
+abbrev pub found_path_of : List (List Rule) → List ℕ → List ℕ → Kind → Option FoundPath
+found_path_of ignored path name kind.File = if is_graphql name then unless (is_left_out ignored path false) (file path) else None
+found_path_of ignored path name kind.Folder = if is_of_others name then None else unless (is_left_out ignored path true) (folder path)
+found_path_of ignored path name kind.Other = None
+found_path_of ignored path name (kind.Failed error) = Some (unreadable path)
 
 -- the same of an entry of a folder, if it is not hidden
-abbrev pub place_in : List (List Rule) → List ℕ → Entry → Option Place
-place_in ignored path entry = if is_hidden entry.name then None else place_of ignored (path_in path entry.name) entry.name entry.kind
+abbrev pub found_path_in : List (List Rule) → List ℕ → Entry → Option FoundPath
+found_path_in ignored path entry = if is_hidden entry.name then None else found_path_of ignored (path_in path entry.name) entry.name entry.kind
 
 -- What is found at a path. Where that is nothing, the path counts as unreadable, unless it is left out itself.
-abbrev pub named : List (List Rule) → List ℕ → List Place → List Place
+abbrev pub named : List (List Rule) → List ℕ → List FoundPath → List FoundPath
 named ignored path [] = if is_left_out ignored path false || is_left_out ignored path true then [] else unreadable path ∷ []
-named ignored path (place ∷ found) = place ∷ found
+named ignored path (found_path ∷ found) = found_path ∷ found
 
 -- the folders, as a trait tells what listing one does, and the rules of each ignore file
 module _ {S : Type 0} (lists : S → List ℕ → Listing → S → Type 0) (ignored : List (List Rule)) where
-  -- `Finds places found old new`: what is found at these places, one after the other, and below them: files, and what could not be read.
-  pub data Finds : List Place → List Place → S → S → Type 0 where
+  -- `Finds waiting found old new`: what is found at the paths that wait, one after the other, and below them: files, and what could not be read.
+  pub data Finds : List FoundPath → List FoundPath → S → S → Type 0 where
     nothing : {state : S} → Finds [] [] state state
-    at_file : {path : List ℕ} {places found : List Place} {old new : S}
-        → Finds places found old new → Finds (file path ∷ places) (file path ∷ found) old new
-    at_unreadable : {path : List ℕ} {places found : List Place} {old new : S}
-        → Finds places found old new → Finds (unreadable path ∷ places) (unreadable path ∷ found) old new
-    at_folder : {path : List ℕ} {has : List Entry} {places found : List Place} {old middle new : S}
+    at_file : {path : List ℕ} {waiting found : List FoundPath} {old new : S}
+        → Finds waiting found old new → Finds (file path ∷ waiting) (file path ∷ found) old new
+    at_unreadable : {path : List ℕ} {waiting found : List FoundPath} {old new : S}
+        → Finds waiting found old new → Finds (unreadable path ∷ waiting) (unreadable path ∷ found) old new
+    at_folder : {path : List ℕ} {has : List Entry} {waiting found : List FoundPath} {old middle new : S}
         → lists old path (entries has) middle
-        → Finds (filter_map (place_in ignored path) has ++ places) found middle new → Finds (folder path ∷ places) found old new
-    at_no_folder : {path : List ℕ} {places found : List Place} {old middle new : S}
-        → lists old path no_folder middle → Finds places found middle new
-        → Finds (folder path ∷ places) (cons_option (unless (is_left_out ignored path false) (file path)) found) old new
-    at_unlisted : {path : List ℕ} {places found : List Place} {old middle new : S}
-        → lists old path unlisted middle → Finds places found middle new
-        → Finds (folder path ∷ places) (cons_option (unless (is_left_out ignored path true) (unreadable path)) found) old new
+        → Finds (filter_map (found_path_in ignored path) has ++ waiting) found middle new → Finds (folder path ∷ waiting) found old new
+    at_no_folder : {path : List ℕ} {waiting found : List FoundPath} {old middle new : S}
+        → lists old path no_folder middle → Finds waiting found middle new
+        → Finds (folder path ∷ waiting) (cons_option (unless (is_left_out ignored path false) (file path)) found) old new
+    at_unlisted : {path : List ℕ} {waiting found : List FoundPath} {old middle new : S}
+        → lists old path unlisted middle → Finds waiting found middle new
+        → Finds (folder path ∷ waiting) (cons_option (unless (is_left_out ignored path true) (unreadable path)) found) old new
 
   -- these are the files that a path names
-  pub record IsNamed (path : List ℕ) (found : List Place) (old new : S) : Type 0 where
-    pub all : List Place
+  pub record IsNamed (path : List ℕ) (found : List FoundPath) (old new : S) : Type 0 where
+    pub all : List FoundPath
     pub finds : Finds (folder path ∷ []) all old new
     pub is : found ≡ named ignored path all
 

@@ -2,25 +2,25 @@
 use Rattle.std.specs.Prelude.{◌≡◌, ◌++◌, ℕ, List, map, reverse, string_bytes}
 use Rattle.gqlfmt_files.specs.Listing.{Listing}
 use Rattle.ignore_rules.specs.Lines.{Rule}
-use Rattle.named_files.specs.declared.finding.Place.{Place as PlaceToLookAt}
-use Rattle.named_files.specs.declared.finding.Place.TheVariants as place
+use Rattle.named_files.specs.declared.finding.FoundPath.{FoundPath as WaitingPath}
+use Rattle.named_files.specs.declared.finding.FoundPath.TheVariants as found_path
 use Rattle.named_files.specs.declared.finding.Search.{Search}
-use Rattle.named_files.specs.Finding.{Place, file, folder, unreadable, Finds, as_named}
+use Rattle.named_files.specs.Finding.{FoundPath, file, folder, unreadable, Finds, as_named}
 
-abbrev pub as_place : {A : Type 0} → PlaceToLookAt A → Place
-as_place (place.File path) = file (string_bytes path)
-as_place (place.Folder path) = folder (string_bytes path)
-as_place (place.Failed path error) = unreadable (string_bytes path)
+abbrev pub as_found_path : {A : Type 0} → WaitingPath A → FoundPath
+as_found_path (found_path.File path) = file (string_bytes path)
+as_found_path (found_path.Folder path) = folder (string_bytes path)
+as_found_path (found_path.Failed path error) = unreadable (string_bytes path)
 
-abbrev pub places_of : {A : Type 0} → Search A → List Place
-places_of search = reverse (map as_place search.places.items)
+abbrev pub waiting_of : {A : Type 0} → Search A → List FoundPath
+waiting_of search = reverse (map as_found_path search.waiting.items)
 
-abbrev pub found_by : {A : Type 0} → Search A → List Place
+abbrev pub found_by : {A : Type 0} → Search A → List FoundPath
 found_by search = map as_named search.found.items
 
--- From some places and what was found before, a search came to other places and has found more: what is found from there on is found after that.
+-- From paths that wait and what was found before, a search came to others and has found more: what is found from there on is found after that.
 pub record Advances {S : Type 0} (lists : S → List ℕ → Listing → S → Type 0) (ignored : List (List Rule))
-    (places found : List Place) (old : S) (places' found' : List Place) (new : S) : Type 0 where
-  pub added : List Place
+    (waiting found : List FoundPath) (old : S) (waiting' found' : List FoundPath) (new : S) : Type 0 where
+  pub added : List FoundPath
   pub is : found' ≡ found ++ added
-  pub onward : (rest : List Place) (final : S) → Finds lists ignored places' rest new final → Finds lists ignored places (added ++ rest) old final
+  pub onward : (rest : List FoundPath) (final : S) → Finds lists ignored waiting' rest new final → Finds lists ignored waiting (added ++ rest) old final

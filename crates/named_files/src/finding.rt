@@ -3,8 +3,8 @@ ghost use Rattle.std.specs.Prelude.{◌≡◌, ◌++◌, [], ◌∷◌, map, IfO
 ghost use Rattle.std.specs.List.{cons_option, filter_map};
 ghost use Rattle.gqlfmt_files.specs.Listing.{as_entry};
 ghost use Rattle.ignore_rules.specs.Ignored.{as_rules};
-ghost use Rattle.named_files.specs.Finding.{Finds, IsNamed, Lists, as_named, folder, is_left_out, named, path_of, place_in, place_of, unless};
-ghost use Rattle.named_files.specs.Search.{Advances, as_place, found_by, places_of};
+ghost use Rattle.named_files.specs.Finding.{Finds, IsNamed, Lists, as_named, folder, is_left_out, named, path_of, found_path_in, found_path_of, unless};
+ghost use Rattle.named_files.specs.Search.{Advances, as_found_path, found_by, waiting_of};
 
 use crate::names::{is_graphql, is_hidden, is_of_others, path_in};
 use gqlfmt_files::{Entry, Files, Kind};
@@ -34,7 +34,7 @@ impl<A: Allocator> Named<A> {
 
 // A path that is still to be looked at.
 #[derive(Drop)]
-enum Place<A: Allocator> {
+enum FoundPath<A: Allocator> {
     File(String<A>),
     // of a folder, or where nothing is known of it
     Folder(String<A>),
@@ -57,55 +57,55 @@ fn is_left_out<A: Allocator + Copy>(
     Ok(false)
 }
 
-// The place with this path and name, if it is looked at.
-fn place_of<A: Allocator + Copy>(
+// What has this path and name, if it is looked at.
+fn found_path_of<A: Allocator + Copy>(
     ignored: &[Rules<A>],
     path: String<A>,
     name: &str,
     kind: Kind,
-) -> Result<Option<Place<A>>, AllocError>
-    ensures { IfOk result (λ place. option_map as_place place ≡ place_of (map as_rules ignored.now) (string_bytes path) name.now kind) }
+) -> Result<Option<FoundPath<A>>, AllocError>
+    ensures { IfOk result (λ found_path. option_map as_found_path found_path ≡ found_path_of (map as_rules ignored.now) (string_bytes path) name.now kind) }
 {
     match kind {
         Kind::File if is_graphql(name) => {
             if is_left_out(ignored, path.as_str(), false)? {
                 return Ok(None);
             }
-            Ok(Some(Place::File(path)))
+            Ok(Some(FoundPath::File(path)))
         }
         Kind::Folder if !is_of_others(name) => {
             if is_left_out(ignored, path.as_str(), true)? {
                 return Ok(None);
             }
-            Ok(Some(Place::Folder(path)))
+            Ok(Some(FoundPath::Folder(path)))
         }
-        Kind::Failed(error) => Ok(Some(Place::Failed(path, error))),
+        Kind::Failed(error) => Ok(Some(FoundPath::Failed(path, error))),
         Kind::File | Kind::Folder | Kind::Other => Ok(None),
     }
 }
 
-// The place of an entry of a folder, if it is looked at.
-fn place_in<A: Allocator + Copy, B: Allocator>(
+// The path of an entry of a folder, if it is looked at.
+fn found_path_in<A: Allocator + Copy, B: Allocator>(
     alloc: A,
     ignored: &[Rules<A>],
     folder: &str,
     entry: &Entry<B>,
-) -> Result<Option<Place<A>>, AllocError>
-    ensures { IfOk result (λ place. option_map as_place place ≡ place_in (map as_rules ignored.now) folder.now (as_entry entry.now)) }
+) -> Result<Option<FoundPath<A>>, AllocError>
+    ensures { IfOk result (λ found_path. option_map as_found_path found_path ≡ found_path_in (map as_rules ignored.now) folder.now (as_entry entry.now)) }
 {
     let name = entry.name.as_str();
     if is_hidden(name) {
         return Ok(None);
     }
     let path = path_in(alloc, folder, name)?;
-    place_of(ignored, path, name, entry.kind)
+    found_path_of(ignored, path, name, entry.kind)
 }
 
-// What is found, and the places that are still to be looked at, the next one last.
+// What is found, and the paths that wait to be looked at, the next one last.
 #[derive(Drop)]
 struct Search<A: Allocator> {
     alloc: A,
-    places: Vec<Place<A>, A>,
+    waiting: Vec<FoundPath<A>, A>,
     found: Vec<Named<A>, A>,
 }
 
@@ -113,15 +113,15 @@ impl<A: Allocator + Copy> Search<A> {
     // Before it looks at the path that it begins with.
     #[tactic(auto, using(crate::proofs::SearchLemmas::reverse_more))]
     fn from(alloc: A, path: &str) -> Result<Search<A>, AllocError>
-        ensures places { IfOk result (λ search. places_of search ≡ folder path.now ∷ []) }
+        ensures waiting { IfOk result (λ search. waiting_of search ≡ folder path.now ∷ []) }
         ensures found { IfOk result (λ search. found_by search ≡ []) }
     {
         let path = String::from_str(alloc, path)?;
-        let mut places = Vec::new(alloc);
-        places.push(Place::Folder(path))?;
+        let mut waiting = Vec::new(alloc);
+        waiting.push(FoundPath::Folder(path))?;
         Ok(Search {
             alloc,
-            places,
+            waiting,
             found: Vec::new(alloc),
         })
     }
@@ -134,12 +134,12 @@ impl<A: Allocator + Copy> Search<A> {
         folder: &str,
         entry: &Entry<A>,
     ) -> Result<(), AllocError>
-        ensures places { OnOk result (places_of self.new
-            ≡ cons_option (place_in (map as_rules ignored.now) folder.now (as_entry entry.now)) (places_of self.old)) }
+        ensures waiting { OnOk result (waiting_of self.new
+            ≡ cons_option (found_path_in (map as_rules ignored.now) folder.now (as_entry entry.now)) (waiting_of self.old)) }
         ensures found { found_by self.new ≡ found_by self.old }
     {
-        if let Some(place) = place_in(self.alloc, ignored, folder, entry)? {
-            self.places.push(place)?;
+        if let Some(found_path) = found_path_in(self.alloc, ignored, folder, entry)? {
+            self.waiting.push(found_path)?;
         }
         Ok(())
     }
@@ -152,8 +152,8 @@ impl<A: Allocator + Copy> Search<A> {
         folder: &str,
         mut entries: Vec<Entry<A>, A>,
     ) -> Result<(), AllocError>
-        ensures places { OnOk result (places_of self.new
-            ≡ filter_map (place_in (map as_rules ignored.now) folder.now) (map as_entry entries.items) ++ places_of self.old) }
+        ensures waiting { OnOk result (waiting_of self.new
+            ≡ filter_map (found_path_in (map as_rules ignored.now) folder.now) (map as_entry entries.items) ++ waiting_of self.old) }
         ensures found { found_by self.new ≡ found_by self.old }
     {
         while let Some(entry) = entries.pop() {
@@ -164,7 +164,7 @@ impl<A: Allocator + Copy> Search<A> {
 
     // Adds what is found.
     fn add(&mut self, named: Named<A>) -> Result<(), AllocError>
-        ensures places { places_of self.new ≡ places_of self.old }
+        ensures waiting { waiting_of self.new ≡ waiting_of self.old }
         ensures found { OnOk result (found_by self.new ≡ found_by self.old ++ as_named named ∷ []) }
     {
         self.found.push(named)?;
@@ -178,7 +178,7 @@ impl<A: Allocator + Copy> Search<A> {
         named: Named<A>,
         is_folder: bool,
     ) -> Result<(), AllocError>
-        ensures places { places_of self.new ≡ places_of self.old }
+        ensures waiting { waiting_of self.new ≡ waiting_of self.old }
         ensures found { OnOk result (found_by self.new ≡ found_by self.old
             ++ cons_option (unless (is_left_out (map as_rules ignored.now) (path_of (as_named named)) is_folder) (as_named named)) []) }
     {
@@ -188,21 +188,21 @@ impl<A: Allocator + Copy> Search<A> {
         self.add(named)
     }
 
-    // Looks at a place: adds what is found there, or has the entries of a folder looked at next.
+    // Looks at a path: adds what is found there, or has the entries of a folder looked at next.
     fn look<F: Files>(
         &mut self,
         files: &mut F,
         ignored: &[Rules<A>],
-        place: Place<A>,
+        found_path: FoundPath<A>,
     ) -> Result<(), AllocError>
-        ensures ok { OnOk result (Advances F.lists (map as_rules ignored.now) (as_place place ∷ places_of self.old) (found_by self.old) files.old
-            (places_of self.new) (found_by self.new) files.new) }
+        ensures ok { OnOk result (Advances F.lists (map as_rules ignored.now) (as_found_path found_path ∷ waiting_of self.old) (found_by self.old) files.old
+            (waiting_of self.new) (found_by self.new) files.new) }
         ensures lists { Lists F.lists files.old files.new }
     {
-        match place {
-            Place::File(path) => self.add(Named::File(path)),
-            Place::Failed(path, error) => self.add(Named::Failed(path, error)),
-            Place::Folder(path) => match files.list(self.alloc, path.as_str()) {
+        match found_path {
+            FoundPath::File(path) => self.add(Named::File(path)),
+            FoundPath::Failed(path, error) => self.add(Named::Failed(path, error)),
+            FoundPath::Folder(path) => match files.list(self.alloc, path.as_str()) {
                 Ok(Some(entries)) => self.put_all(ignored, path.as_str(), entries),
                 Ok(None) => self.keep(ignored, Named::File(path), false),
                 Err(error) => self.keep(ignored, Named::Failed(path, error), true),
@@ -223,10 +223,10 @@ fn find<F: Files, A: Allocator + Copy>(
 {
     let mut search = Search::from(alloc, path)?;
     for _ in 0..u64::MAX {
-        let Some(place) = search.places.pop() else {
+        let Some(found_path) = search.waiting.pop() else {
             return Ok(search.found);
         };
-        search.look(files, ignored, place)?;
+        search.look(files, ignored, found_path)?;
     }
     // never reached: no memory has room for 2^64 paths
     Err(AllocError)
@@ -251,7 +251,7 @@ fn or_failed<A: Allocator + Copy>(
 }
 
 /// The files that a path names: its own, or the GraphQL files below a folder in the order of their paths, one name after the other. What could not be
-/// read has a place among them, and the path itself where there are none. Hidden names, `node_modules` and symbolic links below the folder are left out,
+/// read is among them, and the path itself where there are none. Hidden names, `node_modules` and symbolic links below the folder are left out,
 /// and what the rules of an ignore file leave out, the path itself too.
 pub fn named_files<F: Files, A: Allocator + Copy>(
     alloc: A,

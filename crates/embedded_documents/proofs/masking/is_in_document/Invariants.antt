@@ -1,12 +1,12 @@
 use Rattle.std.proofs.Common.{◌≤◌, ◌-◌, length}
 use Rattle.std.specs.Prelude.{All}
-use Rattle.embedded_documents.specs.Steps.{IsPlaceIn}
+use Rattle.embedded_documents.specs.Steps.{IsContextIn}
 use Rattle.embedded_documents.proofs.masking.is_in_document.Given as goal
 
 abbrev pub invariant-loop-start : goal.invariant-loop-start
 invariant-loop-start l = record {
   within : l.start ≤ length l.text;
-  places : All (IsPlaceIn l.text) l.places.items;
+  contexts : All (IsContextIn l.text) l.contexts.items;
 }
 
 abbrev pub decreases-loop-start : goal.decreases-loop-start

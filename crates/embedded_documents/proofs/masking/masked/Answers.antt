@@ -11,7 +11,7 @@ loop-start-preserved c =
     subst (λ (text : List ℕ). IsTagged text step.result.is_document) c.as_bytes-bytes.ensures.value step.ensures.document in
     record {
       within = search rules;
-      places = search rules;
+      contexts = search rules;
       bytes = masked_more _ _ _ _ _ (omega (arith, step.ensures.from)) begun.bytes c.in_ok-push_part.ensures.part;
       untagged = blank_more _ _ _ _ _ _ (omega (arith, step.ensures.from)) document begun.untagged c.in_ok-push_part.ensures.untagged;
     }

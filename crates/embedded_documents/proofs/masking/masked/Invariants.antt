@@ -1,13 +1,13 @@
 use Rattle.std.proofs.Common.{◌≡◌, ◌≤◌, ◌-◌, length, map, take}
 use Rattle.std.specs.Prelude.{All, string_bytes}
 use Rattle.embedded_documents.specs.Masked.{AreMasked, HasTag, blank}
-use Rattle.embedded_documents.specs.Steps.{IsPlaceIn}
+use Rattle.embedded_documents.specs.Steps.{IsContextIn}
 use Rattle.embedded_documents.proofs.masking.masked.Given as goal
 
 abbrev pub invariant-loop-start : goal.invariant-loop-start
 invariant-loop-start l = record {
   within : l.start ≤ length l.text;
-  places : All (IsPlaceIn l.text) l.places.items;
+  contexts : All (IsContextIn l.text) l.contexts.items;
   bytes : AreMasked (take l.start l.text) (string_bytes l.masked);
   untagged : (¬ HasTag l.text) → string_bytes l.masked ≡ map blank (take l.start l.text);
 }

@@ -1,7 +1,7 @@
 use Rattle.std.proofs.Common.{[], ◌∷◌, List, map, subst}
 use Rattle.ignore_rules.specs.Ignored.{as_rules}
-use Rattle.named_files.specs.Finding.{Place, none, folder}
-use Rattle.named_files.specs.Search.{Advances, as_place, found_by}
+use Rattle.named_files.specs.Finding.{FoundPath, none, folder}
+use Rattle.named_files.specs.Search.{Advances, as_found_path, found_by}
 use Rattle.named_files.proofs.SearchLemmas.{popped, drained, stays, goes_on, ends, lists_on}
 use Rattle.named_files.proofs.finding.find.Goals as goal
 
@@ -11,17 +11,17 @@ returns-in_err-search-clause-lists g c = none
 pub loop-init : goal.loop-init
 loop-init g c = record {
   advances =
-      rw (c.in_ok-search.ensures.places, c.in_ok-search.ensures.found)
+      rw (c.in_ok-search.ensures.waiting, c.in_ok-search.ensures.found)
       (stays g.F.Files.lists (map as_rules c.args.ignored.now) (folder c.args.path.now ∷ []) [] c.args.files.now);
   lists = none;
 }
 
 pub returns-in_default-clause-ok : goal.returns-in_default-clause-ok
 returns-in_default-clause-ok g c =
-    let empty = drained as_place c.loop.search.places.items c.pop.new.self.items _ c.in_default.ensures.items c.in_default.ensures.rest
+    let empty = drained as_found_path c.loop.search.waiting.items c.pop.new.self.items _ c.in_default.ensures.items c.in_default.ensures.rest
     c.in_default.ensures.cases.0 in
     ends g.F.Files.lists (map as_rules c.args.ignored.now) _ _ _ _
-    (subst (λ (places : List Place). Advances g.F.Files.lists (map as_rules c.args.ignored.now) (folder c.args.path.now ∷ []) [] c.args.files.now places
+    (subst (λ (waiting : List FoundPath). Advances g.F.Files.lists (map as_rules c.args.ignored.now) (folder c.args.path.now ∷ []) [] c.args.files.now waiting
     (found_by c.loop.search) c.loop.files)
     empty c.loop.invariant.advances)
 
@@ -31,9 +31,9 @@ returns-in_err-look-clause-lists g c = lists_on g.F.Files.lists _ _ _ c.loop.inv
 pub loop-preserved : goal.loop-preserved
 loop-preserved g c = record {
   advances =
-      let next = popped as_place c.loop.search.places.items c.pop.new.self.items c.in-Some.place c.in-Some.ensures.items in
+      let next = popped as_found_path c.loop.search.waiting.items c.pop.new.self.items c.in-Some.found_path c.in-Some.ensures.items in
       goes_on g.F.Files.lists (map as_rules c.args.ignored.now) _ _ _ _ _ _ _ _ _
-      (subst (λ (places : List Place). Advances g.F.Files.lists (map as_rules c.args.ignored.now) (folder c.args.path.now ∷ []) [] c.args.files.now places
+      (subst (λ (waiting : List FoundPath). Advances g.F.Files.lists (map as_rules c.args.ignored.now) (folder c.args.path.now ∷ []) [] c.args.files.now waiting
       (found_by c.loop.search) c.loop.files)
       next c.loop.invariant.advances) c.in_ok-look.ensures.ok;
   lists = lists_on g.F.Files.lists _ _ _ c.loop.invariant.lists c.look.ensures.lists;

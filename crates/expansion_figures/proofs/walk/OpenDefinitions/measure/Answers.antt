@@ -1,7 +1,7 @@
 use Rattle.std.proofs.Common.{◌∙◌, map, arith}
 use Rattle.std.proofs.lemmas.List.{length-map}
 use Rattle.expansion_figures.proofs.Steps.{at_start, measured_root, ended}
-use Rattle.expansion_figures.proofs.walk.Walk.measure.Goals as goal
+use Rattle.expansion_figures.proofs.walk.OpenDefinitions.measure.Goals as goal
 
 pub loop-init : goal.loop-init
 loop-init g c =

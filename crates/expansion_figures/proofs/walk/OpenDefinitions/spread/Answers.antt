@@ -2,7 +2,7 @@ use Rattle.std.proofs.Common.{map, arith}
 use Rattle.std.proofs.lemmas.List.{length-map}
 use Rattle.expansion_figures.proofs.Steps.{undefined, cyclic, past_spread, entered, its_mark}
 use Rattle.expansion_figures.specs.declared.walk.Mark.TheVariants.{Untouched, Open, Done}
-use Rattle.expansion_figures.proofs.walk.Walk.spread.Goals as goal
+use Rattle.expansion_figures.proofs.walk.OpenDefinitions.spread.Goals as goal
 
 pub returns-then-fragment-definitions-clause-fault : goal.returns-then-fragment-definitions-clause-fault
 returns-then-fragment-definitions-clause-fault g c =

@@ -1,7 +1,7 @@
 use Rattle.std.proofs.Common.{map}
 use Rattle.expansion_figures.proofs.Steps.{past_other, out}
 use Rattle.expansion_figures.proofs.Expansions.{not_spread}
-use Rattle.expansion_figures.proofs.walk.Walk.step.Goals as goal
+use Rattle.expansion_figures.proofs.walk.OpenDefinitions.step.Goals as goal
 
 pub returns-in_default-clause-goes : goal.returns-in_default-clause-goes
 returns-in_default-clause-goes g c =
