@@ -224,6 +224,31 @@ def violations():
     client.end()
 
 
+def fragments_of_others():
+    """A fragment that another open document defines is known, and one that another spreads is used (5.5.1.4 and 5.5.2.1, with all open documents as one)."""
+    def codes(notice):
+        return [it["code"] for it in notice["diagnostics"]]
+
+    client = started()
+    other = "file:///b.graphql"
+    expect("no fragment of this name", codes(client.open(URI, "{ ...F }")), ["KnownFragmentNames"])
+    expect("a fragment that another document spreads", codes(client.open(other, "fragment F on A { ...G }")), ["KnownFragmentNames"])
+    expect("a fragment that another document defines", codes(client.change(URI, 1, [])), [])
+    expect("a fragment that no other spreads", codes(client.open(other, "fragment F on A { a } fragment G on A { a }")), ["NoUnusedFragments"])
+    expect("spread by it", codes(client.change(URI, 2, [{"text": "{ ...F ...G }"}])), [])
+    expect("both used", codes(client.change(other, 1, [])), [])
+    expect("two errors elsewhere", codes(client.open("file:///c.graphql", "{ ...F ...H a(b: 1, b: 2) }")), ["UniqueArgumentNames", "KnownFragmentNames"])
+    expect("in a file with a syntax error", codes(client.open(other, "fragment F on A { a } {")), ["syntax"])
+    expect("F is known, and G is not", codes(client.change(URI, 3, [])), ["KnownFragmentNames"])
+    client.close(other)
+    expect("none of them", codes(client.change(URI, 4, [])), ["KnownFragmentNames"] * 2)
+    client.open("file:///d.graphql", "{ " + "".join(f"...F{n} " for n in range(200)) + "}")
+    text = "".join(f"fragment F{n} on A {{ a }}\n" for n in range(300))
+    expect("a hundred of which no other has a use", len(codes(client.open("file:///e.graphql", text + "query Q($a: A) { a }"))), 100)
+    expect("two hundred that another uses", codes(client.open("file:///e.graphql", "".join(text.splitlines(True)[:200]) + "query Q($a: A) { a }")), ["NoUnusedVariables"])
+    client.end()
+
+
 def diagnostics():
     def found(text):
         return [(it["range"], it["severity"], it["source"], it["message"]) for it in client.open(URI, text)["diagnostics"]]
@@ -749,7 +774,7 @@ def many_changes():
             client.end()
 
 
-TESTS = [states, statuses_without_shutdown, faulty_messages, pieces_of_input, capabilities, changes, positions, diagnostics, violations, lambda: names("utf-16", 0), lambda: names("utf-8", 2), markups, other_documents, members, uses_of_names, open_quotes, templates, changed_templates,
+TESTS = [states, statuses_without_shutdown, faulty_messages, pieces_of_input, capabilities, changes, positions, diagnostics, violations, fragments_of_others, lambda: names("utf-16", 0), lambda: names("utf-8", 2), markups, other_documents, members, uses_of_names, open_quotes, templates, changed_templates,
          lambda: parts("utf-16", 0), lambda: parts("utf-8", 2), names_of_symbols, more_folds, completion, layout, long_layout, layout_of_long_lines, limits, refused_words, standard, signatures, many_changes]
 for test in TESTS:
     test()

@@ -1,1 +1,3 @@
+pub mod Fragments
+pub mod Mending
 pub mod Remarks

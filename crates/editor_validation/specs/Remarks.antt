@@ -1,5 +1,6 @@
 -- Remarks on a document: its syntax errors, or the rules of validation that it breaks.
-use Rattle.std.specs.Prelude.{◌≡◌, ℕ, Bool, ◌||◌, if◌then◌else◌, List, [], ◌∷◌, map, find, unwrap_or}
+use Rattle.std.specs.Prelude.{◌≡◌, ℕ, Bool, not, ◌||◌, if◌then◌else◌, List, [], ◌∷◌, map, find, take, unwrap_or}
+use Rattle.std.specs.List.{filter}
 use Rattle.document_grammar.specs.declared.kind.SyntaxKind.TheVariants.{ENUM_VALUE, FRAGMENT_NAME, NAME, VARIABLE}
 use Rattle.document_grammar.specs.Numbers.{is_kind}
 use Rattle.apollo_tree.specs.Order.{Place, kind_at, range_at}
@@ -16,6 +17,8 @@ use Rattle.editor_diagnostics.specs.Remarks.{Remarked}
 use Rattle.editor_diagnostics.specs.Syntax.{IsAboutFirst, syntax_remarks}
 use Rattle.editor_diagnostics.specs.declared.remark.Severity.{Severity}
 use Rattle.editor_diagnostics.specs.declared.remark.Severity.TheVariants.{Error, Warning}
+use Rattle.editor_validation.specs.Fragments.{Fragments}
+use Rattle.editor_validation.specs.Mending.{is_mended}
 
 -- a warning where something is never used or another file may define it, and else an error
 abbrev pub severity_of : Rule → Severity
@@ -41,11 +44,12 @@ remark_of b = record {
   message = message_of b;
 }
 
--- there is a remark for each breach of a rule, or for a hundred of them
-pub record AreRemarks (document : Place) (remarks : List Remarked) : Type 0 where
+-- There is a remark for each breach of a rule that no other document mends, up to a hundred of them; of more than ten thousand breaches some ten thousand
+-- are looked at.
+pub record AreRemarks (others : List Fragments) (document : Place) (remarks : List Remarked) : Type 0 where
   pub breaches : List Breach
-  pub exact : AreBreaches 100 (BreaksAs (document_kind document) document) breaches
-  pub are : remarks ≡ map remark_of breaches
+  pub exact : AreBreaches 10000 (BreaksAs (document_kind document) document) breaches
+  pub are : remarks ≡ map remark_of (take 100 (filter (λ b. not (is_mended others b)) breaches))
 
 -- ---- all remarks
 
@@ -54,7 +58,7 @@ abbrev pub definition_starts : Place → List ℕ
 definition_starts document = map (λ p. (range_at p).0) (child_nodes document)
 
 -- the remarks on a document with these syntax errors: on the errors, and the first of them is about the first; without errors, on broken rules
-abbrev pub AreRemarksOn : Place → List Diagnostic → List Remarked → Type 0
-AreRemarksOn document [] remarks = AreRemarks document remarks
-AreRemarksOn document (error ∷ errors) remarks =
+abbrev pub AreRemarksOn : List Fragments → Place → List Diagnostic → List Remarked → Type 0
+AreRemarksOn others document [] remarks = AreRemarks others document remarks
+AreRemarksOn others document (error ∷ errors) remarks =
     (remarks ≡ syntax_remarks (definition_starts document) (error ∷ errors)) × IsAboutFirst (error ∷ errors) remarks

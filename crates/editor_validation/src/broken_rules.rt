@@ -3,8 +3,11 @@ ghost use Rattle.std.specs.Prelude.{◌≡◌, IfOk, map};
 ghost use Rattle.apollo_tree.specs.References.{node_place};
 ghost use Rattle.definition_rules.specs.Violations.{as_breach};
 ghost use Rattle.editor_diagnostics.specs.Remarks.{as_remarked};
+ghost use Rattle.editor_validation.specs.Fragments.{as_fragments};
 ghost use Rattle.editor_validation.specs.Remarks.{AreRemarks, marked, names, remark_of, severity_of};
 
+use crate::fragments::FragmentNames;
+use crate::mending::unmended;
 use apollo_tree::{SyntaxKind, SyntaxNode};
 use apollo_validation::{Rule, Violation, message, validate};
 use editor_diagnostics::{Remark, Severity};
@@ -12,6 +15,9 @@ use std::alloc::{AllocError, Global};
 
 // How many remarks on a document a client gets.
 const MOST: usize = 100;
+
+// Among how many violations those are that no other document mends.
+const MOST_VIOLATIONS: usize = 10_000;
 
 fn severity_of(rule: Rule) -> Severity
     ensures { result ≡ severity_of rule }
@@ -64,18 +70,29 @@ fn remark_of(alloc: Global, violation: &Violation<'_>) -> Result<Remark, AllocEr
     })
 }
 
-/// One remark for each place at which a document breaks a rule of validation, by the root of its tree; at most a hundred of them. It fails only where
-/// memory is refused.
-pub(crate) fn rule_remarks(
-    alloc: Global,
-    document: &SyntaxNode<'_>,
-) -> Result<Vec<Remark>, AllocError>
-    ensures { IfOk result (λ found. AreRemarks (node_place document.now) (map as_remarked found.items)) }
+fn remarks_of(alloc: Global, violations: &[Violation<'_>]) -> Result<Vec<Remark>, AllocError>
+    ensures { IfOk result (λ found. map as_remarked found.items ≡ map remark_of (map as_breach violations.now)) }
 {
-    let violations = validate(alloc, document, MOST)?;
     let mut found = Vec::new(alloc);
-    for violation in &violations {
+    for violation in violations {
         found.push(remark_of(alloc, violation)?)?;
     }
+    Ok(found)
+}
+
+/// One remark for each place at which a document breaks a rule of validation and no other document mends that, by the root of its tree and the fragments of
+/// the others; at most a hundred of them. It fails only where memory is refused.
+pub(crate) fn rule_remarks<'t>(
+    alloc: Global,
+    document: &SyntaxNode<'t>,
+    others: &[&'t FragmentNames],
+) -> Result<Vec<Remark>, AllocError>
+    ensures { IfOk result (λ found. AreRemarks (map (λ f. as_fragments f.now) others.now) (node_place document.now) (map as_remarked found.items)) }
+{
+    let violations = validate(alloc, document, MOST_VIOLATIONS)?;
+    let mut kept = unmended(alloc, violations.as_slice(), others)?;
+    kept.truncate(MOST);
+    // bound to a name, so that its clauses on `Ok` are found
+    let found = remarks_of(alloc, kept.as_slice())?;
     Ok(found)
 }

@@ -5,5 +5,8 @@
 
 mod all_remarks;
 mod broken_rules;
+mod fragments;
+mod mending;
 
 pub use all_remarks::remarks;
+pub use fragments::{FragmentNames, fragment_names};

@@ -5,4 +5,5 @@ pub mod Layouts
 pub mod Maps
 pub mod Messages
 pub mod Numbers
+pub mod Others
 pub mod Texts

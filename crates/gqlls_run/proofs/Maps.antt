@@ -1,17 +1,20 @@
 -- Open documents by their names.
-use Rattle.std.proofs.Common.{◌≡◌, ℕ, Bool, true, false, List, Option, option_map, nat_cmp, refl, sym, ap, ◌∙◌, subst}
-use Rattle.std.proofs.Common.{String, BTreeMap, string_bytes, string_cmp}
+use Rattle.std.proofs.Common.{◌≡◌, ℕ, ◌<◌, suc, zero, Bool, true, false, List, [], ◌∷◌, map, Option, Some, option_map, nat_cmp, refl, sym, ap, ◌∙◌}
+use Rattle.std.proofs.Common.{String, BTreeMap, string_bytes, string_cmp, subst, arith}
+use Rattle.std.specs.Prelude.{◌↔◌, cond, is_some, unwrap_or}
+use Rattle.std.specs.List.{All, Contains}
+use Rattle.std.specs.Map.{lookup, values_of}
+use Rattle.std.specs.String.{string_cmp_total}
 use Rattle.std.specs.Cmp.Lexicographic.{slice_cmp}
 use Rattle.std.specs.Str.{bytes_eq}
-use Rattle.std.specs.BTreeMap.{get_by_text, UpdatesBy}
+use Rattle.std.specs.BTreeMap.{IsOrdered, UpdatesBy, get_by_text, is_at, values}
 use Rattle.std.specs.Bool.{Decides}
 use Rattle.std.proofs.lemmas.Map.{update_other}
 use Rattle.std.proofs.lemmas.Map.Text.{btree_map_updates_text}
+use Rattle.std.proofs.lemmas.Map.Views.{All-found}
 use Rattle.std.proofs.lemmas.Slice.Eq.{bytes_eq-Decides}
 use Rattle.gqlls_run.specs.declared.documents.Document.{Document}
 use Rattle.gqlls_run.specs.Dialogue.{Updates}
-use Rattle.gqlls_run.specs.Files.{OpenFile}
-use Rattle.gqlls_run.specs.State.{file_of, files}
 
 -- a test that decides a false fact is false
 refuted : {P : Type 0} (r : Bool) → Decides r P → ¬ P → r ≡ false
@@ -19,15 +22,54 @@ refuted true d refutes = absurd (refutes (d.0 refl))
 refuted false d refutes = refl
 
 -- what a map has after a change at one name
-pub updated : {A : Type 0} (uri key : List ℕ) (old new : BTreeMap (String A) Document) (document : Option Document) (file : Option OpenFile) → key ≡ uri
-    → UpdatesBy string_cmp (λ k. slice_cmp nat_cmp key (string_bytes k)) old new document → option_map file_of document ≡ file
-    → Updates uri file (files old) (files new)
-updated uri key old new document file is updates has =
-    let at : (u : List ℕ) → Type 0 = λ u. Updates u file (files old) (files new) in
+pub updated : {A B : Type 0} (kept : Document → B) (uri key : List ℕ) (old new : BTreeMap (String A) Document) (document : Option Document) (value : Option B)
+    → key ≡ uri → UpdatesBy string_cmp (λ k. slice_cmp nat_cmp key (string_bytes k)) old new document → option_map kept document ≡ value
+    → Updates uri value (λ name. option_map kept (get_by_text old name)) (λ name. option_map kept (get_by_text new name))
+updated {B = B} kept uri key old new document value is updates has =
+    let before : List ℕ → Option B = λ name. option_map kept (get_by_text old name) in
+    let after : List ℕ → Option B = λ name. option_map kept (get_by_text new name) in
+    let at : (u : List ℕ) → Type 0 = λ u. Updates u value before after in
     subst at is (record {
-      this = ap (option_map file_of) updates.1 ∙ has;
+      this = ap (option_map kept) updates.1 ∙ has;
       others = λ name apart.
           let differs = refuted (bytes_eq key name) (bytes_eq-Decides key name) (λ e. apart (sym e)) in
-          ap (option_map file_of)
+          ap (option_map kept)
           (btree_map_updates_text key old new document updates name ∙ update_other bytes_eq (get_by_text old) key document name differs);
     })
+
+-- ---- what all documents have
+
+later : {A : Type 0} (x y : A) (xs : List A) → Contains xs y → Contains (x ∷ xs) y
+later x y xs (k, below, is) = (suc k, omega arith, is)
+
+module _ {K X B : Type 0} (kept : X → B) where
+  -- at the first entry or later
+  first_or_later : (entry : K × X) (entries : List (K × X)) (found : Option X) (b : B) (t : Bool)
+      → (option_map kept found ≡ Some b → Contains (map kept (values_of entries)) b)
+      → option_map kept (cond t (Some entry.1) found) ≡ Some b → Contains (kept entry.1 ∷ map kept (values_of entries)) b
+  first_or_later entry entries found b true rest e = (0, omega arith, ap (λ (o : Option B). unwrap_or o b) e)
+  first_or_later entry entries found b false rest e = later (kept entry.1) b (map kept (values_of entries)) (rest e)
+
+  -- what a look-up finds is there
+  found_among : (test : K → Bool) (entries : List (K × X)) (b : B) → option_map kept (lookup test entries) ≡ Some b → Contains (map kept (values_of entries)) b
+  found_among test [] b e = absurd (let no : false ≡ true = ap is_some e in cc no)
+  found_among test (entry ∷ entries) b e = first_or_later entry entries (lookup test entries) b (test entry.0) (λ found. found_among test entries b found) e
+
+  -- what is there is an entry's
+  entry_of : (P : K × X → Type 0) (entries : List (K × X)) (b : B) → All P entries → Contains (map kept (values_of entries)) b
+      → (entry : K × X) × P entry × (kept entry.1 ≡ b)
+  entry_of P [] b all (k, below, is) = absurd (omega arith)
+  entry_of P (entry ∷ entries) b all (zero, below, is) = (entry, all 0 entry (omega arith), is)
+  entry_of P (entry ∷ entries) b all (suc k, below, is) =
+      entry_of P entries b (λ k d inside. all (suc k) d (omega arith)) (k, omega arith, is)
+
+-- the documents have just what is kept under some name
+pub all_of : {A B : Type 0} (kept : Document → B) (documents : BTreeMap (String A) Document) → IsOrdered string_cmp documents → (b : B)
+    → Contains (map kept (values documents)) b ↔ ((name : List ℕ) × (option_map kept (get_by_text documents name) ≡ Some b))
+all_of {A = A} {B = B} kept documents ordered b = (
+  λ there.
+      let e = entry_of kept (λ (e : String A × Document). lookup (is_at (string_cmp e.0)) documents.entries ≡ Some e.1) documents.entries b
+      (All-found string_cmp_total documents ordered) there in
+      (string_bytes e.0.0, ap (option_map kept) e.1 ∙ ap (λ (x : B). Some x) e.2),
+  λ some. found_among kept (is_at (λ k. slice_cmp nat_cmp some.0 (string_bytes k))) documents.entries b some.1,
+)

@@ -7,6 +7,7 @@ use Rattle.json.specs.Json as json
 use Rattle.json.specs.Json.{Json, Members, member, object, string}
 use Rattle.apollo_parser.specs.declared.Limits.{Limits}
 use Rattle.editor_diagnostics.specs.Publication.{IsNoticeAbout}
+use Rattle.editor_validation.specs.Fragments.{Fragments}
 use Rattle.line_index.specs.declared.PositionEncoding.{PositionEncoding}
 use Rattle.line_index.specs.declared.PositionEncoding.TheVariants.{Utf8, Utf16}
 use Rattle.embedded_documents.specs.declared.scanning.HostLanguage.{HostLanguage}
@@ -18,7 +19,7 @@ use Rattle.rpc_serving.specs.Serving.{EndsServing, IsServed}
 use Rattle.gqlls_run.specs.Files.{OpenFile}
 use Rattle.gqlls_run.specs.Layout.{IsFormattingIn, IsRefusalOf}
 use Rattle.gqlls_run.specs.Parameters.{Edit, IsVersionIn, Offers, edits_in, host_in, text_in, uri_in}
-use Rattle.gqlls_run.specs.Dialogue.{Dialogue, IsChanged, Sets, begun}
+use Rattle.gqlls_run.specs.Dialogue.{AreOthers, Dialogue, IsChanged, Sets, begun}
 use Rattle.gqlls_run.specs.Told.{IsTold, Notifies}
 use Rattle.gqlls_run.specs.declared.server.Stage.{Stage}
 use Rattle.gqlls_run.specs.declared.server.Stage.TheVariants.{New, Running, ShutDown}
@@ -89,12 +90,15 @@ pub record IsIgnored (reply : Reply) (old new : Dialogue) : Type 0 where
   pub silence : reply ≡ Nothing
   pub dialogue : new ≡ old
 
--- A document is this file now. The reply publishes its errors, with the version that the message gives.
+-- A document is this file now. The reply publishes its errors, with the version that the message gives, by the fragments of all others.
 pub record Publishes (uri : List ℕ) (file : OpenFile) (params : Json) (reply : Reply) (old new : Dialogue) : Type 0 where
-  pub sets : Sets uri (Some file) old new
+  pub fragments : Fragments
+  pub sets : Sets uri (Some file) (Some fragments) old new
+  pub others : List Fragments
+  pub elsewhere : AreOthers uri new.fragments others
   pub version : Option ℤ
   pub versioned : IsVersionIn params version
-  pub told : Notifies (IsTold old.limits uri version file) reply
+  pub told : Notifies (IsTold old.limits uri version file fragments others) reply
 
 -- a text in a language that is opened, in the encoding of the conversation
 abbrev pub opened : Dialogue → List ℕ → Option HostLanguage → OpenFile
@@ -121,7 +125,7 @@ Changes params reply old new =
 
 -- a document isn't open any more, and its errors are taken back
 pub record Withdraws (uri : List ℕ) (reply : Reply) (old new : Dialogue) : Type 0 where
-  pub sets : Sets uri None old new
+  pub sets : Sets uri None None old new
   pub told : Notifies (IsNoticeAbout uri None []) reply
 
 -- `textDocument/didClose`: where the document isn't open, the message is ignored

@@ -1,37 +1,50 @@
 -- What a client and the server have in common during a conversation.
-use Rattle.std.specs.Prelude.{◌≡◌, ◌≢◌, ℕ, List, fold, Option, None}
+use Rattle.std.specs.Prelude.{◌≡◌, ◌≢◌, ◌↔◌, ℕ, List, fold, Option, Some, None}
+use Rattle.std.specs.List.{Contains}
 use Rattle.apollo_parser.specs.declared.Limits.{Limits}
 use Rattle.line_index.specs.Positions.{units}
 use Rattle.line_index.specs.declared.PositionEncoding.{PositionEncoding}
 use Rattle.line_index.specs.declared.PositionEncoding.TheVariants.{Utf16}
 use Rattle.editor_text.specs.Client.{replaced}
+use Rattle.editor_validation.specs.Fragments.{Fragments}
 use Rattle.gqlls_run.specs.Files.{OpenFile}
 use Rattle.gqlls_run.specs.Parameters.{Edit}
 use Rattle.gqlls_run.specs.declared.server.Stage.{Stage}
 use Rattle.gqlls_run.specs.declared.server.Stage.TheVariants.{New}
 
--- how far the conversation is, how columns are counted, the limits of each parse, and each file that the client has open, by its name
+-- How far the conversation is, how columns are counted, and the limits of each parse; each file that the client has open, by its name, and the names of
+-- fragments in it.
 pub record Dialogue : Type 0 where
   pub stage : Stage
   pub encoding : PositionEncoding
   pub limits : Limits
   pub documents : List ℕ → Option OpenFile
+  pub fragments : List ℕ → Option Fragments
 
 -- no message was read
 abbrev pub begun : Limits → Dialogue
-begun limits = record { stage = New; encoding = Utf16; limits = limits; documents = λ name. None }
+begun limits = record { stage = New; encoding = Utf16; limits = limits; documents = λ name. None; fragments = λ name. None }
 
 -- one document is opened, changed or closed, and the others stay
-pub record Updates (uri : List ℕ) (file : Option OpenFile) (old new : List ℕ → Option OpenFile) : Type 0 where
-  pub this : new uri ≡ file
+pub record Updates {A : Type 0} (uri : List ℕ) (value : Option A) (old new : List ℕ → Option A) : Type 0 where
+  pub this : new uri ≡ value
   pub others : (name : List ℕ) → name ≢ uri → new name ≡ old name
 
 -- nothing else changes
-pub record Sets (uri : List ℕ) (file : Option OpenFile) (old new : Dialogue) : Type 0 where
+pub record Sets (uri : List ℕ) (file : Option OpenFile) (names : Option Fragments) (old new : Dialogue) : Type 0 where
   pub documents : Updates uri file old.documents new.documents
+  pub fragments : Updates uri names old.fragments new.fragments
   pub stage : new.stage ≡ old.stage
   pub encoding : new.encoding ≡ old.encoding
   pub limits : new.limits ≡ old.limits
+
+-- these are the names of fragments in all documents
+abbrev pub AreAll : (List ℕ → Option Fragments) → List Fragments → Type 0
+AreAll fragments all = (names : Fragments) → Contains all names ↔ ((name : List ℕ) × (fragments name ≡ Some names))
+
+-- the same but for one document
+abbrev pub AreOthers : List ℕ → (List ℕ → Option Fragments) → List Fragments → Type 0
+AreOthers uri fragments others = (names : Fragments) → Contains others names ↔ ((name : List ℕ) × (name ≢ uri) × (fragments name ≡ Some names))
 
 -- a text is the one before with some changes, each made by the client to the text that the one before it left
 pub record IsChanged (edits : List Edit) (old new : OpenFile) : Type 0 where

@@ -5,24 +5,32 @@ use Rattle.apollo_parser.specs.Promise.{Promise}
 use Rattle.apollo_parser.specs.declared.Limits.{Limits}
 use Rattle.editor_diagnostics.specs.Publication.{IsPublication}
 use Rattle.editor_diagnostics.specs.Remarks.{Remarked}
+use Rattle.editor_validation.specs.Fragments.{Fragments, fragments_in}
 use Rattle.editor_validation.specs.Remarks.{AreRemarksOn}
 use Rattle.gqlls_run.specs.Files.{IsSource, OpenFile, has_nothing}
 use Rattle.rpc_messages.specs.declared.reply.Reply.{Reply}
 use Rattle.rpc_messages.specs.declared.reply.Reply.TheVariants.{Nothing, Answer, Notice, Exit}
 
--- the remarks on a parse: on its errors, or if it has none on the rules of validation that the document breaks
-abbrev pub AreRemarksOf : Parsed → List Remarked → Type 0
-AreRemarksOf parsed remarks = AreRemarksOn (record { whole = parsed.tree; index = 0 }) parsed.errors remarks
+-- The remarks on a parse: on its errors, or if it has none on the rules of validation that the document breaks, and that the other documents with these
+-- fragments do not mend.
+abbrev pub AreRemarksOf : List Fragments → Parsed → List Remarked → Type 0
+AreRemarksOf others parsed remarks = AreRemarksOn others (record { whole = parsed.tree; index = 0 }) parsed.errors remarks
+
+-- the names of fragments in a parse
+abbrev pub fragments_of : Parsed → Fragments
+fragments_of parsed = fragments_in (record { whole = parsed.tree; index = 0 })
 
 -- The body publishes the remarks on a parse of this file within the limits, at their positions as the client counts them. There are none on a file in
--- another language that has nothing in templates.
-pub record IsTold (limits : Limits) (uri : List ℕ) (version : Option ℤ) (file : OpenFile) (body : List ℕ) : Type 0 where
+-- another language that has nothing in templates. The parse has these fragments.
+pub record IsTold (limits : Limits) (uri : List ℕ) (version : Option ℤ) (file : OpenFile) (fragments : Fragments) (others : List Fragments) (body : List ℕ)
+    : Type 0 where
   pub text : List ℕ
   pub source : IsSource file text
   pub parsed : Parsed
   pub promise : Promise text limits.recursion limits.tokens parsed
+  pub named : fragments ≡ fragments_of parsed
   pub remarks : List Remarked
-  pub said : has_nothing file text ≡ false → AreRemarksOf parsed remarks
+  pub said : has_nothing file text ≡ false → AreRemarksOf others parsed remarks
   pub silent : has_nothing file text ≡ true → remarks ≡ []
   pub published : IsPublication uri version file.content.encoding file.content.text remarks body
 

@@ -1,18 +1,21 @@
 // The open documents.
-ghost use Rattle.std.specs.Prelude.{◌≡◌, [], IfOk, MatchBool, None, OnOk, Some, false, map, option_map, string_bytes, true, unwrap_or};
+ghost use Rattle.std.specs.Prelude.{◌≡◌, [], List, IfOk, MatchBool, None, OnOk, Some, false, map, option_map, string_bytes, true, unwrap_or};
+ghost use Rattle.std.specs.BTreeMap.{IsOrdered, values};
+ghost use Rattle.std.specs.String.{string_cmp};
 ghost use Rattle.apollo_parser.specs.Promise.{Promise};
 ghost use Rattle.editor_diagnostics.specs.Remarks.{as_remarked};
+ghost use Rattle.editor_validation.specs.Fragments.{Fragments, as_fragments};
 ghost use Rattle.rpc_messages.specs.Messages.{IsNotice};
 ghost use Rattle.gqlls_run.specs.Parameters.{told};
-ghost use Rattle.gqlls_run.specs.Dialogue.{IsChanged, Updates};
+ghost use Rattle.gqlls_run.specs.Dialogue.{AreAll, IsChanged, Updates};
 ghost use Rattle.gqlls_run.specs.Files.{IsSource, has_nothing};
-ghost use Rattle.gqlls_run.specs.State.{IsParsed, file_of, files, source_of};
+ghost use Rattle.gqlls_run.specs.State.{IsParsed, file_of, files, names_in, names_of, source_of};
 ghost use Rattle.gqlls_run.specs.Told.{AreRemarksOf, IsTold};
 
 use apollo_parser::{DocumentRoot, Limits, Parser, SyntaxNode, SyntaxTree};
 use editor_diagnostics::{Positions, Remark, publication};
 use editor_text::{Change, OpenDocument, closed};
-use editor_validation::remarks;
+use editor_validation::{FragmentNames, fragment_names, remarks};
 use embedded_documents::{HostLanguage, is_blank, is_in_document, masked};
 use line_index::PositionEncoding;
 use std::alloc::{AllocError, Global};
@@ -80,6 +83,8 @@ pub(crate) struct Document {
     tree: SyntaxTree<DocumentRoot>,
     // the one that answers are about, where it is another
     mended: Option<SyntaxTree<DocumentRoot>>,
+    // the fragments of the text's own tree
+    fragments: FragmentNames,
 }
 
 impl Document {
@@ -99,12 +104,14 @@ impl Document {
         let source = source_in(&content, &masked);
         let tree = parsed(alloc, source, limits)?;
         let mended = mended(alloc, source, &tree, limits)?;
+        let fragments = fragment_names(alloc, &tree.root())?;
         Ok(Document {
             content,
             host,
             masked,
             tree,
             mended,
+            fragments,
         })
     }
 
@@ -122,6 +129,7 @@ impl Document {
         self.masked = masked_text(alloc, &self.content, self.host)?;
         self.tree = parsed(alloc, self.source(), limits)?;
         self.mended = mended(alloc, self.source(), &self.tree, limits)?;
+        self.fragments = fragment_names(alloc, &self.tree.root())?;
         Ok(())
     }
 
@@ -132,31 +140,41 @@ impl Document {
         source_in(&self.content, &self.masked)
     }
 
-    // The remarks on it: none where nothing is in templates.
-    fn remarks(&self, alloc: Global) -> Result<Vec<Remark>, AllocError>
-        ensures said { IfOk result (λ found. has_nothing (file_of self.now) (source_of self.now) ≡ false → AreRemarksOf self.now.tree (map as_remarked found.items)) }
+    // The remarks on it, by the fragments of the other documents: none where nothing is in templates.
+    fn remarks<'a>(
+        &'a self,
+        alloc: Global,
+        others: &[&'a FragmentNames],
+    ) -> Result<Vec<Remark>, AllocError>
+        ensures said { IfOk result (λ found. has_nothing (file_of self.now) (source_of self.now) ≡ false → AreRemarksOf (map (λ f. as_fragments f.now) others.now) self.now.tree (map as_remarked found.items)) }
         ensures silent { IfOk result (λ found. has_nothing (file_of self.now) (source_of self.now) ≡ true → map as_remarked found.items ≡ []) }
     {
         if self.host.is_some() && is_blank(self.source()) {
             return Ok(Vec::new(alloc));
         }
         // bound to a name, so that its clauses on `Ok` are found
-        let found = remarks(alloc, &self.tree.root(), self.tree.errors().as_slice())?;
+        let found = remarks(
+            alloc,
+            &self.tree.root(),
+            self.tree.errors().as_slice(),
+            others,
+        )?;
         Ok(found)
     }
 
-    /// The notice of the remarks on it, by its name and the version that the client gave it.
-    pub(crate) fn told(
-        &self,
+    /// The notice of the remarks on it, by its name, the version that the client gave it, and the fragments of the other documents.
+    pub(crate) fn told<'a>(
+        &'a self,
         alloc: Global,
         uri: &str,
         version: Option<i64>,
+        others: &[&'a FragmentNames],
     ) -> Result<Vec<u8>, AllocError>
         ensures notifies { IfOk result (λ body. IsNotice body.items) }
-        ensures told { IfOk result (λ body. (limits : Limits) → IsParsed limits self.now → IsTold limits uri.now version (file_of self.now) body.items) }
+        ensures told { IfOk result (λ body. (limits : Limits) → IsParsed limits self.now → IsTold limits uri.now version (file_of self.now) (names_of self.now) (map (λ f. as_fragments f.now) others.now) body.items) }
     {
         let positions = self.positions(alloc)?;
-        let remarks = self.remarks(alloc)?;
+        let remarks = self.remarks(alloc, others)?;
         // bound to a name, so that its clauses on `Ok` are found
         let body = publication(alloc, uri, version, &positions, remarks.as_slice())?;
         Ok(body)
@@ -194,9 +212,43 @@ pub(crate) fn insert(
     uri: &str,
     document: Document,
 ) -> Result<(), AllocError>
-    ensures { OnOk result (Updates uri.now (Some (file_of document)) (files documents.old) (files documents.new)) }
+    ensures files { OnOk result (Updates uri.now (Some (file_of document)) (files documents.old) (files documents.new)) }
+    ensures names { OnOk result (Updates uri.now (Some (names_of document)) (names_in documents.old) (names_in documents.new)) }
 {
     let name = String::from_str(alloc, uri)?;
     documents.insert(name, document)?;
     Ok(())
+}
+
+// The names of the fragments of all documents.
+fn all_fragments<'d>(
+    alloc: Global,
+    documents: &'d BTreeMap<String, Document>,
+) -> Result<Vec<&'d FragmentNames>, AllocError>
+    ensures all { IfOk result (λ found. map (λ f. as_fragments f.now) found.items ≡ map names_of (values documents.now)) }
+    ensures ordered { IfOk result (λ found. IsOrdered string_cmp documents.now) }
+{
+    let mut found = Vec::new(alloc);
+    for document in documents.values() {
+        found.push(&document.fragments)?;
+    }
+    Ok(found)
+}
+
+/// The notice of the remarks on a document beside others, by its name and the version that the client gave it.
+pub(crate) fn told_beside(
+    alloc: Global,
+    others: &BTreeMap<String, Document>,
+    document: &Document,
+    uri: &str,
+    version: Option<i64>,
+) -> Result<Vec<u8>, AllocError>
+    ensures notifies { IfOk result (λ body. IsNotice body.items) }
+    ensures told { IfOk result (λ body. (limits : Limits) → IsParsed limits document.now → (names : List Fragments) × AreAll (names_in others.now) names
+        × IsTold limits uri.now version (file_of document.now) (names_of document.now) names body.items) }
+{
+    let names = all_fragments(alloc, others)?;
+    // bound to a name, so that its clauses on `Ok` are found
+    let body = document.told(alloc, uri, version, names.as_slice())?;
+    Ok(body)
 }

@@ -5,13 +5,13 @@ ghost use Rattle.json.specs.Value.{value_view};
 ghost use Rattle.rpc_messages.specs.Messages.{IsAnswer};
 ghost use Rattle.rpc_messages.specs.Replies.{EndsOnlyIf, Replies};
 ghost use Rattle.rpc_messages.specs.declared.reply.Reply.TheVariants.{Answer};
-ghost use Rattle.gqlls_run.specs.Conversation.{Changes, Closes, Formats, IsAsked, IsHeard, Opens, exit_status};
+ghost use Rattle.gqlls_run.specs.Conversation.{Changes, Closes, Formats, IsAsked, IsHeard, Opens, Publishes, exit_status};
 ghost use Rattle.gqlls_run.specs.Dialogue.{begun};
 ghost use Rattle.gqlls_run.specs.Layout.{IsRefusalOf};
-ghost use Rattle.gqlls_run.specs.State.{StepsOf, dialogue_of};
+ghost use Rattle.gqlls_run.specs.State.{IsParsed, StepsOf, dialogue_of, file_of};
 
 use crate::capabilities::answer_initialize;
-use crate::documents::{Document, insert};
+use crate::documents::{Document, insert, told_beside};
 use crate::formatting::{answer_formatting, answer_null};
 use crate::parameters::{
     asks_before_renaming, changes_of, encoding_of, host_of, markup_of, query_of, text_of, uri_of,
@@ -126,6 +126,25 @@ impl Server {
         )
     }
 
+    // Keeps a document, in the place of the one with its name, and publishes its errors.
+    fn publish(
+        &mut self,
+        alloc: Global,
+        uri: &str,
+        document: Document,
+        params: &Value<'_>,
+    ) -> Result<Reply, AllocError>
+        requires { IsParsed self.old.limits document }
+        ensures replies { IfOk result (Replies None) }
+        ensures ends { IfOk result (EndsOnlyIf ⊥) }
+        ensures publishes { IfOk result (λ reply. Publishes uri.now (file_of document) (value_view params.now) reply (dialogue_of self.old) (dialogue_of self.new)) }
+    {
+        self.documents.remove(uri);
+        let told = told_beside(alloc, &self.documents, &document, uri, version_of(params))?;
+        insert(alloc, &mut self.documents, uri, document)?;
+        Ok(Reply::Notice(told))
+    }
+
     // Opens a document, and publishes its errors.
     fn open(&mut self, alloc: Global, params: &Value<'_>) -> Result<Reply, AllocError>
         ensures replies { IfOk result (Replies None) }
@@ -139,9 +158,9 @@ impl Server {
             return Ok(Reply::Nothing);
         };
         let document = Document::new(alloc, self.encoding, text, host_of(params), self.limits)?;
-        let told = document.told(alloc, uri, version_of(params))?;
-        insert(alloc, &mut self.documents, uri, document)?;
-        Ok(Reply::Notice(told))
+        // bound to a name, so that its clauses on `Ok` are found
+        let reply = self.publish(alloc, uri, document, params)?;
+        Ok(reply)
     }
 
     // Changes a document, and publishes its errors.
@@ -156,12 +175,13 @@ impl Server {
         let Some(changes) = changes_of(alloc, params)? else {
             return Ok(Reply::Nothing);
         };
-        let Some(document) = self.documents.get_mut(uri) else {
+        let Some(mut document) = self.documents.remove(uri) else {
             return Ok(Reply::Nothing);
         };
         document.change(alloc, changes.as_slice(), self.limits)?;
-        let told = document.told(alloc, uri, version_of(params))?;
-        Ok(Reply::Notice(told))
+        // bound to a name, so that its clauses on `Ok` are found
+        let reply = self.publish(alloc, uri, document, params)?;
+        Ok(reply)
     }
 
     // Closes a document, and takes its errors back.

@@ -1,6 +1,9 @@
 use Rattle.std.proofs.Common.{◌≡◌, Bool, true, false, List, [], map, subst, sym}
 use Rattle.editor_diagnostics.specs.Remarks.{as_remarked}
 use Rattle.editor_diagnostics.specs.declared.remark.Remark.{Remark}
+use Rattle.editor_validation.specs.Fragments.{as_fragments}
+use Rattle.editor_validation.specs.declared.fragments.FragmentNames.{FragmentNames}
+use denote.Ref.{Bor}
 use Rattle.gqlls_run.specs.Files.{has_nothing}
 use Rattle.gqlls_run.specs.State.{file_of, source_of}
 use Rattle.gqlls_run.specs.Told.{AreRemarksOf}
@@ -12,13 +15,15 @@ returns-clause-told c = λ limits parsed.
     let document = c.args.self.now in
     let nothing : Bool = has_nothing (file_of document) (source_of document) in
     let found = sym c.as_slice.ensures.value in
+    let others = map (λ (f : Bor FragmentNames). as_fragments f.now) c.args.others.now in
     record {
       text = source_of document;
       source = parsed.source;
       parsed = document.tree;
       promise = parsed.promise;
+      named = parsed.named;
       remarks = map as_remarked c.as_slice.result.now;
-      said = subst (λ (found : List Remark). nothing ≡ false → AreRemarksOf document.tree (map as_remarked found)) found c.in_ok-remarks.ensures.said;
+      said = subst (λ (found : List Remark). nothing ≡ false → AreRemarksOf others document.tree (map as_remarked found)) found c.in_ok-remarks.ensures.said;
       silent = subst (λ (found : List Remark). nothing ≡ true → map as_remarked found ≡ []) found c.in_ok-remarks.ensures.silent;
       published = same_publication _ _ _ _ _ _ _ _ c.in_ok-positions.ensures.encoding c.in_ok-positions.ensures.text c.in_ok-body.ensures.published;
     }

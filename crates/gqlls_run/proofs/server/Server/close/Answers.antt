@@ -2,7 +2,7 @@ use Rattle.std.proofs.Common.{ap, refl, rules}
 use Rattle.std.specs.Prelude.{option_map}
 use Rattle.json.specs.Value.{value_view}
 use Rattle.rpc_messages.specs.declared.reply.Reply.TheVariants.{Notice}
-use Rattle.gqlls_run.specs.State.{dialogue_of, file_of}
+use Rattle.gqlls_run.specs.State.{dialogue_of, file_of, names_of}
 use Rattle.gqlls_run.specs.declared.server.Server.{Server}
 use Rattle.gqlls_run.proofs.Maps.{updated}
 use Rattle.gqlls_run.proofs.Messages.{closes, found_in}
@@ -16,7 +16,8 @@ returns-clause-closes c =
     (found_in _ _ _ _ c.uri_of.ensures c.in-Some.is) (ap (option_map file_of) c.remove.ensures.value) (search rules)
     (record {
       sets = record {
-        documents = updated _ _ c.args.self.now.documents c.remove.new.self _ _ refl c.remove.ensures.updates refl;
+        documents = updated file_of _ _ c.args.self.now.documents c.remove.new.self _ _ refl c.remove.ensures.updates refl;
+        fragments = updated names_of _ _ c.args.self.now.documents c.remove.new.self _ _ refl c.remove.ensures.updates refl;
         stage = refl;
         encoding = refl;
         limits = refl;

@@ -2,7 +2,7 @@ use Rattle.std.proofs.Common.{◌≡◌, map, take}
 use Rattle.definition_rules.specs.Violations.{as_breach}
 use Rattle.editor_diagnostics.specs.Remarks.{as_remarked}
 use Rattle.editor_validation.specs.Remarks.{remark_of}
-use Rattle.editor_validation.proofs.broken_rules.rule_remarks.Given as goal
+use Rattle.editor_validation.proofs.broken_rules.remarks_of.Given as goal
 
 abbrev pub invariant-loop-violation : goal.invariant-loop-violation
-invariant-loop-violation l = map as_remarked l.found.items ≡ map remark_of (map as_breach (take l.violation-index l.violation-items))
+invariant-loop-violation l = map as_remarked l.found.items ≡ map remark_of (map as_breach (take l.violation-index l.violations))

@@ -1,0 +1,8 @@
+use Rattle.std.proofs.Common.{◌≡◌, ◌++◌, map, take, string_bytes}
+use Rattle.executable_document.specs.Mentions.{as_named}
+use Rattle.editor_validation.specs.Fragments.{names_of}
+use Rattle.editor_validation.proofs.fragments.push_names.Given as goal
+
+abbrev pub invariant-loop-mention : goal.invariant-loop-mention
+invariant-loop-mention l =
+    map string_bytes l.names.items ≡ map string_bytes l.initial.names.items ++ names_of (map as_named (take l.mention-index l.mentions))

@@ -1,0 +1,7 @@
+use Rattle.std.proofs.Common.{◌≡◌, map, take, string_bytes}
+use Rattle.executable_document.specs.Definitions.{as_defined}
+use Rattle.editor_validation.specs.Fragments.{spread_by}
+use Rattle.editor_validation.proofs.fragments.spread_names.Given as goal
+
+abbrev pub invariant-loop-definition : goal.invariant-loop-definition
+invariant-loop-definition l = map string_bytes l.names.items ≡ spread_by (map as_defined (take l.definition-index l.definitions))

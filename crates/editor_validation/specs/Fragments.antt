@@ -1,0 +1,27 @@
+-- The fragments that documents define and spread.
+use Rattle.std.specs.Prelude.{List, map, string_bytes}
+use Rattle.std.specs.List.{flat_map}
+use Rattle.apollo_tree.specs.Order.{Place}
+use Rattle.executable_document.specs.Names.{Name}
+use Rattle.executable_document.specs.declared.executables.DefinitionKind.TheVariants.{Fragment}
+use Rattle.executable_document.specs.declared.mentioning.MentionKind.TheVariants.{Spread}
+use Rattle.executable_document.specs.Definitions.{Defined, defined, named_definitions}
+use Rattle.executable_document.specs.Mentions.{Named, mentions}
+use Rattle.editor_validation.specs.declared.fragments.FragmentNames.{FragmentNames}
+
+-- the names of the fragments that a document defines, and of those that it spreads
+pub record Fragments : Type 0 where
+  pub defined : List Name
+  pub spread : List Name
+
+abbrev pub as_fragments : FragmentNames → Fragments
+as_fragments names = record { defined = map string_bytes names.defined.items; spread = map string_bytes names.spread.items }
+
+abbrev pub names_of : List Named → List Name
+names_of mentions = map (λ (m : Named). m.name) mentions
+
+abbrev pub spread_by : List Defined → List Name
+spread_by definitions = flat_map (λ (d : Defined). names_of (mentions Spread d.place)) definitions
+
+abbrev pub fragments_in : Place → Fragments
+fragments_in document = record { defined = names_of (named_definitions Fragment (defined document)); spread = spread_by (defined document) }

@@ -1,0 +1,50 @@
+-- The documents beside one that is published.
+use Rattle.std.proofs.Common.{◌≡◌, ◌≢◌, ℕ, true, false, List, Option, Some, None, sym, ap, ◌∙◌, subst}
+use Rattle.std.specs.Prelude.{is_some}
+use Rattle.apollo_parser.specs.declared.Limits.{Limits}
+use Rattle.json.specs.Json.{Json}
+use Rattle.rpc_messages.specs.declared.reply.Reply.{Reply}
+use Rattle.editor_validation.specs.Fragments.{Fragments}
+use Rattle.gqlls_run.specs.Conversation.{Publishes}
+use Rattle.gqlls_run.specs.Dialogue.{AreAll, AreOthers, Dialogue, Sets, Updates}
+use Rattle.gqlls_run.specs.Files.{OpenFile}
+use Rattle.gqlls_run.specs.Told.{IsTold, Notifies}
+
+-- a change after another at the same name
+pub again : {A : Type 0} (uri : List ℕ) (first second : Option A) (old middle new : List ℕ → Option A) → Updates uri first old middle
+    → Updates uri second middle new → Updates uri second old new
+again uri first second old middle new one two = record {
+  this = two.this;
+  others = λ name apart. two.others name apart ∙ one.others name apart;
+}
+
+-- what all documents have before one is added, the others have after it
+pub beside : (uri : List ℕ) (value : Option Fragments) (middle new : List ℕ → Option Fragments) (others : List Fragments) → middle uri ≡ None
+    → Updates uri value middle new → AreAll middle others → AreOthers uri new others
+beside uri value middle new others none adds all = λ names. (
+  λ there.
+      let some = (all names).0 there in
+      let apart : some.0 ≢ uri = λ same. (let no : false ≡ true = ap is_some (sym none ∙ ap middle (sym same) ∙ some.1) in cc no) in
+      (some.0, apart, adds.others some.0 apart ∙ some.1),
+  λ other. (all names).1 (other.0, sym (adds.others other.0 other.1) ∙ other.2),
+)
+
+-- a document is taken out, and published anew
+pub publishes_again : (uri : List ℕ) (file : OpenFile) (params : Json) (reply : Reply) (old middle new : Dialogue) → Sets uri None None old middle
+    → Publishes uri file params reply middle new → Publishes uri file params reply old new
+publishes_again uri file params reply old middle new takes published = record {
+  fragments = published.fragments;
+  sets = record {
+    documents = again uri _ _ _ _ _ takes.documents published.sets.documents;
+    fragments = again uri _ _ _ _ _ takes.fragments published.sets.fragments;
+    stage = published.sets.stage ∙ takes.stage;
+    encoding = published.sets.encoding ∙ takes.encoding;
+    limits = published.sets.limits ∙ takes.limits;
+  };
+  others = published.others;
+  elsewhere = published.elsewhere;
+  version = published.version;
+  versioned = published.versioned;
+  told = subst (λ (limits : Limits). Notifies (IsTold limits uri published.version file published.fragments published.others) reply)
+      takes.limits published.told;
+}

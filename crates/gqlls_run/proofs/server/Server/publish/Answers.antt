@@ -1,0 +1,27 @@
+use Rattle.std.proofs.Common.{refl}
+use Rattle.gqlls_run.specs.State.{file_of, names_of}
+use Rattle.gqlls_run.proofs.Maps.{updated}
+use Rattle.gqlls_run.proofs.Others.{again, beside}
+use Rattle.gqlls_run.proofs.server.Server.publish.Goals as goal
+
+pub returns-clause-publishes : goal.returns-clause-publishes
+returns-clause-publishes c =
+    let old = c.args.self.now.documents in
+    let files_without = updated file_of _ _ old c.remove.new.self _ _ refl c.remove.ensures.updates refl in
+    let names_without = updated names_of _ _ old c.remove.new.self _ _ refl c.remove.ensures.updates refl in
+    let told = c.in_ok-told.ensures.told c.args.self.now.limits c.requires in
+    record {
+      fragments = names_of c.args.document;
+      sets = record {
+        documents = again _ _ _ _ _ _ files_without c.in_ok-insert.ensures.files;
+        fragments = again _ _ _ _ _ _ names_without c.in_ok-insert.ensures.names;
+        stage = refl;
+        encoding = refl;
+        limits = refl;
+      };
+      others = told.0;
+      elsewhere = beside _ _ _ _ told.0 names_without.this c.in_ok-insert.ensures.names told.1;
+      version = c.version_of.result;
+      versioned = c.version_of.ensures;
+      told = told.2;
+    }
