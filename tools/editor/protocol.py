@@ -613,6 +613,9 @@ def completion():
     expect("after $", items('query ($id: ID) {a(b:"😀" c:$', 0, 29), [{"label": "id", "kind": 6, "detail": "ID", "textEdit": {"range": span(0, 29, 29), "newText": "id"}}])
     expect("a variable as a value", items("query ($id: [ID!]!) { a(b: ", 0, 27)[0], {"label": "$id", "kind": 6, "detail": "[ID!]!", "textEdit": {"range": span(0, 27, 27), "newText": "$id"}})
     expect("a variable in a list", labels("query ($id: ID) { a(b: {c: [1 ")[0], "$id")
+    expect("of the operation alone", labels("query ($other: ID) { a } query ($id: ID) { a(b: $"), ["id"])
+    expect("of all operations in a fragment", labels("query ($other: ID) { a } query ($id: ID) { a } fragment f on T { a(b: $"), ["other", "id"])
+    expect("of the operation as values", [it for it in labels("query ($other: ID) { a } query ($id: ID) { a(b: ") if it.startswith("$")], ["$id"])
     for text in ["query ($id: ID, $other: ID = ", "query ($id: ID) @d(a: $id) { a(b: 1) ", "query ($id: ID) { a(", "query (", "query ($id: ID) { b } type A { c: D @e(f: "]:
         expect(f"no variable after {text}", [it for it in labels(text) if it.startswith("$")], [])
     expect("after a type's name", "implements" in labels("type T "), True)

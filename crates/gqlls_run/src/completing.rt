@@ -234,14 +234,31 @@ fn variable_text<'t>(leaf: SyntaxToken<'t>) -> Option<&'t str> {
     Some(leaf.parent()?.parent()?.text())
 }
 
-// Adds the variables that a document defines and that are not known yet, as values.
+// The node whose variables may be used behind an offset: the operation in front of it, or else the whole document, since any operation may spread a
+// fragment.
+fn scope_at<'t>(root: SyntaxNode<'t>, offset: usize) -> SyntaxNode<'t> {
+    if let Some(leaf) = root
+        .token_at_offset(offset.saturating_sub(1))
+        .right_biased()
+        && let Some(parent) = leaf.parent()
+    {
+        for node in parent.ancestors() {
+            if node.kind().is(SyntaxKind::OPERATION_DEFINITION) {
+                return node;
+            }
+        }
+    }
+    root
+}
+
+// Adds the variables that a part of a document defines and that are not known yet, as values.
 fn push_variables<'t>(
     alloc: Global,
-    root: SyntaxNode<'t>,
+    scope: SyntaxNode<'t>,
     found: &mut Vec<Candidate<'t>>,
 ) -> Result<(), AllocError> {
     let mut known = BTreeSet::new(alloc);
-    for element in root.descendants_with_tokens() {
+    for element in scope.descendants_with_tokens() {
         if let Some(leaf) = element.into_token()
             && let Some(meaning) = meaning_of(leaf)
             && meaning.defines
@@ -259,14 +276,14 @@ fn push_variables<'t>(
     Ok(())
 }
 
-// Adds the names of a kind that a document defines and that are not known yet, but for those of introspection.
+// Adds the names of a kind that a document or its part defines and that are not known yet, but for those of introspection.
 fn push_names<'t>(
-    root: SyntaxNode<'t>,
+    scope: SyntaxNode<'t>,
     kind: NameKind,
     known: &mut BTreeSet<&'t str>,
     found: &mut Vec<Candidate<'t>>,
 ) -> Result<(), AllocError> {
-    for element in root.descendants_with_tokens() {
+    for element in scope.descendants_with_tokens() {
         if let Some(leaf) = element.into_token()
             && let Some(meaning) = meaning_of(leaf)
             && meaning.defines
@@ -284,19 +301,16 @@ fn push_names<'t>(
     Ok(())
 }
 
-// Adds the names of a kind that a document defines, and then those that others do, each once. Those of variables are the first document's alone.
+// Adds the names of a kind that a document or its part defines, and then those that others do, each once.
 fn push_all_names<'t>(
     alloc: Global,
-    root: SyntaxNode<'t>,
+    scope: SyntaxNode<'t>,
     others: &[SyntaxNode<'t>],
     kind: NameKind,
     found: &mut Vec<Candidate<'t>>,
 ) -> Result<(), AllocError> {
     let mut known = BTreeSet::new(alloc);
-    push_names(root, kind, &mut known, found)?;
-    if kind == NameKind::Variable {
-        return Ok(());
-    }
+    push_names(scope, kind, &mut known, found)?;
     for root in others {
         push_names(*root, kind, &mut known, found)?;
     }
@@ -362,11 +376,13 @@ fn last_front(
 }
 
 // The words that may come after a front of a text: the keywords that the grammar takes, and where a name is expected those that the documents
-// define, the text's first, and that are built in. There are none after an error of the same definition, but for an empty selection set.
+// define, the text's first, and that are built in. There are none after an error of the same definition, but for an empty selection set. The scope
+// is the node whose variables there may be.
 fn completions<'t>(
     alloc: Global,
     before: &str,
     root: SyntaxNode<'t>,
+    scope: SyntaxNode<'t>,
     roots: &[SyntaxNode<'t>],
     limits: Limits,
 ) -> Result<Vec<Candidate<'t>>, AllocError> {
@@ -377,13 +393,16 @@ fn completions<'t>(
     let members = front.members(roots)?;
     push_members(alloc, members.as_slice(), &mut found)?;
     if front.takes_variable()? {
-        push_variables(alloc, root, &mut found)?;
+        push_variables(alloc, scope, &mut found)?;
     }
     push_keywords(front, &mut found)?;
     match front.name()? {
         Some(NameKind::Directive) => {
             let directives = front.directives(roots)?;
             push_members(alloc, directives.as_slice(), &mut found)?;
+        }
+        Some(NameKind::Variable) => {
+            push_all_names(alloc, scope, &[], NameKind::Variable, &mut found)?;
         }
         Some(kind) => push_all_names(alloc, root, roots, kind, &mut found)?,
         None => {}
@@ -503,7 +522,8 @@ pub(crate) fn push_completions<'p>(
     limits: Limits,
 ) -> Result<(), AllocError> {
     let before = Before::new(alloc, source, offset)?;
-    let found = completions(alloc, before.parsed(), root, roots, limits)?;
+    let scope = scope_at(root, before.text.len());
+    let found = completions(alloc, before.parsed(), root, scope, roots, limits)?;
     let range = positions.range(before.text.len(), offset);
     push_candidates(pieces, &range, found.as_slice())
 }
