@@ -19,22 +19,22 @@ PARTS = {
     "C, Python and the page": """dumyroke_flat/src/parse.rt dumyroke_flat/src/items.rt dumyroke_flat/src/strings.rt dumyroke_flat/src/format.rt
         dumyroke_flat/src/laws.rt dumyroke_validation/src/validating.rt dumyroke_validation/src/measuring.rt dumyroke_c/src/lib.rt""",
     "positions, and `gqlls`": """line_index/src editor_text/src rpc_messages/src rpc_serving/src editor_diagnostics/src
-        editor_validation/src editor_edits/src editor_answers/src embedded_documents/src schema_members/src program_words/src/gqlls.rt gqlls_run/src/server.rt gqlls_run/src/running.rt""",
+        editor_validation/src editor_edits/src editor_answers/src embedded_documents/src schema_members/src program_words/src/gqlls.rt gqlls_run/src/server.rt file_uris/src gqlls_files/src/running.rt""",
     "validation": "apollo_validation/src/validation.rt apollo_validation/src/messages.rt apollo_validation/src/lists.rt",
     "the cost of operations": "operation_limits/src/measuring.rt operation_limits/src/limiting.rt expansion_figures/src/limits.rt",
     "`gqlcheck`": "document_checks/src/checking.rt program_words/src/gqlcheck.rt gqlcheck_run/src/program.rt",
 }
 # Laws, and calls between crates: the page has their lemmas, and no definitions are listed for them.
 LAWS = """lexical_grammar/src/lib.rt lexical_grammar/src/escapes.rt document_grammar/src/kind.rt document_grammar/src/laws.rt grammar_machine/src/laws.rt
-    apollo_lexer/src/laws.rt apollo_parser/src/laws.rt apollo_cst_core/src/typed.rt apollo_cst_core/src/strings.rt format_layout/src/layout.rt
-    format_layout/src/spelling.rt format_layout/src/laws.rt format_layout/src/slot.rt"""
+    apollo_lexer/src/laws.rt apollo_parser/src/laws.rt apollo_cst_core/src/typed.rt apollo_cst_core/src/strings.rt apollo_cst_core/src/kinds.rt
+    format_layout/src/layout.rt format_layout/src/spelling.rt format_layout/src/laws.rt format_layout/src/slot.rt"""
 # How many lines of definitions a call needs, which README and docs/PROMISES.md say.
 COUNTED = {
     "`parse`, and parts of documents": "apollo_parser/src/parser.rt",
     "`format`": "formatter/src/lib.rt",
     "`gqlcst`": "gqlcst_run/src/program.rt",
     "`gqlfmt`": "gqlfmt_run/src/program.rt",
-    "`gqlls`, with the kit's words for JSON and for headers": "gqlls_run/src/running.rt",
+    "`gqlls`, with the kit's words for JSON and for headers": "gqlls_files/src/running.rt",
     "C, Python and the page": "dumyroke_c/src/lib.rt",
 }
 # The four clauses of `parse` that are the main theorem.
