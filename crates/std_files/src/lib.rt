@@ -1,4 +1,4 @@
-//! The files of a runtime, as `gqlfmt` finds, reads and replaces them and `gqlcheck` finds and reads them. Both hand `StdFiles` to their `run`.
+//! The files of a runtime, as `gqlfmt` finds, reads and replaces them and `gqlcheck` and `gqlls` find and read them. They hand `StdFiles` to their `run`.
 //!
 //! A file is replaced by writing over it, so that it stays the same file, after a copy of its text is stored beside it under a hidden name. Where that
 //! fails, the old text is written back; the copy stays only where this fails too, or where the program is ended in between. A file that has changed since it
@@ -27,6 +27,8 @@ pub struct StdFiles<'a, R> {
     runtime: &'a R,
     // whether pipes and devices are read too
     any: bool,
+    // how many bytes a regular file has at most that is read
+    most: u64,
     // the file that was read last, as it was then
     seen: Option<State>,
 }
@@ -36,9 +38,17 @@ impl<'a, R> StdFiles<'a, R> {
     pub fn new(runtime: &'a R) -> Self
         ensures { result.runtime ≡ runtime.entry }
     {
+        StdFiles::up_to(runtime, u64::MAX)
+    }
+
+    /// The regular files of this runtime, of which those with more bytes than `most` are not read.
+    pub fn up_to(runtime: &'a R, most: u64) -> Self
+        ensures { result.runtime ≡ runtime.entry }
+    {
         StdFiles {
             runtime,
             any: false,
+            most,
             seen: None,
         }
     }
@@ -50,6 +60,7 @@ impl<'a, R> StdFiles<'a, R> {
         StdFiles {
             runtime,
             any: true,
+            most: u64::MAX,
             seen: None,
         }
     }
@@ -110,8 +121,8 @@ impl<'a, R: rt::Files + Alloc + Clone + Drop> Files for StdFiles<'a, R> {
     }
 
     fn read<A: Allocator>(&mut self, alloc: A, path: &str) -> io::Result<Vec<u8, A>> {
-        if !self.any {
-            readable(self.runtime, Path::new(path))?;
+        if !self.any && readable(self.runtime, Path::new(path))?.len() > self.most {
+            return Err(Error::from(ErrorKind::FileTooLarge));
         }
         let mut file = File::open(self.runtime, path)?;
         self.seen = Some(State::of(&file.metadata()?));
