@@ -130,9 +130,12 @@ class Client {
     await this.connection.started;
     this.errors = languages.createDiagnosticCollection("gqlls");
     this.disposables.push(this.errors);
-    const { capabilities } = await this.connection.request("initialize", { processId: process.pid, rootUri: null, capabilities: CAPABILITIES });
+    const workspaceFolders = (workspace.workspaceFolders ?? []).map(({ uri, name }) => ({ uri: uri.toString(), name }));
+    const rootUri = workspaceFolders[0]?.uri ?? null;
+    const { capabilities } = await this.connection.request("initialize", { processId: process.pid, rootUri, workspaceFolders, capabilities: CAPABILITIES });
     this.connection.notify("initialized", {});
     this.#follow();
+    this.#watch();
     this.#serve(capabilities);
     this.isServing = true;
   }
@@ -168,6 +171,13 @@ class Client {
     };
     workspace.textDocuments.forEach(opened);
     this.disposables.push(workspace.onDidOpenTextDocument(opened), workspace.onDidChangeTextDocument(changed), workspace.onDidCloseTextDocument(closed));
+  }
+
+  // Tells the server of the files of the folder: which are made, changed or deleted (1 to 3 of the protocol's `FileChangeType`).
+  #watch() {
+    const watcher = workspace.createFileSystemWatcher("**/*.{graphql,graphqls,gql}");
+    const tell = (type) => (uri) => this.connection.notify("workspace/didChangeWatchedFiles", { changes: [{ uri: uri.toString(), type }] });
+    this.disposables.push(watcher, watcher.onDidCreate(tell(1)), watcher.onDidChange(tell(2)), watcher.onDidDelete(tell(3)));
   }
 
   // The answer as a value of VS Code. It is null where the server has none, or refuses the request.

@@ -5,6 +5,7 @@ import json
 import re
 import subprocess
 import sys
+import tempfile
 from pathlib import Path
 
 from client import Client, Text, errors_of
@@ -264,6 +265,9 @@ def diagnostics():
     expect("how many are published", len(published), 101)
     expect("where the hundredth is", published[99]["range"], span(0, 298, 299))
     expect("the last one", (published[100]["range"], published[100]["message"]), (span(0, 0, 0), "200 more errors"))
+    for text in ["", " \n,\n", "# nothing yet\n"]:
+        expect(f"no definitions in {text!r}", found(text), [])
+    expect("bad text alone", [it[0] for it in found("# nothing\n%")], [span(1, 0, 1)])
     expect("a hundred", len(client.open(URI, "{} " * 100)["diagnostics"]), 100)
     expect("closing", client.close(URI), {"uri": URI, "diagnostics": []})
     client.notify("textDocument/didChange", textDocument={"uri": URI, "version": 3}, contentChanges=[{"text": "{"}])
@@ -338,9 +342,68 @@ def other_documents():
            {"changes": {URI: [{"range": span(0, 14, 17), "newText": "Cat"}], "file:///schema": [{"range": span(1, 5, 8), "newText": "Cat"}]}})
     for feature in ["rename", "prepareRename"]:
         refused = client.ask(f"textDocument/{feature}", textDocument=DOCUMENT, newName="Cat", **at(1, 13))["error"]
-        expect(f"{feature} of a built-in type", refused, {"code": REQUEST_FAILED, "message": "no open document defines this name"})
+        expect(f"{feature} of a built-in type", refused, {"code": REQUEST_FAILED, "message": "no document defines this name"})
     expect("too many positions", code(client.ask("textDocument/selectionRange", textDocument=DOCUMENT, positions=[{"line": 0, "character": 0}] * 101)), -32602)
     expect("the end", client.end(), 0)
+
+
+def files_of_the_folder():
+    """Names are looked for in the GraphQL files of the folder that the client opens: not in hidden ones, and in an open one as the client has it."""
+    with tempfile.TemporaryDirectory(prefix="a folder é ") as folder:
+        folder = Path(folder)
+        schema = folder / "types" / "schema.graphqls"
+        schema.parent.mkdir()
+        schema.write_text("type Query {\n  pet: Pet\n}\ntype Pet {\n  name: ID\n}\n")
+        (folder / ".hidden.graphql").write_text("type Hidden { a: ID }\n")
+        (folder / "other.txt").write_text("type Other { a: ID }\n")
+        (folder / "bytes.graphql").write_bytes(b"\xff")
+        (folder / "parts.graphql").write_text("fragment parts on Pet { name }\n{ ...mine }\n")
+        (folder / "query.graphql").write_text("{ ...stored }\n")
+        query = (folder / "query.graphql").as_uri()
+
+        def fields(client):
+            return [it["label"] for it in client.ask_about(query, "completion", **at(0, 8)) if not it["label"].startswith("__")]
+
+        def notify(client, *paths):
+            client.notify("workspace/didChangeWatchedFiles", changes=[{"uri": path.as_uri(), "type": 2} for path in paths])
+
+        for lets, way in [(False, {"rootUri": folder.as_uri()}), (True, {"workspaceFolders": [{"uri": folder.as_uri(), "name": "a"}], "rootUri": None})]:
+            client = Client(PROGRAM)
+            client.ask("initialize", capabilities={"workspace": {"didChangeWatchedFiles": {"dynamicRegistration": lets}}}, **way)
+            client.notify("initialized")
+            if lets:
+                asked = client.read()
+                expect("registration", asked, {"jsonrpc": "2.0", "id": "files", "method": "client/registerCapability", "params": {"registrations": [
+                    {"id": "files", "method": "workspace/didChangeWatchedFiles", "registerOptions": {"watchers": [{"globPattern": "**/*.{graphql,graphqls,gql}"}]}}]}})
+                client.send({"jsonrpc": "2.0", "id": asked["id"], "result": None})
+            found = client.open(query, "{ pet { ...parts ...stored } }\nfragment mine on Query { a }\nfragment stored on Query { a }\nfragment other on Query { a }\n")
+            expect("fragments of files", [it["range"]["start"]["line"] for it in found["diagnostics"]], [3])
+            found = client.change(query, 1, [{"text": "fragment stored on Pet { name }\n"}])
+            expect("not of the stored text of an open one", [it["code"] for it in found["diagnostics"]], ["NoUnusedFragments"])
+            client.change(query, 2, [{"text": "{ pet { name } }\n"}])
+            expect("fields of a file", fields(client), ["name"])
+            found = client.ask_about(query, "definition", **at(0, 8))
+            expect("a field's definition in a file", (found["uri"], found["range"]), (schema.as_uri(), span(4, 2, 6)))
+            expect("references in a file", [it["uri"] for it in client.ask_about(query, "references", **at(0, 8))], [query, (folder / "parts.graphql").as_uri()])
+            symbols = client.ask("workspace/symbol", query="")["result"]
+            expect("symbols of files", [it["name"] for it in symbols if it["location"]["uri"] != query], ["parts", "query", "Query", "Pet"])
+            client.open(schema.as_uri(), "type Query {\n  pet: Pet\n}\ntype Pet {\n  born: ID\n}\n")
+            expect("an open file counts as the client has it", fields(client), ["born"])
+            notify(client, schema)
+            expect("though it has changed", fields(client), ["born"])
+            client.close(schema.as_uri())
+            expect("a closed one as it is stored", fields(client), ["name"])
+            text = schema.read_text()
+            schema.write_text(text.replace("name", "weight"))
+            notify(client, schema)
+            expect("a file that has changed", fields(client), ["weight"])
+            schema.unlink()
+            notify(client, schema)
+            expect("a file that is gone", fields(client), [])
+            schema.write_text(text)
+            notify(client, schema)
+            expect("a file that was made", fields(client), ["name"])
+            expect("the end", client.end(), 0)
 
 
 def parts(encoding, far):
@@ -475,6 +538,20 @@ PLACES = [("JEDI) {", (8, 28)), ("hero(", (3, 2)), ("episode: H", (3, 7)), ("HOP
 META = ["__typename"]
 
 
+def types_of_the_document():
+    """Of two types with one name, the one in the document that is asked about comes first."""
+    client = started()
+    client.open("file:///0.graphql", "type Query { other: ID }\n")
+    client.open(URI, "type Query { own: ID }\n{ own }\n")
+    found = [it["label"] for it in client.ask_about(URI, "completion", **at(1, 2)) if not it["label"].startswith("__")]
+    expect("its fields come first", found, ["own", "other"])
+    expect("the definition of one", client.ask_about(URI, "definition", **at(1, 3)), {"uri": URI, "range": span(0, 13, 16)})
+    found = client.ask_about(URI, "references", context={"includeDeclaration": True}, **at(1, 3))
+    expect("its uses", [it["range"] for it in found], [span(0, 13, 16), span(1, 2, 5)])
+    expect("in the other document", client.ask_about("file:///0.graphql", "documentHighlight", **at(0, 14)), [{"range": span(0, 13, 18)}])
+    expect("the end", client.end(), 0)
+
+
 def members():
     """Fields, arguments, input fields and values, by the types of another document."""
     def place(text, name):
@@ -560,7 +637,8 @@ def uses_of_names():
         for place in both:
             uri, here = place["uri"], {"position": place["range"]["start"]}
             for wanted, with_definition in [(uses, False), (both, True)]:
-                expect(f"the uses of {place}", client.ask_about(uri, "references", context={"includeDeclaration": with_definition}, **here), wanted)
+                found = client.ask_about(uri, "references", context={"includeDeclaration": with_definition}, **here)
+                expect(f"the uses of {place}, its own document's first", found, sorted(wanted, key=lambda it: it["uri"] != uri))
             expect(f"the marks of {place}", client.ask_about(uri, "documentHighlight", **here), [{"range": it["range"]} for it in both if it["uri"] == uri])
             changes = {}
             for it in both:
@@ -777,7 +855,7 @@ def many_changes():
             client.end()
 
 
-TESTS = [states, statuses_without_shutdown, faulty_messages, pieces_of_input, capabilities, changes, positions, diagnostics, violations, fragments_of_others, lambda: names("utf-16", 0), lambda: names("utf-8", 2), markups, other_documents, members, uses_of_names, open_quotes, templates, changed_templates,
+TESTS = [states, statuses_without_shutdown, faulty_messages, pieces_of_input, capabilities, changes, positions, diagnostics, violations, fragments_of_others, lambda: names("utf-16", 0), lambda: names("utf-8", 2), markups, other_documents, files_of_the_folder, types_of_the_document, members, uses_of_names, open_quotes, templates, changed_templates,
          lambda: parts("utf-16", 0), lambda: parts("utf-8", 2), names_of_symbols, more_folds, completion, layout, long_layout, layout_of_long_lines, limits, refused_words, standard, signatures, many_changes]
 for test in TESTS:
     test()

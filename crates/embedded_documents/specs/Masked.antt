@@ -1,6 +1,5 @@
 -- Files of which only the documents in templates are left.
-use Rattle.std.specs.Prelude.{◌≡◌, ◌⊎◌, ℕ, Bool, ◌==◌, ◌||◌, if◌then◌else◌, List, [], ◌∷◌, map, slice_range, codes}
-use Rattle.std.specs.List.{list_all}
+use Rattle.std.specs.Prelude.{◌≡◌, ◌⊎◌, ℕ, ◌==◌, ◌||◌, if◌then◌else◌, List, [], ◌∷◌, map, slice_range, codes}
 
 -- the blank in place of a byte: the end of a line stays, and any other is a space
 abbrev pub blank : ℕ → ℕ
@@ -25,7 +24,3 @@ HasTag text = (start : ℕ) × (end : ℕ) × IsTag (slice_range text start end)
 pub record IsMasked (text masked : List ℕ) : Type 0 where
   pub bytes : AreMasked text masked
   pub untagged : (¬ HasTag text) → masked ≡ map blank text
-
--- whether a text has only spaces and ends of lines
-abbrev pub is_blank : List ℕ → Bool
-is_blank text = list_all (λ b. blank b == b) text

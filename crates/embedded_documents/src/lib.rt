@@ -11,5 +11,5 @@ mod masking;
 mod quoted;
 mod scanning;
 
-pub use masking::{is_blank, is_in_document, masked};
+pub use masking::{is_in_document, masked};
 pub use scanning::HostLanguage;

@@ -1,6 +1,6 @@
 // Texts of which only the documents are left.
 ghost use Rattle.std.specs.Prelude.{◌≡◌, ℕ, ◌⊎◌, ◌++◌, ◌≤◌, ◌∷◌, List, [], All, IfOk, IfSome, OnOk, false, length, map, slice_range, string_bytes, true};
-ghost use Rattle.embedded_documents.specs.Masked.{HasTag, IsMasked, blank, is_blank};
+ghost use Rattle.embedded_documents.specs.Masked.{HasTag, IsMasked, blank};
 ghost use Rattle.embedded_documents.specs.Steps.{IsMoveIn, IsContextIn, IsTagged};
 
 use crate::scanning::{Context, HostLanguage, Move, next_step};
@@ -115,16 +115,4 @@ pub fn is_in_document(
         start = step.end;
     }
     Ok(is_document(contexts.as_slice().last().copied()))
-}
-
-/// Whether a text has only spaces and ends of lines.
-pub fn is_blank(text: &str) -> bool
-    ensures { result ≡ is_blank text.now }
-{
-    for byte in text.as_bytes() {
-        if !matches!(byte, b' ' | b'\n' | b'\r') {
-            return false;
-        }
-    }
-    true
 }

@@ -1,7 +1,7 @@
 -- Items that are neither significant tokens nor bad text.
 use Rattle.std.proofs.Common.{◌≡◌, ◌∙◌, ◌≤◌, ◌<◌, ◌^◌, ◌+◌, ℕ, zero, suc, Bool, true, false, not, ◌&&◌, List}
 use Rattle.std.proofs.Common.{[], ◌∷◌, ◌++◌, inl, inr, Option, Some, None, Err, length, refl, sym, ap, subst, arith}
-use Rattle.std.specs.Prelude.{min, if◌then◌else◌}
+use Rattle.std.specs.Prelude.{MatchBool, min, if◌then◌else◌}
 use Rattle.std.specs.List.{list_all}
 use Rattle.std.specs.Option.{is_some}
 use Rattle.std.proofs.lemmas.List.Folds.{list_all-append}
@@ -167,6 +167,12 @@ same-words (a ∷ more) (b ∷ bs) h s =
 abbrev pub no-definitions : (source : List ℕ) → IsUtf8 source → are_tokens (items_of source) ≡ true → Significant (items_of source) ≡ []
     → HasNoDefinitions source
 no-definitions source u tokens none = record { items = items_of source; cut = is-cut source u; tokens = tokens; none = none }
+
+pub decided : (source : List ℕ) → IsUtf8 source → (all : Bool) → (all ≡ true → are_tokens (items_of source) ≡ true)
+    → (all ≡ true → Significant (items_of source) ≡ []) → (all ≡ false → ¬ HasNoDefinitions source)
+    → MatchBool all (HasNoDefinitions source) (¬ HasNoDefinitions source)
+decided source u true tokens none some = no-definitions source u (tokens refl) (none refl)
+decided source u false tokens none some = some refl
 
 pub laid-out : (source text : List ℕ) → IsUtf8 source → are_tokens (items_of source) ≡ true → Significant (items_of source) ≡ []
     → HoldsSame text (Kept (items_of source)) → HasSameComments source text

@@ -1,5 +1,5 @@
 // Texts without definitions.
-ghost use Rattle.std.specs.Prelude.{◌≡◌, ◌<◌, ◌≤◌, true, false, not, [], None, length, IfErr, IfOk, IfSome, string_bytes};
+ghost use Rattle.std.specs.Prelude.{◌≡◌, ◌<◌, ◌≤◌, true, false, not, [], None, length, IfErr, IfOk, IfSome, MatchBool, string_bytes};
 ghost use Rattle.lexical_grammar.specs.Answers.{usize_max};
 ghost use Rattle.lexical_grammar.specs.Cut.{Significant, are_tokens, is_significant_kind};
 ghost use Rattle.lexical_grammar.specs.Reads.{items_of};
@@ -21,8 +21,8 @@ fn is_ignored(kind: TokenKind) -> bool
     )
 }
 
-// Whether the text has no significant token and no bad text.
-fn has_no_definitions(source: &str) -> bool
+// Whether a text has no significant token and no bad text.
+fn is_all_ignored(source: &str) -> bool
     ensures few { length (items_of source.now) ≤ usize_max }
     ensures tokens { result ≡ true → are_tokens (items_of source.now) ≡ true }
     ensures none { result ≡ true → Significant (items_of source.now) ≡ [] }
@@ -37,6 +37,13 @@ fn has_no_definitions(source: &str) -> bool
         }
     }
     true
+}
+
+/// Whether a text has no definitions: it is empty, or has comments, commas and white space alone.
+pub fn has_no_definitions(source: &str) -> bool
+    ensures { MatchBool result (HasNoDefinitions source.now) (¬ HasNoDefinitions source.now) }
+{
+    is_all_ignored(source)
 }
 
 // How deep the nodes of such a text nest.
@@ -64,7 +71,7 @@ pub fn format_comments<A: Allocator + Copy>(
     ensures long { IfErr result (λ error. error ≡ TooLong → HasNoDefinitions source.now) }
     ensures small { IfErr result (λ error. error ≡ TooLong → most < longest_layout 0 (length source.now)) }
 {
-    if !has_no_definitions(source) {
+    if !is_all_ignored(source) {
         return Ok(None);
     }
     let gaps = gaps_of(alloc, source)?;

@@ -17,7 +17,7 @@ mod comments;
 mod error_finder;
 
 use apollo_parser::{DocumentRoot, Error, IndexedElement, Lexer, Limits, Parser, SyntaxTree};
-pub use comments::format_comments;
+pub use comments::{format_comments, has_no_definitions};
 pub use error_finder::ErrorFinder;
 pub use format_layout::WriteError;
 use format_layout::{Elements, Gaps, format_document};

@@ -1,18 +1,19 @@
 //! `gqlls` is a language server for GraphQL documents over standard input and output.
 //!
 //! Its options set the limits of each parse. Here are only the words, the standard devices and the exit status; what is done between them is in
-//! `gqlls_run`.
+//! `gqlls_files`.
 #![tactic(auto)]
 
 mod command;
 
 use byte_devices::{Fault, StdSink, StdSource, views, words};
 use command::{HELP, USAGE, VERSION};
-use gqlls_run::{Limits, run};
+use gqlls_files::{Limits, MOST_BYTES, run};
 use program_words::gqlls::options;
 use program_words::information::{Information, information_of};
 use std::alloc::AllocError;
 use std::process::ExitCode;
+use std_files::StdFiles;
 
 #[derive(Clone, Copy)]
 enum Request {
@@ -47,7 +48,8 @@ fn print(rt: &HostRuntime, information: Information) -> Result<u8, Fault> {
 fn serve(rt: &HostRuntime, limits: Limits) -> Result<u8, Fault> {
     let mut reader = StdSource::new(rt.stdin());
     let mut writer = StdSink::new(rt.stdout());
-    run(rt.alloc(), &mut reader, &mut writer, limits)
+    let mut files = StdFiles::up_to(rt, MOST_BYTES as u64);
+    run(rt.alloc(), &mut reader, &mut writer, &mut files, limits)
 }
 
 // What is said on standard error about a run that failed.

@@ -1,7 +1,7 @@
 -- Open documents by their names.
-use Rattle.std.proofs.Common.{◌≡◌, ℕ, ◌<◌, suc, zero, Bool, true, false, List, [], ◌∷◌, map, Option, Some, option_map, nat_cmp, refl, sym, ap, ◌∙◌}
-use Rattle.std.proofs.Common.{String, BTreeMap, string_bytes, string_cmp, subst, arith}
-use Rattle.std.specs.Prelude.{◌↔◌, cond, is_some, unwrap_or}
+use Rattle.std.proofs.Common.{◌≡◌, ℕ, suc, zero, Bool, true, false, List, [], ◌∷◌, map, Option, Some, option_map, nat_cmp, refl, sym, ap, ◌∙◌}
+use Rattle.std.proofs.Common.{◌++◌, String, BTreeMap, inl, inr, string_bytes, string_cmp, subst, arith}
+use Rattle.std.specs.Prelude.{◌↔◌, ◌⊎◌, cond, is_some, unwrap_or}
 use Rattle.std.specs.List.{All, Contains}
 use Rattle.std.specs.Map.{lookup, values_of}
 use Rattle.std.specs.String.{string_cmp_total}
@@ -9,6 +9,7 @@ use Rattle.std.specs.Cmp.Lexicographic.{slice_cmp}
 use Rattle.std.specs.Str.{bytes_eq}
 use Rattle.std.specs.BTreeMap.{IsOrdered, UpdatesBy, get_by_text, is_at, values}
 use Rattle.std.specs.Bool.{Decides}
+use Rattle.std.proofs.lemmas.List.Elements.{Contains-append_cases, Contains-append_left, Contains-append_right}
 use Rattle.std.proofs.lemmas.Map.{update_other}
 use Rattle.std.proofs.lemmas.Map.Text.{btree_map_updates_text}
 use Rattle.std.proofs.lemmas.Map.Views.{All-found}
@@ -62,6 +63,19 @@ module _ {K X B : Type 0} (kept : X → B) where
   entry_of P (entry ∷ entries) b all (zero, below, is) = (entry, all 0 entry (omega arith), is)
   entry_of P (entry ∷ entries) b all (suc k, below, is) =
       entry_of P entries b (λ k d inside. all (suc k) d (omega arith)) (k, omega arith, is)
+
+-- what is in one of two lists
+pub in_either : {B : Type 0} (xs ys : List B) (b : B) {P Q : Type 0} → Contains xs b ↔ P → Contains ys b ↔ Q → Contains (xs ++ ys) b ↔ (P ⊎ Q)
+in_either xs ys b p q = (
+  λ there. elim (Contains-append_cases xs ys b there) [
+    | inl one ↦ inl (p.0 one)
+    | inr one ↦ inr (q.0 one)
+  ],
+  λ either. elim either [
+    | inl one ↦ Contains-append_left xs ys b (p.1 one)
+    | inr one ↦ Contains-append_right xs ys b (q.1 one)
+  ],
+)
 
 -- the documents have just what is kept under some name
 pub all_of : {A B : Type 0} (kept : Document → B) (documents : BTreeMap (String A) Document) → IsOrdered string_cmp documents → (b : B)

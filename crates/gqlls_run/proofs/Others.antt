@@ -1,5 +1,5 @@
 -- The documents beside one that is published.
-use Rattle.std.proofs.Common.{◌≡◌, ◌≢◌, ℕ, true, false, List, Option, Some, None, sym, ap, ◌∙◌, subst}
+use Rattle.std.proofs.Common.{◌≡◌, ◌≢◌, ℕ, true, false, List, Option, None, inl, inr, sym, ap, ◌∙◌, subst}
 use Rattle.std.specs.Prelude.{is_some}
 use Rattle.apollo_parser.specs.declared.Limits.{Limits}
 use Rattle.json.specs.Json.{Json}
@@ -19,14 +19,19 @@ again uri first second old middle new one two = record {
 }
 
 -- what all documents have before one is added, the others have after it
-pub beside : (uri : List ℕ) (value : Option Fragments) (middle new : List ℕ → Option Fragments) (others : List Fragments) → middle uri ≡ None
-    → Updates uri value middle new → AreAll middle others → AreOthers uri new others
-beside uri value middle new others none adds all = λ names. (
-  λ there.
-      let some = (all names).0 there in
-      let apart : some.0 ≢ uri = λ same. (let no : false ≡ true = ap is_some (sym none ∙ ap middle (sym same) ∙ some.1) in cc no) in
-      (some.0, apart, adds.others some.0 apart ∙ some.1),
-  λ other. (all names).1 (other.0, sym (adds.others other.0 other.1) ∙ other.2),
+pub beside : (uri : List ℕ) (value : Option Fragments) (middle new files : List ℕ → Option Fragments) (others : List Fragments) → middle uri ≡ None
+    → Updates uri value middle new → AreAll middle files others → AreOthers uri new files others
+beside uri value middle new files others none adds all = λ names. (
+  λ there. elim ((all names).0 there) [
+    | inl some ↦
+        let apart : some.0 ≢ uri = λ same. (let no : false ≡ true = ap is_some (sym none ∙ ap middle (sym same) ∙ some.1) in cc no) in
+        inl (some.0, apart, adds.others some.0 apart ∙ some.1)
+    | inr file ↦ inr file
+  ],
+  λ either. elim either [
+    | inl other ↦ (all names).1 (inl (other.0, sym (adds.others other.0 other.1) ∙ other.2))
+    | inr file ↦ (all names).1 (inr file)
+  ],
 )
 
 -- a document is taken out, and published anew
@@ -37,8 +42,10 @@ publishes_again uri file params reply old middle new takes published = record {
   sets = record {
     documents = again uri _ _ _ _ _ takes.documents published.sets.documents;
     fragments = again uri _ _ _ _ _ takes.fragments published.sets.fragments;
+    files = published.sets.files ∙ takes.files;
     stage = published.sets.stage ∙ takes.stage;
     encoding = published.sets.encoding ∙ takes.encoding;
+    may_register = published.sets.may_register ∙ takes.may_register;
     limits = published.sets.limits ∙ takes.limits;
   };
   others = published.others;

@@ -1,5 +1,5 @@
 -- The outcome of each message of a conversation, by the Language Server Protocol 3.17.
-use Rattle.std.specs.Prelude.{◌≡◌, ◌≢◌, ℕ, ℤ, List, [], Option, Some, None, MatchOption, codes}
+use Rattle.std.specs.Prelude.{◌≡◌, ◌≢◌, ℕ, ℤ, List, [], true, false, Option, Some, None, MatchOption, codes}
 use lib.IntN.{pos, neg_ℤ}
 use Rattle.byte_devices.specs.Devices.{Account}
 use Rattle.byte_devices.specs.declared.fault.Fault.{Fault}
@@ -14,12 +14,13 @@ use Rattle.embedded_documents.specs.declared.scanning.HostLanguage.{HostLanguage
 use Rattle.rpc_messages.specs.Messages.{IsResult}
 use Rattle.rpc_messages.specs.Steps.{Takes}
 use Rattle.rpc_messages.specs.declared.reply.Reply.{Reply}
-use Rattle.rpc_messages.specs.declared.reply.Reply.TheVariants.{Nothing, Answer, Notice, Exit}
+use Rattle.rpc_messages.specs.declared.reply.Reply.TheVariants.{Nothing, Answer, Notice, Request, Exit}
 use Rattle.rpc_serving.specs.Serving.{EndsServing, IsServed}
 use Rattle.gqlls_run.specs.Files.{OpenFile}
 use Rattle.gqlls_run.specs.Layout.{IsFormattingIn, IsRefusalOf}
-use Rattle.gqlls_run.specs.Parameters.{Edit, IsVersionIn, Offers, edits_in, host_in, text_in, uri_in}
-use Rattle.gqlls_run.specs.Dialogue.{AreOthers, Dialogue, IsChanged, Sets, begun}
+use Rattle.gqlls_run.specs.Parameters.{Edit, IsVersionIn, Offers, edits_in, host_in, may_register_in, text_in, uri_in}
+use Rattle.gqlls_run.specs.Registration.{IsRegistration}
+use Rattle.gqlls_run.specs.Dialogue.{AreOthers, Dialogue, IsChanged, Reads, Sets, begun}
 use Rattle.gqlls_run.specs.Told.{IsTold, Notifies}
 use Rattle.gqlls_run.specs.declared.server.Stage.{Stage}
 use Rattle.gqlls_run.specs.declared.server.Stage.TheVariants.{New, Running, ShutDown}
@@ -31,6 +32,7 @@ abbrev pub Answers : (List ℕ → Type 0) → Reply → Type 0
 Answers IsSuch Nothing = ⊥
 Answers IsSuch (Answer body) = IsSuch body.items
 Answers IsSuch (Notice body) = ⊥
+Answers IsSuch (Request body) = ⊥
 Answers IsSuch (Exit status) = ⊥
 
 -- `PositionEncodingKind`
@@ -46,9 +48,10 @@ announcement encoding capabilities others =
 abbrev pub IsAnnounced : Json → PositionEncoding → List ℕ → Type 0
 IsAnnounced id encoding body = (capabilities others : Members) × IsResult id (announcement encoding capabilities others) body
 
--- The conversation begins, and counts columns from then on as the answer says. No client has to offer UTF-16.
+-- The conversation begins, and counts columns from then on as the answer says. No client has to offer UTF-16. The client says whether the server may
+-- register for the events of files.
 pub record Initializes (id params : Json) (reply : Reply) (old new : Dialogue) : Type 0 where
-  pub dialogue : new ≡ record old { stage = Running; encoding = new.encoding }
+  pub dialogue : new ≡ record old { stage = Running; encoding = new.encoding; may_register = may_register_in params }
   pub offered : new.encoding ≡ Utf8 → Offers params (codes "utf-8")
   pub announced : Answers (IsAnnounced id new.encoding) reply
 
@@ -90,12 +93,26 @@ pub record IsIgnored (reply : Reply) (old new : Dialogue) : Type 0 where
   pub silence : reply ≡ Nothing
   pub dialogue : new ≡ old
 
--- A document is this file now. The reply publishes its errors, with the version that the message gives, by the fragments of all others.
+-- the reply is a request whose body is such
+abbrev pub Requests : (List ℕ → Type 0) → Reply → Type 0
+Requests IsSuch Nothing = ⊥
+Requests IsSuch (Answer body) = ⊥
+Requests IsSuch (Notice body) = ⊥
+Requests IsSuch (Request body) = IsSuch body.items
+Requests IsSuch (Exit status) = ⊥
+
+-- `initialized`: the server registers for the events of files, if it may
+pub record Begins (reply : Reply) (old new : Dialogue) : Type 0 where
+  pub registers : old.may_register ≡ true → Requests IsRegistration reply
+  pub silence : old.may_register ≡ false → reply ≡ Nothing
+  pub dialogue : new ≡ old
+
+-- A document is this file now. The reply publishes its errors, with the version that the message gives, by the fragments of all others and of the files.
 pub record Publishes (uri : List ℕ) (file : OpenFile) (params : Json) (reply : Reply) (old new : Dialogue) : Type 0 where
   pub fragments : Fragments
   pub sets : Sets uri (Some file) (Some fragments) old new
   pub others : List Fragments
-  pub elsewhere : AreOthers uri new.fragments others
+  pub elsewhere : AreOthers uri new.fragments new.files others
   pub version : Option ℤ
   pub versioned : IsVersionIn params version
   pub told : Notifies (IsTold old.limits uri version file fragments others) reply
@@ -148,6 +165,7 @@ pub record Exits (reply : Reply) (old new : Dialogue) : Type 0 where
 -- a notification of any other method
 pub record IsOther (method : List ℕ) : Type 0 where
   pub no_exit : method ≢ codes "exit"
+  pub no_begin : method ≢ codes "initialized"
   pub no_open : method ≢ codes "textDocument/didOpen"
   pub no_change : method ≢ codes "textDocument/didChange"
   pub no_close : method ≢ codes "textDocument/didClose"
@@ -155,6 +173,7 @@ pub record IsOther (method : List ℕ) : Type 0 where
 -- The outcome of a notification. Unless the conversation is running, only `exit` is heard.
 pub record IsHeard (method : List ℕ) (params : Json) (reply : Reply) (old new : Dialogue) : Type 0 where
   pub exits : method ≡ codes "exit" → Exits reply old new
+  pub begins : old.stage ≡ Running → method ≡ codes "initialized" → Begins reply old new
   pub opens : old.stage ≡ Running → method ≡ codes "textDocument/didOpen" → Opens params reply old new
   pub changes : old.stage ≡ Running → method ≡ codes "textDocument/didChange" → Changes params reply old new
   pub closes : old.stage ≡ Running → method ≡ codes "textDocument/didClose" → Closes params reply old new
@@ -163,10 +182,10 @@ pub record IsHeard (method : List ℕ) (params : Json) (reply : Reply) (old new 
 
 -- ---- conversations
 
--- the outcome of a request, which has an id, or of a notification
+-- the outcome of a request, which has an id, or of a notification, before which files may be read
 abbrev pub Steps : Dialogue → Option Json → List ℕ → Json → Reply → Dialogue → Type 0
 Steps old (Some id) method params reply new = IsAsked id method params reply old new
-Steps old None method params reply new = IsHeard method params reply old new
+Steps old None method params reply new = (ready : Dialogue) × Reads old ready × IsHeard method params reply ready new
 
 -- what was written is what a conversation about the bytes that were read says, from its beginning and within these limits
 pub record Serves (limits : Limits) (status : ℕ) (read_old read_new write_old write_new : Account) : Type 0 where

@@ -1,5 +1,5 @@
 -- What a client and the server have in common during a conversation.
-use Rattle.std.specs.Prelude.{◌≡◌, ◌≢◌, ◌↔◌, ℕ, List, fold, Option, Some, None}
+use Rattle.std.specs.Prelude.{◌≡◌, ◌≢◌, ◌↔◌, ◌⊎◌, ℕ, Bool, false, List, fold, Option, Some, None}
 use Rattle.std.specs.List.{Contains}
 use Rattle.apollo_parser.specs.declared.Limits.{Limits}
 use Rattle.line_index.specs.Positions.{units}
@@ -12,18 +12,35 @@ use Rattle.gqlls_run.specs.Parameters.{Edit}
 use Rattle.gqlls_run.specs.declared.server.Stage.{Stage}
 use Rattle.gqlls_run.specs.declared.server.Stage.TheVariants.{New}
 
--- How far the conversation is, how columns are counted, and the limits of each parse; each file that the client has open, by its name, and the names of
--- fragments in it.
+-- How far the conversation is, how columns are counted, whether the server may register for the events of files, and the limits of each parse; each file
+-- that the client has open, by its name, and the names of fragments in it; and those in files that are not open, as far as the server has read them.
 pub record Dialogue : Type 0 where
   pub stage : Stage
   pub encoding : PositionEncoding
+  pub may_register : Bool
   pub limits : Limits
   pub documents : List ℕ → Option OpenFile
   pub fragments : List ℕ → Option Fragments
+  pub files : List ℕ → Option Fragments
 
 -- no message was read
 abbrev pub begun : Limits → Dialogue
-begun limits = record { stage = New; encoding = Utf16; limits = limits; documents = λ name. None; fragments = λ name. None }
+begun limits = record {
+  stage = New;
+  encoding = Utf16;
+  may_register = false;
+  limits = limits;
+  documents = λ name. None;
+  fragments = λ name. None;
+  files = λ name. None;
+}
+
+abbrev pub without_files : Dialogue → Dialogue
+without_files dialogue = record dialogue { files = λ name. None }
+
+-- files may be read, and nothing else changes
+abbrev pub Reads : Dialogue → Dialogue → Type 0
+Reads old new = without_files new ≡ without_files old
 
 -- one document is opened, changed or closed, and the others stay
 pub record Updates {A : Type 0} (uri : List ℕ) (value : Option A) (old new : List ℕ → Option A) : Type 0 where
@@ -34,17 +51,22 @@ pub record Updates {A : Type 0} (uri : List ℕ) (value : Option A) (old new : L
 pub record Sets (uri : List ℕ) (file : Option OpenFile) (names : Option Fragments) (old new : Dialogue) : Type 0 where
   pub documents : Updates uri file old.documents new.documents
   pub fragments : Updates uri names old.fragments new.fragments
+  pub files : new.files ≡ old.files
   pub stage : new.stage ≡ old.stage
   pub encoding : new.encoding ≡ old.encoding
+  pub may_register : new.may_register ≡ old.may_register
   pub limits : new.limits ≡ old.limits
 
--- these are the names of fragments in all documents
-abbrev pub AreAll : (List ℕ → Option Fragments) → List Fragments → Type 0
-AreAll fragments all = (names : Fragments) → Contains all names ↔ ((name : List ℕ) × (fragments name ≡ Some names))
+-- these are the names of fragments in all documents and files
+abbrev pub AreAll : (List ℕ → Option Fragments) → (List ℕ → Option Fragments) → List Fragments → Type 0
+AreAll fragments files all =
+    (names : Fragments) → Contains all names ↔ (((name : List ℕ) × (fragments name ≡ Some names)) ⊎ ((name : List ℕ) × (files name ≡ Some names)))
 
 -- the same but for one document
-abbrev pub AreOthers : List ℕ → (List ℕ → Option Fragments) → List Fragments → Type 0
-AreOthers uri fragments others = (names : Fragments) → Contains others names ↔ ((name : List ℕ) × (name ≢ uri) × (fragments name ≡ Some names))
+abbrev pub AreOthers : List ℕ → (List ℕ → Option Fragments) → (List ℕ → Option Fragments) → List Fragments → Type 0
+AreOthers uri fragments files others =
+    (names : Fragments) → Contains others names ↔ (((name : List ℕ) × (name ≢ uri) × (fragments name ≡ Some names))
+    ⊎ ((name : List ℕ) × (files name ≡ Some names)))
 
 -- a text is the one before with some changes, each made by the client to the text that the one before it left
 pub record IsChanged (edits : List Edit) (old new : OpenFile) : Type 0 where

@@ -1,8 +1,8 @@
 -- The files that a client has open, and what of them is GraphQL.
-use Rattle.std.specs.Prelude.{◌≡◌, ℕ, Bool, ◌&&◌, ◌||◌, if◌then◌else◌, List, Option, Some, None, MatchOption, is_some}
+use Rattle.std.specs.Prelude.{◌≡◌, ℕ, ◌||◌, if◌then◌else◌, List, Option, Some, None, MatchOption}
 use Rattle.std.specs.Prelude.{codes, bytes_eq}
 use Rattle.editor_text.specs.Client.{Opened}
-use Rattle.embedded_documents.specs.Masked.{IsMasked, is_blank}
+use Rattle.embedded_documents.specs.Masked.{IsMasked}
 use Rattle.embedded_documents.specs.declared.scanning.HostLanguage.{HostLanguage}
 use Rattle.embedded_documents.specs.declared.scanning.HostLanguage.TheVariants.{JavaScript, Python}
 
@@ -21,7 +21,3 @@ host_named name =
 -- the text that is parsed: the file's own, or in another language the masked one
 abbrev pub IsSource : OpenFile → List ℕ → Type 0
 IsSource file source = MatchOption file.host (source ≡ file.content.text) (λ host. IsMasked file.content.text source)
-
--- whether the file is in another language and has nothing in templates
-abbrev pub has_nothing : OpenFile → List ℕ → Bool
-has_nothing file source = is_some file.host && is_blank source

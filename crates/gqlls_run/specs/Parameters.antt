@@ -1,13 +1,13 @@
 -- What the parameters of a message say, where they are those of the Language Server Protocol 3.17.
-use Rattle.std.specs.Prelude.{◌≡◌, ℕ, ℤ, ◌^◌, ◌&&◌, nat_lt, if◌then◌else◌, List, [], ◌∷◌, codes}
-use Rattle.std.specs.Prelude.{Option, Some, None, MatchOption, ok_or, option_and_then, option_map}
+use Rattle.std.specs.Prelude.{◌≡◌, ℕ, ℤ, ◌^◌, Bool, ◌&&◌, false, nat_lt, if◌then◌else◌, List, [], ◌∷◌, codes, filter_map}
+use Rattle.std.specs.Prelude.{Option, Some, None, MatchOption, ok_or, option_and_then, option_map, unwrap_or}
 use Rattle.std.specs.Option.{option_zip}
 use Rattle.std.specs.Char.{is_digit}
 use Rattle.std.specs.Int.{w64}
 use Rattle.std.specs.List.{Contains, list_all}
 use Rattle.std.specs.Str.Parse.{ParsesSigned, digits_value, without_leading_plus}
 use Rattle.json.specs.Json.{Json, string, Items, no_items, item}
-use Rattle.json.specs.Find.{as_array, as_number, as_str, get, is_null}
+use Rattle.json.specs.Find.{as_array, as_bool, as_number, as_str, get, is_null}
 use Rattle.line_index.specs.declared.Position.{Position}
 use Rattle.editor_text.specs.declared.Change.{Change}
 use Rattle.editor_text.specs.declared.PositionRange.{PositionRange}
@@ -16,9 +16,13 @@ use Rattle.gqlls_run.specs.Files.{host_named}
 
 -- ---- documents
 
+-- the name that a value has of a file or a folder
+abbrev pub name_in : Json → Option (List ℕ)
+name_in value = option_and_then as_str (get (codes "uri") value)
+
 -- the name of the document that the message is about
 abbrev pub uri_in : Json → Option (List ℕ)
-uri_in params = option_and_then (λ document. option_and_then as_str (get (codes "uri") document)) (get (codes "textDocument") params)
+uri_in params = option_and_then name_in (get (codes "textDocument") params)
 
 abbrev pub number_in : Json → Option (List ℕ)
 number_in params = option_and_then (λ document. option_and_then as_number (get (codes "version") document)) (get (codes "textDocument") params)
@@ -100,7 +104,42 @@ edits_in params = option_and_then (each edit_in) (items_at (codes "contentChange
 abbrev pub told : Change → Edit
 told change = (change.range, change.text.now)
 
+-- ---- folders and files
+
+-- the names that the values of a list have
+abbrev pub names_at : List ℕ → Json → List (List ℕ)
+names_at list params = filter_map name_in (unwrap_or (items_at list params) [])
+
+-- `rootUri`, which is deprecated for `workspaceFolders`
+abbrev pub root_in : Json → Option (List ℕ)
+root_in params = option_and_then as_str (get (codes "rootUri") params)
+
+abbrev pub or_root : Option (List ℕ) → List (List ℕ) → List (List ℕ)
+or_root root (folder ∷ folders) = folder ∷ folders
+or_root None [] = []
+or_root (Some root) [] = root ∷ []
+
+-- `InitializeParams`: the folders that the client opens
+abbrev pub opened_folders : Json → List (List ℕ)
+opened_folders params = or_root (root_in params) (names_at (codes "workspaceFolders") params)
+
+-- `DidChangeWatchedFilesParams`: the files that were made, have changed or are gone
+abbrev pub changed_files : Json → List (List ℕ)
+changed_files params = names_at (codes "changes") params
+
 -- ---- capabilities
+
+-- `DidChangeWatchedFilesClientCapabilities`
+abbrev pub watching_in : Json → Option Json
+watching_in capabilities = option_and_then (get (codes "didChangeWatchedFiles")) (get (codes "workspace") capabilities)
+
+abbrev pub registration_in : Json → Option Bool
+registration_in params =
+    option_and_then as_bool (option_and_then (get (codes "dynamicRegistration")) (option_and_then watching_in (get (codes "capabilities") params)))
+
+-- whether the server may register for the events of files
+abbrev pub may_register_in : Json → Bool
+may_register_in params = unwrap_or (registration_in params) false
 
 -- how a client says that it can count columns
 abbrev pub encodings_in : Json → Option (List Json)

@@ -44,11 +44,16 @@ abbrev pub dialogue_of : Server → Dialogue
 dialogue_of server = record {
   stage = server.stage;
   encoding = server.encoding;
+  may_register = server.may_register;
   limits = server.limits;
   documents = files server.documents;
   fragments = names_in server.documents;
+  files = names_in server.files;
 }
 
--- the message takes the old server's dialogue to the new one's
+-- the message takes the old service's dialogue to the new one's
+abbrev pub StepsIn : {S : Type 0} → (S → Dialogue) → S → Option Json → List ℕ → Json → Reply → S → Type 0
+StepsIn dialogue old id method params reply new = Steps (dialogue old) id method params reply (dialogue new)
+
 abbrev pub StepsOf : Server → Option Json → List ℕ → Json → Reply → Server → Type 0
-StepsOf old id method params reply new = Steps (dialogue_of old) id method params reply (dialogue_of new)
+StepsOf = StepsIn dialogue_of

@@ -1,5 +1,5 @@
 -- What is published of the documents that a client has open.
-use Rattle.std.specs.Prelude.{◌≡◌, ℕ, ℤ, true, false, List, [], Option}
+use Rattle.std.specs.Prelude.{◌≡◌, ℕ, ℤ, List, [], Option}
 use Rattle.apollo_parser.specs.Parsed.{Parsed}
 use Rattle.apollo_parser.specs.Promise.{Promise}
 use Rattle.apollo_parser.specs.declared.Limits.{Limits}
@@ -7,9 +7,10 @@ use Rattle.editor_diagnostics.specs.Publication.{IsPublication}
 use Rattle.editor_diagnostics.specs.Remarks.{Remarked}
 use Rattle.editor_validation.specs.Fragments.{Fragments, fragments_in}
 use Rattle.editor_validation.specs.Remarks.{AreRemarksOn}
-use Rattle.gqlls_run.specs.Files.{IsSource, OpenFile, has_nothing}
+use Rattle.formatter.specs.Comments.{HasNoDefinitions}
+use Rattle.gqlls_run.specs.Files.{IsSource, OpenFile}
 use Rattle.rpc_messages.specs.declared.reply.Reply.{Reply}
-use Rattle.rpc_messages.specs.declared.reply.Reply.TheVariants.{Nothing, Answer, Notice, Exit}
+use Rattle.rpc_messages.specs.declared.reply.Reply.TheVariants.{Nothing, Answer, Notice, Request, Exit}
 
 -- The remarks on a parse: on its errors, or if it has none on the rules of validation that the document breaks, and that the other documents with these
 -- fragments do not mend.
@@ -20,8 +21,8 @@ AreRemarksOf others parsed remarks = AreRemarksOn others (record { whole = parse
 abbrev pub fragments_of : Parsed → Fragments
 fragments_of parsed = fragments_in (record { whole = parsed.tree; index = 0 })
 
--- The body publishes the remarks on a parse of this file within the limits, at their positions as the client counts them. There are none on a file in
--- another language that has nothing in templates. The parse has these fragments.
+-- The body publishes the remarks on a parse of this file within the limits, at their positions as the client counts them. There are none where
+-- the text that is parsed has no definitions. The parse has these fragments.
 pub record IsTold (limits : Limits) (uri : List ℕ) (version : Option ℤ) (file : OpenFile) (fragments : Fragments) (others : List Fragments) (body : List ℕ)
     : Type 0 where
   pub text : List ℕ
@@ -30,8 +31,8 @@ pub record IsTold (limits : Limits) (uri : List ℕ) (version : Option ℤ) (fil
   pub promise : Promise text limits.recursion limits.tokens parsed
   pub named : fragments ≡ fragments_of parsed
   pub remarks : List Remarked
-  pub said : has_nothing file text ≡ false → AreRemarksOf others parsed remarks
-  pub silent : has_nothing file text ≡ true → remarks ≡ []
+  pub said : (¬ HasNoDefinitions text) → AreRemarksOf others parsed remarks
+  pub silent : HasNoDefinitions text → remarks ≡ []
   pub published : IsPublication uri version file.content.encoding file.content.text remarks body
 
 -- the reply is a notice whose body is such
@@ -39,4 +40,5 @@ abbrev pub Notifies : (List ℕ → Type 0) → Reply → Type 0
 Notifies IsSuch Nothing = ⊥
 Notifies IsSuch (Answer body) = ⊥
 Notifies IsSuch (Notice body) = IsSuch body.items
+Notifies IsSuch (Request body) = ⊥
 Notifies IsSuch (Exit status) = ⊥

@@ -1,18 +1,19 @@
-// What the server says that it does.
+// What the server says that it does, and what it wants of the client.
 ghost use Rattle.std.specs.Prelude.{◌≡◌, [], ◌∷◌, ◌++◌, IfOk, List, OnOk, Some, flat_map};
 ghost use Rattle.json.specs.Tree.{HasNumbers};
 ghost use Rattle.json.specs.Value.{value_view};
-ghost use Rattle.rpc_messages.specs.Messages.{IsAnswer};
+ghost use Rattle.rpc_messages.specs.Messages.{IsAnswer, IsRequest};
 ghost use Rattle.rpc_messages.specs.Nesting.{EndsTwoObjects, after_all};
 ghost use Rattle.rpc_messages.specs.Pieces.{tokens_of};
 ghost use Rattle.rpc_messages.specs.declared.nesting.Expected.TheVariants.{Member};
 ghost use Rattle.rpc_messages.specs.declared.pieces.Piece.{Piece};
 ghost use Rattle.gqlls_run.specs.Conversation.{IsAnnounced, encoding_name};
+ghost use Rattle.gqlls_run.specs.Registration.{IsRegistration};
 
 use editor_answers::TOKEN_TYPES;
 use json::Value;
 use line_index::PositionEncoding;
-use rpc_messages::{Piece, answer};
+use rpc_messages::{Piece, answer, request};
 use std::alloc::{AllocError, Global};
 
 const VERSION: &str = "0.1.0";
@@ -110,6 +111,31 @@ const END: [Piece<'static>; 12] = [
     Piece::EndObject,
 ];
 
+// The parameters of a registration for the events of GraphQL files.
+const REGISTRATION: [Piece<'static>; 21] = [
+    Piece::Object,
+    Piece::Key("registrations"),
+    Piece::Array,
+    Piece::Object,
+    Piece::Key("id"),
+    Piece::Text("files"),
+    Piece::Key("method"),
+    Piece::Text("workspace/didChangeWatchedFiles"),
+    Piece::Key("registerOptions"),
+    Piece::Object,
+    Piece::Key("watchers"),
+    Piece::Array,
+    Piece::Object,
+    Piece::Key("globPattern"),
+    Piece::Text("**/*.{graphql,graphqls,gql}"),
+    Piece::EndObject,
+    Piece::EndArray,
+    Piece::EndObject,
+    Piece::EndObject,
+    Piece::EndArray,
+    Piece::EndObject,
+];
+
 // The protocol's name of how columns are counted.
 fn encoding_name(encoding: PositionEncoding) -> &'static str
     ensures { result.now ≡ encoding_name encoding }
@@ -166,5 +192,15 @@ pub(crate) fn answer_initialize(
     push_served(&mut pieces, asks_first)?;
     // bound to a name, so that its clauses on `Ok` are found
     let body = answer(alloc, id, pieces.as_slice())?;
+    Ok(body)
+}
+
+/// The request that registers for the events of GraphQL files.
+pub(crate) fn registration(alloc: Global) -> Result<Vec<u8>, AllocError>
+    ensures requests { IfOk result (λ body. IsRequest body.items) }
+    ensures registers { IfOk result (λ body. IsRegistration body.items) }
+{
+    // bound to a name, so that its clauses on `Ok` are found
+    let body = request(alloc, "files", "client/registerCapability", &REGISTRATION)?;
     Ok(body)
 }

@@ -234,21 +234,16 @@ fn variable_text<'t>(leaf: SyntaxToken<'t>) -> Option<&'t str> {
     Some(leaf.parent()?.parent()?.text())
 }
 
-// The node whose variables may be used behind an offset: the operation in front of it, or else the whole document, since any operation may spread a
-// fragment.
+// The node whose variables may be used behind an offset: the operation there, or else the whole document, since any operation may spread a fragment.
 fn scope_at<'t>(root: SyntaxNode<'t>, offset: usize) -> SyntaxNode<'t> {
-    if let Some(leaf) = root
-        .token_at_offset(offset.saturating_sub(1))
-        .right_biased()
-        && let Some(parent) = leaf.parent()
-    {
-        for node in parent.ancestors() {
-            if node.kind().is(SyntaxKind::OPERATION_DEFINITION) {
-                return node;
-            }
-        }
+    let definition = root
+        .children()
+        .take_while(|child| child.text_range().start() < offset)
+        .last();
+    match definition {
+        Some(node) if node.kind().is(SyntaxKind::OPERATION_DEFINITION) => node,
+        Some(_) | None => root,
     }
-    root
 }
 
 // Adds the variables that a part of a document defines and that are not known yet, as values.

@@ -5,10 +5,11 @@ ghost use Rattle.std.specs.String.{string_cmp};
 ghost use Rattle.apollo_parser.specs.Promise.{Promise};
 ghost use Rattle.editor_diagnostics.specs.Remarks.{as_remarked};
 ghost use Rattle.editor_validation.specs.Fragments.{Fragments, as_fragments};
+ghost use Rattle.formatter.specs.Comments.{HasNoDefinitions};
 ghost use Rattle.rpc_messages.specs.Messages.{IsNotice};
 ghost use Rattle.gqlls_run.specs.Parameters.{told};
 ghost use Rattle.gqlls_run.specs.Dialogue.{AreAll, IsChanged, Updates};
-ghost use Rattle.gqlls_run.specs.Files.{IsSource, has_nothing};
+ghost use Rattle.gqlls_run.specs.Files.{IsSource};
 ghost use Rattle.gqlls_run.specs.State.{IsParsed, file_of, files, names_in, names_of, source_of};
 ghost use Rattle.gqlls_run.specs.Told.{AreRemarksOf, IsTold};
 
@@ -16,10 +17,13 @@ use apollo_parser::{DocumentRoot, Limits, Parser, SyntaxNode, SyntaxTree};
 use editor_diagnostics::{Positions, Remark, publication};
 use editor_text::{Change, OpenDocument, closed};
 use editor_validation::{FragmentNames, fragment_names, remarks};
-use embedded_documents::{HostLanguage, is_blank, is_in_document, masked};
+use embedded_documents::{HostLanguage, is_in_document, masked};
+use formatter::has_no_definitions;
 use line_index::PositionEncoding;
 use std::alloc::{AllocError, Global};
 use std::collections::BTreeMap;
+use std::collections::btree_map::Iter;
+use std::iter::Chain;
 
 // The text of a file in another language with only what is in templates; none for one in GraphQL.
 fn masked_text(
@@ -140,16 +144,16 @@ impl Document {
         source_in(&self.content, &self.masked)
     }
 
-    // The remarks on it, by the fragments of the other documents: none where nothing is in templates.
+    // The remarks on it, by the fragments of the other documents: none where it has no definitions.
     fn remarks<'a>(
         &'a self,
         alloc: Global,
         others: &[&'a FragmentNames],
     ) -> Result<Vec<Remark>, AllocError>
-        ensures said { IfOk result (λ found. has_nothing (file_of self.now) (source_of self.now) ≡ false → AreRemarksOf (map (λ f. as_fragments f.now) others.now) self.now.tree (map as_remarked found.items)) }
-        ensures silent { IfOk result (λ found. has_nothing (file_of self.now) (source_of self.now) ≡ true → map as_remarked found.items ≡ []) }
+        ensures said { IfOk result (λ found. (¬ HasNoDefinitions (source_of self.now)) → AreRemarksOf (map (λ f. as_fragments f.now) others.now) self.now.tree (map as_remarked found.items)) }
+        ensures silent { IfOk result (λ found. HasNoDefinitions (source_of self.now) → map as_remarked found.items ≡ []) }
     {
-        if self.host.is_some() && is_blank(self.source()) {
+        if has_no_definitions(self.source()) {
             return Ok(Vec::new(alloc));
         }
         // bound to a name, so that its clauses on `Ok` are found
@@ -205,6 +209,44 @@ impl Document {
     }
 }
 
+/// The documents in which names are looked for: those that are open, and then the files that are not, each in the order of their names.
+#[derive(Clone, Copy)]
+pub(crate) struct Documents<'a> {
+    pub opened: &'a BTreeMap<String, Document>,
+    pub files: &'a BTreeMap<String, Document>,
+}
+
+/// A document, and its name.
+#[derive(Clone, Copy)]
+pub(crate) struct Known<'a> {
+    pub uri: &'a str,
+    pub document: &'a Document,
+}
+
+impl<'a> Documents<'a> {
+    /// Each of them, with its name.
+    pub(crate) fn iter(self) -> Chain<Iter<'a, String, Document>, Iter<'a, String, Document>> {
+        self.opened.iter().chain(self.files.iter())
+    }
+
+    /// One of them, and then the others.
+    pub(crate) fn from(
+        self,
+        alloc: Global,
+        first: Known<'a>,
+    ) -> Result<Vec<Known<'a>>, AllocError> {
+        let mut known = Vec::new(alloc);
+        known.push(first)?;
+        for (uri, document) in self.iter() {
+            let uri = uri.as_str();
+            if uri != first.uri {
+                known.push(Known { uri, document })?;
+            }
+        }
+        Ok(known)
+    }
+}
+
 /// Opens a document, in the place of the one with its name.
 pub(crate) fn insert(
     alloc: Global,
@@ -238,16 +280,19 @@ fn all_fragments<'d>(
 /// The notice of the remarks on a document beside others, by its name and the version that the client gave it.
 pub(crate) fn told_beside(
     alloc: Global,
-    others: &BTreeMap<String, Document>,
+    others: Documents<'_>,
     document: &Document,
     uri: &str,
     version: Option<i64>,
 ) -> Result<Vec<u8>, AllocError>
     ensures notifies { IfOk result (λ body. IsNotice body.items) }
-    ensures told { IfOk result (λ body. (limits : Limits) → IsParsed limits document.now → (names : List Fragments) × AreAll (names_in others.now) names
+    ensures told { IfOk result (λ body. (limits : Limits) → IsParsed limits document.now → (names : List Fragments)
+        × AreAll (names_in others.entry.opened.now) (names_in others.entry.files.now) names
         × IsTold limits uri.now version (file_of document.now) (names_of document.now) names body.items) }
 {
-    let names = all_fragments(alloc, others)?;
+    let mut names = all_fragments(alloc, others.opened)?;
+    let more = all_fragments(alloc, others.files)?;
+    names.extend_from_slice(more.as_slice())?;
     // bound to a name, so that its clauses on `Ok` are found
     let body = document.told(alloc, uri, version, names.as_slice())?;
     Ok(body)

@@ -1,5 +1,5 @@
-// Where the open documents have a name: references, marks, renaming.
-use crate::documents::Document;
+// Where the documents have a name: references, marks, renaming.
+use crate::documents::{Document, Known};
 use apollo_parser::SyntaxNode;
 use editor_answers::{
     Span, definition_elsewhere, push_changes, push_locations, push_marks, references,
@@ -9,7 +9,6 @@ use editor_diagnostics::Positions;
 use rpc_messages::Piece;
 use schema_members::Uses;
 use std::alloc::{AllocError, Global};
-use std::collections::BTreeMap;
 
 /// A name in a document, which means what its text says: the document's name, the root of its tree, the name's byte offset, and which document defines it.
 #[derive(Clone, Copy)]
@@ -20,7 +19,7 @@ pub(crate) struct Occurrence<'a> {
     pub definer: Option<&'a str>,
 }
 
-/// What is looked for in the open documents.
+/// What is looked for in the documents.
 #[derive(Drop)]
 pub(crate) enum Sought<'s, 'a> {
     /// The names that mean a member by their places.
@@ -92,7 +91,7 @@ impl Sought<'_, '_> {
             Sought::Name(name) => (name.definer.is_some(), false),
         };
         if !is_defined {
-            Some("no open document defines this name")
+            Some("no document defines this name")
         } else if is_shared {
             Some("other types may have to have this name, by an interface")
         } else {
@@ -105,14 +104,14 @@ impl Sought<'_, '_> {
         &self,
         alloc: Global,
         pieces: &mut Vec<Piece<'p>>,
-        documents: &'p BTreeMap<String, Document>,
+        documents: &[Known<'p>],
         with_definition: bool,
     ) -> Result<(), AllocError> {
         pieces.extend_from_slice(&[Piece::Array])?;
-        for (index, (uri, document)) in documents.iter().enumerate() {
-            let root = document.root();
-            let found = self.spans_in(alloc, index, uri.as_str(), root, with_definition)?;
-            push_found(alloc, pieces, uri.as_str(), document, found.as_slice())?;
+        for (index, known) in documents.iter().enumerate() {
+            let root = known.document.root();
+            let found = self.spans_in(alloc, index, known.uri, root, with_definition)?;
+            push_found(alloc, pieces, known.uri, known.document, found.as_slice())?;
         }
         pieces.extend_from_slice(&[Piece::EndArray])
     }
@@ -138,17 +137,17 @@ impl Sought<'_, '_> {
         &self,
         alloc: Global,
         pieces: &mut Vec<Piece<'p>>,
-        documents: &'p BTreeMap<String, Document>,
+        documents: &[Known<'p>],
         name: &'p str,
     ) -> Result<(), AllocError> {
         pieces.extend_from_slice(&[Piece::Object, Piece::Key("changes"), Piece::Object])?;
-        for (index, (uri, document)) in documents.iter().enumerate() {
-            let found = self.spans_in(alloc, index, uri.as_str(), document.root(), true)?;
+        for (index, known) in documents.iter().enumerate() {
+            let found = self.spans_in(alloc, index, known.uri, known.document.root(), true)?;
             push_changed(
                 alloc,
                 pieces,
-                uri.as_str(),
-                document,
+                known.uri,
+                known.document,
                 found.as_slice(),
                 name,
             )?;

@@ -1,5 +1,5 @@
 // What the parameters of a message say. There is nothing where they are not those of the protocol.
-ghost use Rattle.std.specs.Prelude.{◌≡◌, IfOk, IfSome, IsTrue, MatchOption, None, codes, map, ok_or, option_and_then, option_map};
+ghost use Rattle.std.specs.Prelude.{◌≡◌, IfOk, IfSome, IsTrue, MatchOption, None, codes, filter_map, map, ok_or, option_and_then, option_map};
 ghost use Rattle.std.specs.List.{Contains};
 ghost use Rattle.std.specs.Str.Parse.{ParsesUnsigned};
 ghost use Rattle.json.specs.Find.{as_array, as_number, get};
@@ -7,6 +7,7 @@ ghost use Rattle.json.specs.Json.{string};
 ghost use Rattle.json.specs.Value.{value_view};
 ghost use Rattle.line_index.specs.declared.PositionEncoding.TheVariants.{Utf8};
 ghost use Rattle.gqlls_run.specs.Parameters.{IsVersionIn, Offers, OffersAll, number_at, position_at, position_in, range_in, text_in, uri_in};
+ghost use Rattle.gqlls_run.specs.Parameters.{changed_files, may_register_in, registration_in, name_in, names_at, opened_folders, root_in};
 ghost use Rattle.gqlls_run.specs.Files.{host_named};
 ghost use Rattle.gqlls_run.specs.Parameters.{each, edit_in, edits_in, extent_in, host_in, items_at, list_of, told};
 
@@ -108,11 +109,18 @@ pub(crate) fn span_of(positions: &Positions<'_>, params: &Value<'_>) -> Option<S
     Some(span)
 }
 
+// The name that a value has of a file or a folder.
+fn name_in<'a>(value: &Value<'a>) -> Option<&'a str>
+    ensures { option_map (λ uri. uri.now) result ≡ name_in (value_view value.now) }
+{
+    value.get("uri")?.as_str()
+}
+
 /// The name of the document that a message is about.
-pub(crate) fn uri_of<'a>(params: &Value<'a>) -> Option<&'a str>
+pub fn uri_of<'a>(params: &Value<'a>) -> Option<&'a str>
     ensures { option_map (λ uri. uri.now) result ≡ uri_in (value_view params.now) }
 {
-    params.get("textDocument")?.get("uri")?.as_str()
+    name_in(params.get("textDocument")?)
 }
 
 /// The version of the document that a message is about.
@@ -207,12 +215,77 @@ pub(crate) fn changes_of<'a>(
     }
 }
 
+// The names that some values have.
+fn names_in<'a>(alloc: Global, items: &[Value<'a>]) -> Result<Vec<&'a str>, AllocError>
+    ensures { IfOk result (λ uris. map (λ uri. uri.now) uris.items ≡ filter_map name_in (map (λ item. value_view item) items.now)) }
+{
+    let mut uris = Vec::new(alloc);
+    for item in items {
+        if let Some(uri) = name_in(item) {
+            uris.push(uri)?;
+        }
+    }
+    Ok(uris)
+}
+
+// The names that the values of a list have; none where there is no list.
+fn names_at<'a>(alloc: Global, params: &Value<'a>, list: &str) -> Result<Vec<&'a str>, AllocError>
+    ensures { IfOk result (λ uris. map (λ uri. uri.now) uris.items ≡ names_at list.now (value_view params.now)) }
+{
+    match items_at(params, list) {
+        Some(items) => names_in(alloc, items),
+        None => Ok(Vec::new(alloc)),
+    }
+}
+
+fn root_of<'a>(params: &Value<'a>) -> Option<&'a str>
+    ensures { option_map (λ uri. uri.now) result ≡ root_in (value_view params.now) }
+{
+    params.get("rootUri")?.as_str()
+}
+
+/// The names of the folders that a client opens: its `workspaceFolders`, or else its `rootUri`.
+pub fn opened_folders<'a>(alloc: Global, params: &Value<'a>) -> Result<Vec<&'a str>, AllocError>
+    ensures { IfOk result (λ uris. map (λ uri. uri.now) uris.items ≡ opened_folders (value_view params.now)) }
+{
+    let mut uris = names_at(alloc, params, "workspaceFolders")?;
+    if uris.is_empty()
+        && let Some(root) = root_of(params)
+    {
+        uris.push(root)?;
+    }
+    Ok(uris)
+}
+
+/// The names of the files that were made, have changed or are gone.
+pub fn changed_files<'a>(alloc: Global, params: &Value<'a>) -> Result<Vec<&'a str>, AllocError>
+    ensures { IfOk result (λ uris. map (λ uri. uri.now) uris.items ≡ changed_files (value_view params.now)) }
+{
+    names_at(alloc, params, "changes")
+}
+
 /// The text that the names of symbols are to have; empty for all.
 pub(crate) fn query_of<'a>(params: &Value<'a>) -> &'a str {
     match params.get("query") {
         Some(query) => query.as_str().unwrap_or(""),
         None => "",
     }
+}
+
+// Whether a client lets the server register, where it says so.
+fn registration_of(params: &Value<'_>) -> Option<bool>
+    ensures { result ≡ registration_in (value_view params.now) }
+{
+    let capabilities = params.get("capabilities")?;
+    let watching = capabilities.get("workspace")?.get("didChangeWatchedFiles")?;
+    watching.get("dynamicRegistration")?.as_bool()
+}
+
+/// Whether a client lets the server register for the events of files.
+pub(crate) fn may_register(params: &Value<'_>) -> bool
+    ensures { result ≡ may_register_in (value_view params.now) }
+{
+    registration_of(params).unwrap_or(false)
 }
 
 fn include_declaration(params: &Value<'_>) -> Option<bool> {

@@ -5,7 +5,7 @@ ghost use Rattle.json.specs.Value.{value_view};
 ghost use Rattle.rpc_messages.specs.Messages.{IsAnswer};
 
 use crate::completing::{call_around, push_completions};
-use crate::documents::Document;
+use crate::documents::{Document, Documents, Known};
 use crate::formatting::{REQUEST_FAILED, answer_layout, answer_null};
 use crate::layout::format_part;
 use crate::naming::{Occurrence, Sought};
@@ -19,9 +19,8 @@ use editor_answers::{
 use editor_diagnostics::Positions;
 use json::Value;
 use rpc_messages::{Piece, answer, code, refusal};
-use schema_members::{STANDARD, Schema, Uses, member_at, member_named};
+use schema_members::{Call, STANDARD, Schema, Uses, member_at, member_named};
 use std::alloc::{AllocError, Global};
-use std::collections::BTreeMap;
 
 /// What is asked.
 #[derive(Clone, Copy)]
@@ -58,6 +57,9 @@ const QUESTIONS: [(&str, Question); 14] = [
     ("textDocument/signatureHelp", Question::Signature),
 ];
 
+// The index of the document that is asked about, among those in which names are looked for.
+const FIRST: usize = 0;
+
 // For how many positions a client gets the parts of the text around them: each answer is as long as the tree is deep there.
 const MOST_POSITIONS: usize = 100;
 
@@ -80,26 +82,48 @@ struct Asked<'a, 'd, 'v> {
     root: SyntaxNode<'a>,
     positions: &'a Positions<'d>,
     uri: &'a str,
-    documents: &'a BTreeMap<String, Document>,
+    documents: Documents<'a>,
     params: &'a Value<'v>,
     limits: Limits,
     markup: Markup,
 }
 
-// What defines a name, and where: an open document, with its name, or the standard.
+// What defines a name, and where: a document, with its name, or the standard.
 #[derive(Clone, Copy)]
 struct Definer<'a> {
-    document: Option<(&'a str, &'a Document)>,
+    document: Option<Known<'a>>,
     span: Span,
 }
 
+// The documents in which names are looked for, the one that is asked about first; and the roots of their trees, and the standard's.
+#[derive(Drop)]
+struct Searched<'a> {
+    known: Vec<Known<'a>>,
+    roots: Vec<SyntaxNode<'a>>,
+}
+
 impl<'a> Asked<'a, '_, '_> {
-    // The first open document that defines the name at a byte offset, which this one doesn't define, or the standard.
-    fn definer(self, offset: usize) -> Option<Definer<'a>> {
-        for (uri, document) in self.documents {
-            if let Some(span) = definition_elsewhere(self.root, offset, document.root()) {
+    // The documents in which names are looked for.
+    fn searched(self) -> Result<Searched<'a>, AllocError> {
+        let first = Known {
+            uri: self.uri,
+            document: self.document,
+        };
+        let known = self.documents.from(self.alloc, first)?;
+        let mut roots = Vec::new(self.alloc);
+        for one in &known {
+            roots.push(one.document.root())?;
+        }
+        roots.push(self.standard)?;
+        Ok(Searched { known, roots })
+    }
+
+    // The first document that defines the name at a byte offset, which this one doesn't define, or the standard.
+    fn definer(self, searched: &Searched<'a>, offset: usize) -> Option<Definer<'a>> {
+        for known in &searched.known {
+            if let Some(span) = definition_elsewhere(self.root, offset, known.document.root()) {
                 return Some(Definer {
-                    document: Some((uri.as_str(), document)),
+                    document: Some(*known),
                     span,
                 });
             }
@@ -110,11 +134,14 @@ impl<'a> Asked<'a, '_, '_> {
         })
     }
 
-    // What defines the field, the argument or the value at a byte offset, by the types of all open documents and of the standard.
-    fn definer_of_member(self, offset: usize) -> Result<Option<Definer<'a>>, AllocError> {
-        let roots = self.roots()?;
+    // What defines the field, the argument or the value at a byte offset, by the types of all documents and of the standard.
+    fn definer_of_member(
+        self,
+        searched: &Searched<'a>,
+        offset: usize,
+    ) -> Result<Option<Definer<'a>>, AllocError> {
         let schema = Schema {
-            roots: roots.as_slice(),
+            roots: searched.roots.as_slice(),
         };
         let Some(leaf) = identifier_at(self.root, offset) else {
             return Ok(None);
@@ -124,21 +151,18 @@ impl<'a> Asked<'a, '_, '_> {
         };
         let start = member.offset();
         let end = start.saturating_add(member.name().len());
-        let document = match self.documents.iter().nth(member.document) {
-            Some((uri, document)) => Some((uri.as_str(), document)),
-            None => None,
-        };
         Ok(Some(Definer {
-            document,
+            document: searched.known.get(member.document).copied(),
             span: Span { start, end },
         }))
     }
 
     // What defines the name at a byte offset, which this document doesn't define by the name alone.
     fn any_definer(self, offset: usize) -> Result<Option<Definer<'a>>, AllocError> {
-        match self.definer(offset) {
+        let searched = self.searched()?;
+        match self.definer(&searched, offset) {
             Some(definer) => Ok(Some(definer)),
-            None => self.definer_of_member(offset),
+            None => self.definer_of_member(&searched, offset),
         }
     }
 
@@ -148,10 +172,10 @@ impl<'a> Asked<'a, '_, '_> {
             return push_location(pieces, self.positions, self.uri, span);
         }
         if let Some(definer) = self.any_definer(offset)?
-            && let Some((uri, document)) = definer.document
+            && let Some(known) = definer.document
         {
-            let positions = document.positions(self.alloc)?;
-            return push_location(pieces, &positions, uri, definer.span);
+            let positions = known.document.positions(self.alloc)?;
+            return push_location(pieces, &positions, known.uri, definer.span);
         }
         pieces.extend_from_slice(&[Piece::Null])
     }
@@ -165,7 +189,7 @@ impl<'a> Asked<'a, '_, '_> {
             return Ok(None);
         };
         let (source, root) = match definer.document {
-            Some((_, document)) => (document.content.text(), document.root()),
+            Some(known) => (known.document.content.text(), known.document.root()),
             None => (STANDARD, self.standard),
         };
         Ok(Some(Elsewhere {
@@ -175,43 +199,25 @@ impl<'a> Asked<'a, '_, '_> {
         }))
     }
 
-    // The roots of the trees of all documents, in the order of their names, and the standard's.
-    fn roots(self) -> Result<Vec<SyntaxNode<'a>>, AllocError> {
-        let mut roots = Vec::new(self.alloc);
-        for document in self.documents.values() {
-            roots.push(document.root())?;
-        }
-        roots.push(self.standard)?;
-        Ok(roots)
-    }
-
-    // The index of this document among all.
-    fn index(self) -> usize {
-        let uri = self.uri;
-        self.documents
-            .keys()
-            .take_while(|name| name.as_str() != uri)
-            .count()
-    }
-
     // The name of the document that defines the name at a byte offset by its text, if one does.
-    fn definer_uri(self, offset: usize) -> Option<&'a str> {
+    fn definer_uri(self, searched: &Searched<'a>, offset: usize) -> Option<&'a str> {
         if definition(self.root, offset).is_some() {
             return Some(self.uri);
         }
-        let (uri, _) = self.definer(offset)?.document?;
-        Some(uri)
+        Some(self.definer(searched, offset)?.document?.uri)
     }
 
     // What the name at a byte offset means: a member by the types in these trees, or what its text says.
     fn sought<'s>(
         self,
-        roots: &'s [SyntaxNode<'a>],
+        searched: &'s Searched<'a>,
         offset: usize,
     ) -> Result<Sought<'s, 'a>, AllocError> {
-        let schema = Schema { roots };
+        let schema = Schema {
+            roots: searched.roots.as_slice(),
+        };
         if let Some(leaf) = identifier_at(self.root, offset)
-            && let Some(member) = member_named(self.alloc, schema, self.index(), leaf)?
+            && let Some(member) = member_named(self.alloc, schema, FIRST, leaf)?
         {
             return Ok(Sought::Member(Uses::new(self.alloc, schema, member)?));
         }
@@ -219,26 +225,31 @@ impl<'a> Asked<'a, '_, '_> {
             uri: self.uri,
             root: self.root,
             offset,
-            definer: self.definer_uri(offset),
+            definer: self.definer_uri(searched, offset),
         }))
     }
 
     // Adds the result of references.
     fn push_references(self, pieces: &mut Vec<Piece<'a>>, offset: usize) -> Result<(), AllocError> {
-        let roots = self.roots()?;
-        let sought = self.sought(roots.as_slice(), offset)?;
+        let searched = self.searched()?;
+        let sought = self.sought(&searched, offset)?;
         let with_definition = asks_for_definition(self.params);
-        sought.push_references(self.alloc, pieces, self.documents, with_definition)
+        sought.push_references(
+            self.alloc,
+            pieces,
+            searched.known.as_slice(),
+            with_definition,
+        )
     }
 
     // Adds the result of documentHighlight.
     fn push_highlights(self, pieces: &mut Vec<Piece<'a>>, offset: usize) -> Result<(), AllocError> {
-        let roots = self.roots()?;
-        let sought = self.sought(roots.as_slice(), offset)?;
+        let searched = self.searched()?;
+        let sought = self.sought(&searched, offset)?;
         sought.push_highlights(
             self.alloc,
             pieces,
-            self.index(),
+            FIRST,
             self.uri,
             self.root,
             self.positions,
@@ -355,9 +366,9 @@ impl<'a> Asked<'a, '_, '_> {
         let Some(leaf) = identifier_at(self.root, offset) else {
             return answer_null(self.alloc, id);
         };
-        let roots = self.roots()?;
-        let sought = self.sought(roots.as_slice(), offset)?;
-        if let Some(reason) = sought.objection(self.documents.len()) {
+        let searched = self.searched()?;
+        let sought = self.sought(&searched, offset)?;
+        if let Some(reason) = sought.objection(searched.known.len()) {
             return refusal(self.alloc, id, REQUEST_FAILED, reason);
         }
         let span = editor_answers::span_of(leaf.text_range());
@@ -377,13 +388,13 @@ impl<'a> Asked<'a, '_, '_> {
         requires { HasNumbers (value_view id.now) }
         ensures { IfOk result (λ body. IsAnswer (value_view id.now) body.items) }
     {
-        let roots = self.roots()?;
-        let sought = self.sought(roots.as_slice(), offset)?;
-        if let Some(reason) = sought.objection(self.documents.len()) {
+        let searched = self.searched()?;
+        let sought = self.sought(&searched, offset)?;
+        if let Some(reason) = sought.objection(searched.known.len()) {
             return refusal(self.alloc, id, REQUEST_FAILED, reason);
         }
         let mut pieces: Vec<Piece<'a>> = Vec::new(self.alloc);
-        sought.push_changes(self.alloc, &mut pieces, self.documents, name)?;
+        sought.push_changes(self.alloc, &mut pieces, searched.known.as_slice(), name)?;
         answer(self.alloc, id, pieces.as_slice())
     }
 
@@ -429,19 +440,32 @@ impl<'a> Asked<'a, '_, '_> {
         if !self.document.is_at(self.alloc, offset)? {
             return answer_null(self.alloc, id);
         }
-        let roots = self.roots()?;
+        let searched = self.searched()?;
         let mut pieces = Vec::new(self.alloc);
         push_completions(
             self.alloc,
             &mut pieces,
             self.root,
-            roots.as_slice(),
+            searched.roots.as_slice(),
             self.document.source(),
             self.positions,
             offset,
             self.limits,
         )?;
         answer(self.alloc, id, pieces.as_slice())
+    }
+
+    // The field or the directive whose arguments a byte offset is in.
+    fn call(self, offset: usize) -> Result<Option<Call<'a>>, AllocError> {
+        let searched = self.searched()?;
+        let text = self.document.source();
+        call_around(
+            self.alloc,
+            text,
+            offset,
+            searched.roots.as_slice(),
+            self.limits,
+        )
     }
 
     fn signature(self, id: &Value<'_>) -> Result<Vec<u8>, AllocError>
@@ -454,12 +478,9 @@ impl<'a> Asked<'a, '_, '_> {
         if !self.document.is_at(self.alloc, offset)? {
             return answer_null(self.alloc, id);
         }
-        let roots = self.roots()?;
-        let text = self.document.source();
-        let call = call_around(self.alloc, text, offset, roots.as_slice(), self.limits)?;
-        match call {
+        match self.call(offset)? {
             Some(call) => answer_signature(self.alloc, id, call),
-            None => answer(self.alloc, id, &[Piece::Null]),
+            None => answer_null(self.alloc, id),
         }
     }
 
@@ -486,14 +507,14 @@ impl<'a> Asked<'a, '_, '_> {
     }
 }
 
-/// The answer to a question about the document with a name, one of those that are open, within limits, hovers in a markup.
+/// The answer to a question about the document with a name, one of those that are open, beside others, within limits, hovers in a markup.
 pub(crate) fn answer_question(
     alloc: Global,
     id: &Value<'_>,
     question: Question,
     uri: &str,
     document: &Document,
-    documents: &BTreeMap<String, Document>,
+    documents: Documents<'_>,
     params: &Value<'_>,
     limits: Limits,
     markup: Markup,

@@ -1,4 +1,4 @@
-// Definitions of all open documents, by parts of their names.
+// Definitions of all documents, by parts of their names.
 ghost use Rattle.std.specs.Prelude.{IfOk};
 ghost use Rattle.json.specs.Json.{Json};
 ghost use Rattle.json.specs.Tree.{HasNumbers};
@@ -6,13 +6,12 @@ ghost use Rattle.json.specs.Value.{value_view};
 ghost use Rattle.rpc_messages.specs.Answers.{IsBegun};
 ghost use Rattle.rpc_messages.specs.Messages.{IsAnswer};
 
-use crate::documents::Document;
+use crate::documents::{Document, Documents};
 use editor_answers::{Symbol, push_location, symbol_of};
 use editor_diagnostics::Positions;
 use json::Value;
 use rpc_messages::{LongAnswer, Piece};
 use std::alloc::{AllocError, Global};
-use std::collections::BTreeMap;
 
 // Whether a name has a text, in letters of any case.
 fn has_part(name: &str, part: &str) -> bool {
@@ -72,24 +71,24 @@ fn put_found(
 fn put_all_found(
     alloc: Global,
     answer: LongAnswer,
-    documents: &BTreeMap<String, Document>,
+    documents: Documents<'_>,
     part: &str,
 ) -> Result<LongAnswer, AllocError>
     ensures { IfOk result (λ new. (id : Json) → IsBegun id answer → IsBegun id new) }
 {
     let mut answer = answer;
-    for (uri, document) in documents {
+    for (uri, document) in documents.iter() {
         answer = put_found(alloc, answer, uri.as_str(), document, part)?;
     }
     Ok(answer)
 }
 
-/// The answer to `workspace/symbol`: the definitions of all open documents whose names have a text. It fails only where memory is
+/// The answer to `workspace/symbol`: the definitions of all documents whose names have a text. It fails only where memory is
 /// refused.
 pub(crate) fn answer_search(
     alloc: Global,
     id: &Value<'_>,
-    documents: &BTreeMap<String, Document>,
+    documents: Documents<'_>,
     part: &str,
 ) -> Result<Vec<u8>, AllocError>
     requires { HasNumbers (value_view id.now) }

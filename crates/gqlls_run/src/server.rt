@@ -5,17 +5,17 @@ ghost use Rattle.json.specs.Value.{value_view};
 ghost use Rattle.rpc_messages.specs.Messages.{IsAnswer};
 ghost use Rattle.rpc_messages.specs.Replies.{EndsOnlyIf, Replies};
 ghost use Rattle.rpc_messages.specs.declared.reply.Reply.TheVariants.{Answer};
-ghost use Rattle.gqlls_run.specs.Conversation.{Changes, Closes, Formats, IsAsked, IsHeard, Opens, Publishes, exit_status};
-ghost use Rattle.gqlls_run.specs.Dialogue.{begun};
+ghost use Rattle.gqlls_run.specs.Conversation.{Begins, Changes, Closes, Formats, IsAsked, IsHeard, Opens, Publishes, exit_status};
+ghost use Rattle.gqlls_run.specs.Dialogue.{Reads, begun};
 ghost use Rattle.gqlls_run.specs.Layout.{IsRefusalOf};
 ghost use Rattle.gqlls_run.specs.State.{IsParsed, StepsOf, dialogue_of, file_of};
 
-use crate::capabilities::answer_initialize;
-use crate::documents::{Document, insert, told_beside};
+use crate::capabilities::{answer_initialize, registration};
+use crate::documents::{Document, Documents, insert, told_beside};
 use crate::formatting::{answer_formatting, answer_null};
 use crate::parameters::{
-    asks_before_renaming, changes_of, encoding_of, host_of, markup_of, query_of, text_of, uri_of,
-    version_of,
+    asks_before_renaming, changes_of, encoding_of, host_of, markup_of, may_register, query_of,
+    text_of, uri_of, version_of,
 };
 use crate::questions::{answer_question, question_of};
 use crate::searching::answer_search;
@@ -38,13 +38,15 @@ enum Stage {
     ShutDown,
 }
 
-/// The open documents by their names, how far the conversation is, the markup of hovers, and the limits of each parse.
+/// The open documents by their names, the files that are not open, how far the conversation is, what the client can do, and the limits of each parse.
 #[derive(Drop)]
 pub struct Server {
     documents: BTreeMap<String, Document>,
+    files: BTreeMap<String, Document>,
     stage: Stage,
     encoding: PositionEncoding,
     markup: Markup,
+    may_register: bool,
     limits: Limits,
 }
 
@@ -55,10 +57,42 @@ impl Server {
     {
         Server {
             documents: BTreeMap::new(alloc),
+            files: BTreeMap::new(alloc),
             stage: Stage::New,
             encoding: PositionEncoding::Utf16,
             markup: Markup::Markdown,
+            may_register: false,
             limits,
+        }
+    }
+
+    /// Has names looked for in a file that is not open, by its URI and its text, in the place of the one with this URI. It fails only where memory is
+    /// refused.
+    pub fn keep_file(&mut self, alloc: Global, uri: &str, text: &str) -> Result<(), AllocError>
+        ensures { Reads (dialogue_of self.old) (dialogue_of self.new) }
+    {
+        let document = Document::new(alloc, self.encoding, text, None, self.limits)?;
+        insert(alloc, &mut self.files, uri, document)
+    }
+
+    /// Has names looked for in this file no more, and gives how many bytes it has.
+    pub fn drop_file(&mut self, uri: &str) -> usize
+        ensures { Reads (dialogue_of self.old) (dialogue_of self.new) }
+    {
+        match self.files.remove(uri) {
+            Some(document) => document.content.text().len(),
+            None => 0,
+        }
+    }
+
+    // The documents in which names are looked for.
+    fn known(&self) -> Documents<'_>
+        ensures opened { result.opened.now ≡ self.now.documents }
+        ensures files { result.files.now ≡ self.now.files }
+    {
+        Documents {
+            opened: &self.documents,
+            files: &self.files,
         }
     }
 
@@ -102,7 +136,7 @@ impl Server {
             return self.layout(alloc, id, params);
         }
         if method == "workspace/symbol" {
-            return answer_search(alloc, id, &self.documents, query_of(params));
+            return answer_search(alloc, id, self.known(), query_of(params));
         }
         let Some(question) = question_of(method) else {
             return refused(alloc, id, code::METHOD_NOT_FOUND, "method not found");
@@ -119,11 +153,24 @@ impl Server {
             question,
             uri,
             document,
-            &self.documents,
+            self.known(),
             params,
             self.limits,
             self.markup,
         )
+    }
+
+    // Registers for the events of files, if it may.
+    fn begin(&self, alloc: Global) -> Result<Reply, AllocError>
+        ensures replies { IfOk result (Replies None) }
+        ensures ends { IfOk result (EndsOnlyIf ⊥) }
+        ensures begins { IfOk result (λ reply. Begins reply (dialogue_of self.now) (dialogue_of self.now)) }
+    {
+        if !self.may_register {
+            return Ok(Reply::Nothing);
+        }
+        let body = registration(alloc)?;
+        Ok(Reply::Request(body))
     }
 
     // Keeps a document, in the place of the one with its name, and publishes its errors.
@@ -140,7 +187,7 @@ impl Server {
         ensures publishes { IfOk result (λ reply. Publishes uri.now (file_of document) (value_view params.now) reply (dialogue_of self.old) (dialogue_of self.new)) }
     {
         self.documents.remove(uri);
-        let told = told_beside(alloc, &self.documents, &document, uri, version_of(params))?;
+        let told = told_beside(alloc, self.known(), &document, uri, version_of(params))?;
         insert(alloc, &mut self.documents, uri, document)?;
         Ok(Reply::Notice(told))
     }
@@ -199,6 +246,27 @@ impl Server {
         let told = withdrawal(alloc, uri)?;
         Ok(Reply::Notice(told))
     }
+
+    // What a notification brings about.
+    fn hear(&mut self, alloc: Global, method: &str, params: &Value<'_>) -> Result<Reply, AllocError>
+        ensures replies { IfOk result (Replies None) }
+        ensures ends { IfOk result (EndsOnlyIf (method.now ≡ codes "exit")) }
+        ensures step { IfOk result (λ reply. IsHeard method.now (value_view params.now) reply (dialogue_of self.old) (dialogue_of self.new)) }
+    {
+        if method == "exit" {
+            return Ok(Reply::Exit(exit_status(self.stage)));
+        }
+        match self.stage {
+            Stage::Running => match method {
+                "initialized" => self.begin(alloc),
+                "textDocument/didOpen" => self.open(alloc, params),
+                "textDocument/didChange" => self.change(alloc, params),
+                "textDocument/didClose" => self.close(alloc, params),
+                _ => Ok(Reply::Nothing),
+            },
+            Stage::New | Stage::ShutDown => Ok(Reply::Nothing),
+        }
+    }
 }
 
 // The answer that refuses a request.
@@ -240,6 +308,7 @@ impl Service for Server {
                 self.stage = Stage::Running;
                 self.encoding = encoding_of(params);
                 self.markup = markup_of(params);
+                self.may_register = may_register(params);
                 answer_initialize(alloc, id, self.encoding, asks_before_renaming(params))
             }
             Stage::New => refused(alloc, id, code::NOT_INITIALIZED, "not initialized"),
@@ -260,19 +329,10 @@ impl Service for Server {
     ) -> Result<Reply, AllocError>
         ensures replies { IfOk result (Replies None) }
         ensures ends { IfOk result (EndsOnlyIf (method.now ≡ codes "exit")) }
-        ensures step { IfOk result (λ reply. IsHeard method.now (value_view params.now) reply (dialogue_of self.old) (dialogue_of self.new)) }
+        ensures step { IfOk result (λ reply. StepsOf self.old None method.now (value_view params.now) reply self.new) }
     {
-        if method == "exit" {
-            return Ok(Reply::Exit(exit_status(self.stage)));
-        }
-        match self.stage {
-            Stage::Running => match method {
-                "textDocument/didOpen" => self.open(alloc, params),
-                "textDocument/didChange" => self.change(alloc, params),
-                "textDocument/didClose" => self.close(alloc, params),
-                _ => Ok(Reply::Nothing),
-            },
-            Stage::New | Stage::ShutDown => Ok(Reply::Nothing),
-        }
+        // bound to a name, so that its clauses on `Ok` are found
+        let reply = self.hear(alloc, method, params)?;
+        Ok(reply)
     }
 }

@@ -8,3 +8,4 @@ mod finding;
 mod names;
 
 pub use finding::{Named, named_files};
+pub use names::is_graphql;

@@ -9,8 +9,8 @@ use Rattle.json.specs.Json.{Json, Members}
 use Rattle.json.specs.Tree.{json_tokens}
 use Rattle.rpc_messages.specs.declared.nesting.Expected.{Expected}
 use Rattle.rpc_messages.specs.declared.nesting.Expected.TheVariants.{Value}
-use Rattle.rpc_messages.specs.Answers.{AreOfObject, HasTokens, IsAnswerOf, answer_front, error_member, notice_front, response_front}
-use Rattle.rpc_messages.specs.Messages.{IsAnswer, IsError, IsNotice, IsNoticeOf, IsResult}
+use Rattle.rpc_messages.specs.Answers.{AreOfObject, HasTokens, IsAnswerOf, answer_front, error_member, notice_front, request_front, response_front}
+use Rattle.rpc_messages.specs.Messages.{IsAnswer, IsError, IsNotice, IsNoticeOf, IsRequest, IsRequestOf, IsResult}
 use Rattle.rpc_messages.specs.Nesting.{after_all}
 use Rattle.rpc_messages.proofs.Nested.{after_both, nests, value_of}
 
@@ -77,14 +77,30 @@ still_nested old new ts was now added long so_far more =
 pub still_long : (old new ts : List Token) → new ≡ old ++ ts → 6 ≤ length old → 6 ≤ length new
 still_long old new ts added long = omega (arith, ap length added, length-append old ts, long)
 
--- a notice
+-- ---- notices and requests
+
+-- parameters that are those of an object
+as_object : (front ts : List Token) (body : List ℕ) (members : Members) → ts ≡ json_tokens (json.object members)
+    → HasTokens (front ++ (ts ++ end_object ∷ [])) body → HasTokens (front ++ (json_tokens (json.object members) ++ end_object ∷ [])) body
+as_object front ts body members e h = subst (λ (x : List Token). HasTokens (front ++ (x ++ end_object ∷ [])) body) e h
+
 pub notice_text : (method : List ℕ) (ts : List Token) (body : List ℕ) (members : Members) → ts ≡ json_tokens (json.object members)
     → HasTokens (notice_front method ++ (ts ++ end_object ∷ [])) body → IsNoticeOf method members body
 notice_text method ts body members e h =
-    let as_object : HasTokens (notice_front method ++ (json_tokens (json.object members) ++ end_object ∷ [])) body =
-    subst (λ (x : List Token). HasTokens (notice_front method ++ (x ++ end_object ∷ [])) body) e h in
-    record { utf8 = as_object.utf8; is = as_object.is }
+    let is = as_object (notice_front method) ts body members e h in
+    record { utf8 = is.utf8; is = is.is }
 
 pub notifies : (method : List ℕ) (ts : List Token) (body : List ℕ) → AreOfObject ts → HasTokens (notice_front method ++ (ts ++ end_object ∷ [])) body
     → IsNotice body
 notifies method ts body o h = record { method = method; params = o.members; notifies = notice_text method ts body o.members o.is h }
+
+pub request_text : (id method : List ℕ) (ts : List Token) (body : List ℕ) (members : Members) → ts ≡ json_tokens (json.object members)
+    → HasTokens (request_front id method ++ (ts ++ end_object ∷ [])) body → IsRequestOf id method members body
+request_text id method ts body members e h =
+    let is = as_object (request_front id method) ts body members e h in
+    record { utf8 = is.utf8; is = is.is }
+
+pub requests : (id method : List ℕ) (ts : List Token) (body : List ℕ) → AreOfObject ts
+    → HasTokens (request_front id method ++ (ts ++ end_object ∷ [])) body → IsRequest body
+requests id method ts body o h =
+    record { id = id; method = method; params = o.members; requests = request_text id method ts body o.members o.is h }

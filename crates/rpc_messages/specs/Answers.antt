@@ -30,8 +30,15 @@ abbrev pub error_member : ℤ → List ℕ → List Token
 error_member code text =
     key (codes "error") ∷ begin_object ∷ key (codes "code") ∷ number (signed_decimal code) ∷ key (codes "message") ∷ string text ∷ end_object ∷ []
 
+-- the members of a notice or a request up to its parameters
+abbrev pub call_front : List ℕ → List Token
+call_front method = key (codes "method") ∷ string method ∷ key (codes "params") ∷ []
+
 abbrev pub notice_front : List ℕ → List Token
-notice_front method = begin_object ∷ key (codes "jsonrpc") ∷ string (codes "2.0") ∷ key (codes "method") ∷ string method ∷ key (codes "params") ∷ []
+notice_front method = begin_object ∷ key (codes "jsonrpc") ∷ string (codes "2.0") ∷ call_front method
+
+abbrev pub request_front : List ℕ → List ℕ → List Token
+request_front id method = begin_object ∷ key (codes "jsonrpc") ∷ string (codes "2.0") ∷ key (codes "id") ∷ string id ∷ call_front method
 
 -- the body is text of these tokens
 pub record HasTokens (ts : List Token) (body : List ℕ) : Type 0 where

@@ -2,14 +2,15 @@
 use Rattle.std.specs.Prelude.{◌≡◌, ⊤, Option, Some, None}
 use Rattle.json.specs.Json.{Json}
 use Rattle.rpc_messages.specs.declared.reply.Reply.{Reply}
-use Rattle.rpc_messages.specs.declared.reply.Reply.TheVariants.{Nothing, Answer, Notice, Exit}
-use Rattle.rpc_messages.specs.Messages.{IsAnswer, IsNotice}
+use Rattle.rpc_messages.specs.declared.reply.Reply.TheVariants.{Nothing, Answer, Notice, Request, Exit}
+use Rattle.rpc_messages.specs.Messages.{IsAnswer, IsNotice, IsRequest}
 
 -- The reply to a message that needs an answer with this id, or none. There is an answer exactly where one is needed, and it has that id.
 abbrev pub Replies : Option Json → Reply → Type 0
 Replies asked Nothing = asked ≡ None
 Replies asked (Answer body) = (id : Json) × (asked ≡ Some id) × IsAnswer id body.items
 Replies asked (Notice body) = (asked ≡ None) × IsNotice body.items
+Replies asked (Request body) = (asked ≡ None) × IsRequest body.items
 Replies asked (Exit status) = asked ≡ None
 
 -- the reply ends the conversation only where this holds
@@ -17,4 +18,5 @@ abbrev pub EndsOnlyIf : Type 0 → Reply → Type 0
 EndsOnlyIf asked Nothing = ⊤
 EndsOnlyIf asked (Answer body) = ⊤
 EndsOnlyIf asked (Notice body) = ⊤
+EndsOnlyIf asked (Request body) = ⊤
 EndsOnlyIf asked (Exit status) = asked

@@ -4,7 +4,7 @@ use lib.IntN.{pos, neg_ℤ}
 use Rattle.json.specs.Json.{Json, null}
 use Rattle.json.specs.Find.{as_str, get}
 use Rattle.rpc_messages.specs.declared.reply.Reply.{Reply}
-use Rattle.rpc_messages.specs.declared.reply.Reply.TheVariants.{Nothing, Answer, Notice, Exit}
+use Rattle.rpc_messages.specs.declared.reply.Reply.TheVariants.{Nothing, Answer, Notice, Request, Exit}
 use Rattle.rpc_messages.specs.Messages.{IsError, IsJson, IsNoJson}
 
 -- the parameters of a message: null where it has none
@@ -20,6 +20,7 @@ abbrev pub IsRefusal : ℤ → Reply → Type 0
 IsRefusal code Nothing = ⊥
 IsRefusal code (Answer body) = (text : List ℕ) × IsError null code text body.items
 IsRefusal code (Notice body) = ⊥
+IsRefusal code (Request body) = ⊥
 IsRefusal code (Exit status) = ⊥
 
 -- the service, as its trait says: the step for a request (which has an id) or a notification (which has none) with this method and these parameters

@@ -1,4 +1,4 @@
-//! The messages of JSON-RPC 2.0, as the Language Server Protocol uses them: what has to be answered, and how answers and notices are written.
+//! The messages of JSON-RPC 2.0, as the Language Server Protocol uses them: what has to be answered, and how answers, notices and requests are written.
 //!
 //! `handle` reads the body of a message, and has a `Service` answer it. A request gets exactly one answer: an object with its id and either a result or
 //! an error. What is no message, and a body that is not read as JSON, is refused with the id null. JSON is read to 128 levels of arrays and objects, and
@@ -14,6 +14,6 @@ mod pieces;
 mod reply;
 
 pub use handling::{Service, handle};
-pub use message::{LongAnswer, answer, code, notice, refusal};
+pub use message::{LongAnswer, answer, code, notice, refusal, request};
 pub use pieces::Piece;
 pub use reply::Reply;

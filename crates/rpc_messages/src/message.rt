@@ -4,8 +4,8 @@ ghost use Rattle.json.specs.Json.{Members, object};
 ghost use Rattle.json.specs.Token.{end_object};
 ghost use Rattle.json.specs.Tree.{HasNumbers, json_tokens};
 ghost use Rattle.json.specs.Value.{value_view};
-ghost use Rattle.rpc_messages.specs.Answers.{AreOfObject, HasTokens, IsAnswerOf, error_member, id_token, notice_front, response_front};
-ghost use Rattle.rpc_messages.specs.Messages.{IsAnswer, IsError, IsNotice, IsNoticeOf};
+ghost use Rattle.rpc_messages.specs.Answers.{AreOfObject, HasTokens, IsAnswerOf, call_front, error_member, id_token, notice_front, request_front, response_front};
+ghost use Rattle.rpc_messages.specs.Messages.{IsAnswer, IsError, IsNotice, IsNoticeOf, IsRequest, IsRequestOf};
 ghost use Rattle.rpc_messages.specs.Pieces.{Adds, tokens_of};
 
 use crate::nesting::Nesting;
@@ -187,9 +187,42 @@ pub fn refusal(alloc: Global, id: &Value<'_>, code: i64, text: &str) -> Result<V
     Ok(body)
 }
 
+// Writes a method and its parameters.
+fn put_call(out: &mut Writer, method: &str, params: &[Piece<'_>]) -> Result<(), AllocError>
+    ensures { Adds result out.old out.new (call_front method.now ++ flat_map tokens_of params.now) }
+{
+    put_all(
+        out,
+        &[
+            Piece::Key("method"),
+            Piece::Text(method),
+            Piece::Key("params"),
+        ],
+    )?;
+    put_all(out, params)
+}
+
 // The body of a notice.
 fn notice_body(alloc: Global, method: &str, params: &[Piece<'_>]) -> Result<Vec<u8>, AllocError>
     ensures { IfOk result (λ body. HasTokens (notice_front method.now ++ (flat_map tokens_of params.now ++ end_object ∷ [])) body.items) }
+{
+    let mut out = Writer::new(Vec::new(alloc));
+    put_all(
+        &mut out,
+        &[Piece::Object, Piece::Key("jsonrpc"), Piece::Text("2.0")],
+    )?;
+    put_call(&mut out, method, params)?;
+    end(out)
+}
+
+// The body of a request.
+fn request_body(
+    alloc: Global,
+    id: &str,
+    method: &str,
+    params: &[Piece<'_>],
+) -> Result<Vec<u8>, AllocError>
+    ensures { IfOk result (λ body. HasTokens (request_front id.now method.now ++ (flat_map tokens_of params.now ++ end_object ∷ [])) body.items) }
 {
     let mut out = Writer::new(Vec::new(alloc));
     put_all(
@@ -198,12 +231,11 @@ fn notice_body(alloc: Global, method: &str, params: &[Piece<'_>]) -> Result<Vec<
             Piece::Object,
             Piece::Key("jsonrpc"),
             Piece::Text("2.0"),
-            Piece::Key("method"),
-            Piece::Text(method),
-            Piece::Key("params"),
+            Piece::Key("id"),
+            Piece::Text(id),
         ],
     )?;
-    put_all(&mut out, params)?;
+    put_call(&mut out, method, params)?;
     end(out)
 }
 
@@ -214,5 +246,21 @@ pub fn notice(alloc: Global, method: &str, params: &[Piece<'_>]) -> Result<Vec<u
     ensures notifies { IfOk result (λ body. IsNotice body.items) }
 {
     let body = notice_body(alloc, method, params)?;
+    Ok(body)
+}
+
+/// A request of the server: an id, a method, and the pieces of its parameters, which are an object. It fails only where memory is refused.
+pub fn request(
+    alloc: Global,
+    id: &str,
+    method: &str,
+    params: &[Piece<'_>],
+) -> Result<Vec<u8>, AllocError>
+    requires { AreOfObject (flat_map tokens_of params.now) }
+    ensures params { IfOk result (λ body. (members : Members) → flat_map tokens_of params.now ≡ json_tokens (object members)
+        → IsRequestOf id.now method.now members body.items) }
+    ensures requests { IfOk result (λ body. IsRequest body.items) }
+{
+    let body = request_body(alloc, id, method, params)?;
     Ok(body)
 }

@@ -9,6 +9,8 @@ pub enum Reply {
     Answer(Vec<u8>),
     /// It tells the client something by itself, with this body.
     Notice(Vec<u8>),
+    /// It asks the client for something, with this body.
+    Request(Vec<u8>),
     /// It ends, with this exit status.
     Exit(u8),
 }

@@ -6,7 +6,7 @@ use Rattle.std.proofs.lemmas.List.{append-nil}
 use Rattle.json.specs.Json.{Json}
 use Rattle.rpc_serving.specs.Frames.{BeginsWithFrame, HasNoFrame, IsSkipped, NeverHasFrame}
 use Rattle.rpc_messages.specs.declared.reply.Reply.{Reply}
-use Rattle.rpc_messages.specs.declared.reply.Reply.TheVariants.{Nothing, Answer, Notice, Exit}
+use Rattle.rpc_messages.specs.declared.reply.Reply.TheVariants.{Nothing, Answer, Notice, Request, Exit}
 use Rattle.rpc_messages.specs.Messages.{Asks, AsksForEnd}
 use Rattle.rpc_messages.specs.Replies.{EndsOnlyIf, Replies}
 use Rattle.rpc_serving.specs.Exchange.{Exchange, waits, replied, ended, passed_over, said_for, status_of}
@@ -22,6 +22,7 @@ asks_for_end : (asks : Type 0) (reply : Reply) (status : ℕ) → EndsOnlyIf ask
 asks_for_end asks Nothing status h some = absurd (none-some status some)
 asks_for_end asks (Answer body) status h some = absurd (none-some status some)
 asks_for_end asks (Notice body) status h some = absurd (none-some status some)
+asks_for_end asks (Request body) status h some = absurd (none-some status some)
 asks_for_end asks (Exit code) status h some = h
 
 pub never_now : (now : List ℕ) → NeverHasFrame now → HasNoFrame now

@@ -3,7 +3,7 @@ use Rattle.std.specs.Prelude.{◌≡◌, ℕ, List, [], ◌∷◌, ◌++◌, Opt
 use Rattle.json.specs.Json.{Json}
 use Rattle.rpc_serving.specs.Frames.{BeginsWithFrame, HasNoFrame, NeverHasFrame, frame_of}
 use Rattle.rpc_messages.specs.declared.reply.Reply.{Reply}
-use Rattle.rpc_messages.specs.declared.reply.Reply.TheVariants.{Nothing, Answer, Notice, Exit}
+use Rattle.rpc_messages.specs.declared.reply.Reply.TheVariants.{Nothing, Answer, Notice, Request, Exit}
 use Rattle.rpc_messages.specs.Messages.{Asks, AsksForEnd}
 use Rattle.rpc_messages.specs.Replies.{Replies}
 
@@ -12,6 +12,7 @@ abbrev pub said_for : Reply → List ℕ
 said_for Nothing = []
 said_for (Answer body) = frame_of body.items
 said_for (Notice body) = frame_of body.items
+said_for (Request body) = frame_of body.items
 said_for (Exit status) = []
 
 -- the exit status, where a reply ends the conversation
@@ -19,6 +20,7 @@ abbrev pub status_of : Reply → Option ℕ
 status_of Nothing = None
 status_of (Answer body) = None
 status_of (Notice body) = None
+status_of (Request body) = None
 status_of (Exit status) = Some status
 
 -- A service in some state, the bytes that came, what is said for them, the bytes that are left, the exit status where a message ended the

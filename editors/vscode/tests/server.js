@@ -2,9 +2,11 @@
 // Places in the texts were counted by hand.
 const assert = require("node:assert");
 const processes = require("node:child_process");
-const { readFileSync } = require("node:fs");
+const { mkdtempSync, readFileSync, rmSync, unlinkSync, writeFileSync } = require("node:fs");
 const Module = require("node:module");
+const { tmpdir } = require("node:os");
 const { join } = require("node:path");
+const { pathToFileURL } = require("node:url");
 const { commands, Document, errors, PROVIDERS, providers, settings, shown, tell, vscode } = require("./vscode.js");
 
 // The program that was started last.
@@ -19,6 +21,13 @@ const data = (name) => readFileSync(join(__dirname, "../../../tools/editor/data"
 const query = new Document("/a b/query.graphql", data("query.graphql"));
 const schema = new Document("/schema.graphql", data("schema.graphql"));
 const notes = new Document("/notes.txt", "{", "plaintext");
+// A type that only a file of the folder defines.
+const folder = mkdtempSync(join(tmpdir(), "gqlls-"));
+const stored = pathToFileURL(join(folder, "stored.graphql"));
+writeFileSync(stored, "type Elsewhere { a: ID }");
+vscode.workspace.workspaceFolders.push({ uri: vscode.Uri.parse(pathToFileURL(folder).href), name: "folder" });
+process.on("exit", () => rmSync(folder, { recursive: true }));
+const stray = new Document("/stray.graphql", "fragment f on Elsewhere { a }");
 const errorsOf = (document) => errors.get(document.uri.toString());
 const span = ({ start, end }) => [start.line, start.character, end.line, end.character];
 const ask = (name, call, ...given) => providers[name].provider[call](...given);
@@ -101,6 +110,18 @@ const tests = {
     assert.deepEqual(symbols.map(({ name, location }) => [name, location.uri.path, span(location.range)]), [["Pet", "/schema.graphql", [6, 5, 6, 8]]]);
   },
 
+  async "files of the folder"() {
+    const type = () => ask("Definition", "provideDefinition", stray, at(0, 14));
+    const { path } = (await type()).uri;
+    assert.equal(path, stored.pathname);
+    writeFileSync(stored, "\ntype Elsewhere { a: ID }");
+    tell("change", vscode.Uri.parse(stored.href));
+    assert.deepEqual(span((await type()).range), [1, 5, 1, 14]);
+    unlinkSync(stored);
+    tell("delete", vscode.Uri.parse(stored.href));
+    assert.equal(await type(), null);
+  },
+
   async "signature"() {
     assert.deepEqual(providers.SignatureHelp.words, ["(", ","]);
     const { signatures, activeSignature, activeParameter } = await ask("SignatureHelp", "provideSignatureHelp", query, at(1, 6));
@@ -167,7 +188,7 @@ const tests = {
 
 async function main() {
   settings.path = process.argv[2];
-  vscode.workspace.textDocuments = [query, schema, notes];
+  vscode.workspace.textDocuments = [query, schema, notes, stray];
   const context = { subscriptions: [] };
   await activate(context);
   assert.equal(context.subscriptions.length, 2);

@@ -90,7 +90,15 @@ const vscode = {
   SemanticTokensLegend: record(["tokenTypes", "tokenModifiers"]),
   commands: { registerCommand: (name, call) => (commands[name] = call) },
   window: { showErrorMessage: (message) => shown.push(message) },
-  workspace: { textDocuments: [], getConfiguration: () => ({ get: (name) => settings[name] }) },
+  workspace: {
+    textDocuments: [],
+    workspaceFolders: [],
+    getConfiguration: () => ({ get: (name) => settings[name] }),
+    createFileSystemWatcher: (pattern) => {
+      assert.equal(pattern, "**/*.{graphql,graphqls,gql}");
+      return { onDidCreate: listening("create"), onDidChange: listening("change"), onDidDelete: listening("delete"), dispose: () => {} };
+    },
+  },
   languages: {
     createDiagnosticCollection: () => ({
       set: (uri, found) => errors.set(uri.toString(), found),

@@ -1,11 +1,11 @@
-use Rattle.std.proofs.Common.{◌≡◌, Bool, true, false, List, [], map, subst, sym}
+use Rattle.std.proofs.Common.{◌≡◌, List, [], map, subst, sym}
 use Rattle.editor_diagnostics.specs.Remarks.{as_remarked}
 use Rattle.editor_diagnostics.specs.declared.remark.Remark.{Remark}
 use Rattle.editor_validation.specs.Fragments.{as_fragments}
 use Rattle.editor_validation.specs.declared.fragments.FragmentNames.{FragmentNames}
 use denote.Ref.{Bor}
-use Rattle.gqlls_run.specs.Files.{has_nothing}
-use Rattle.gqlls_run.specs.State.{file_of, source_of}
+use Rattle.formatter.specs.Comments.{HasNoDefinitions}
+use Rattle.gqlls_run.specs.State.{source_of}
 use Rattle.gqlls_run.specs.Told.{AreRemarksOf}
 use Rattle.gqlls_run.proofs.Texts.{same_publication}
 use Rattle.gqlls_run.proofs.documents.Document.told.Goals as goal
@@ -13,7 +13,6 @@ use Rattle.gqlls_run.proofs.documents.Document.told.Goals as goal
 pub returns-clause-told : goal.returns-clause-told
 returns-clause-told c = λ limits parsed.
     let document = c.args.self.now in
-    let nothing : Bool = has_nothing (file_of document) (source_of document) in
     let found = sym c.as_slice.ensures.value in
     let others = map (λ (f : Bor FragmentNames). as_fragments f.now) c.args.others.now in
     record {
@@ -23,7 +22,8 @@ returns-clause-told c = λ limits parsed.
       promise = parsed.promise;
       named = parsed.named;
       remarks = map as_remarked c.as_slice.result.now;
-      said = subst (λ (found : List Remark). nothing ≡ false → AreRemarksOf others document.tree (map as_remarked found)) found c.in_ok-remarks.ensures.said;
-      silent = subst (λ (found : List Remark). nothing ≡ true → map as_remarked found ≡ []) found c.in_ok-remarks.ensures.silent;
+      said = subst (λ (found : List Remark). (¬ HasNoDefinitions (source_of document)) → AreRemarksOf others document.tree (map as_remarked found)) found
+          c.in_ok-remarks.ensures.said;
+      silent = subst (λ (found : List Remark). HasNoDefinitions (source_of document) → map as_remarked found ≡ []) found c.in_ok-remarks.ensures.silent;
       published = same_publication _ _ _ _ _ _ _ _ c.in_ok-positions.ensures.encoding c.in_ok-positions.ensures.text c.in_ok-body.ensures.published;
     }

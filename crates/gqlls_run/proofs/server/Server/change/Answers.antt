@@ -29,8 +29,10 @@ returns-clause-changes c =
           (record {
             documents = updated file_of _ _ old.documents c.remove.new.self _ _ refl c.remove.ensures.updates refl;
             fragments = updated names_of _ _ old.documents c.remove.new.self _ _ refl c.remove.ensures.updates refl;
+            files = refl;
             stage = refl;
             encoding = refl;
+            may_register = refl;
             limits = refl;
           })
           c.in_ok-reply.ensures.publishes;

@@ -18,8 +18,10 @@ returns-clause-closes c =
       sets = record {
         documents = updated file_of _ _ c.args.self.now.documents c.remove.new.self _ _ refl c.remove.ensures.updates refl;
         fragments = updated names_of _ _ c.args.self.now.documents c.remove.new.self _ _ refl c.remove.ensures.updates refl;
+        files = refl;
         stage = refl;
         encoding = refl;
+        may_register = refl;
         limits = refl;
       };
       told = c.in_ok-told.ensures.withdrawn;

@@ -1,5 +1,6 @@
-use Rattle.std.proofs.Common.{refl}
-use Rattle.gqlls_run.specs.State.{file_of, names_of}
+use Rattle.std.proofs.Common.{refl, subst}
+use Rattle.gqlls_run.specs.Dialogue.{AreAll}
+use Rattle.gqlls_run.specs.State.{file_of, names_in, names_of}
 use Rattle.gqlls_run.proofs.Maps.{updated}
 use Rattle.gqlls_run.proofs.Others.{again, beside}
 use Rattle.gqlls_run.proofs.server.Server.publish.Goals as goal
@@ -10,17 +11,21 @@ returns-clause-publishes c =
     let files_without = updated file_of _ _ old c.remove.new.self _ _ refl c.remove.ensures.updates refl in
     let names_without = updated names_of _ _ old c.remove.new.self _ _ refl c.remove.ensures.updates refl in
     let told = c.in_ok-told.ensures.told c.args.self.now.limits c.requires in
+    let all = subst (λ documents. AreAll (names_in documents) (names_in c.args.self.now.files) told.0) c.known.ensures.opened
+    (subst (λ files. AreAll (names_in c.known.result.opened.now) (names_in files) told.0) c.known.ensures.files told.1) in
     record {
       fragments = names_of c.args.document;
       sets = record {
         documents = again _ _ _ _ _ _ files_without c.in_ok-insert.ensures.files;
         fragments = again _ _ _ _ _ _ names_without c.in_ok-insert.ensures.names;
+        files = refl;
         stage = refl;
         encoding = refl;
+        may_register = refl;
         limits = refl;
       };
       others = told.0;
-      elsewhere = beside _ _ _ _ told.0 names_without.this c.in_ok-insert.ensures.names told.1;
+      elsewhere = beside _ _ _ _ _ told.0 names_without.this c.in_ok-insert.ensures.names all;
       version = c.version_of.result;
       versioned = c.version_of.ensures;
       told = told.2;

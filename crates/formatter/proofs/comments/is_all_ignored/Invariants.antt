@@ -2,7 +2,7 @@ use Rattle.std.proofs.Common.{◌≡◌}
 use Rattle.apollo_lexer.specs.Answers.{answers_left}
 use Rattle.lexical_grammar.specs.Reads.{items_of}
 use Rattle.formatter.proofs.Ignored.{are_ignored, are_ignored_answers}
-use Rattle.formatter.proofs.comments.has_no_definitions.Given as goal
+use Rattle.formatter.proofs.comments.is_all_ignored.Given as goal
 
 -- the tokens so far are ignored, so the others decide
 abbrev pub invariant-loop-item : goal.invariant-loop-item

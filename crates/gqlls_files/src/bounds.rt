@@ -1,0 +1,63 @@
+// How much of a folder is read.
+use gqlfmt_files::{Entry, Files};
+use std::alloc::Allocator;
+use std::io;
+
+/// How many files of a folder are read at most.
+pub(crate) const MOST_FILES: usize = 10_000;
+
+/// How many bytes the files have together at most in which names are looked for: with their trees they take some 23 times as much memory.
+pub const MOST_BYTES: usize = 1 << 24;
+
+// How many folders are looked into at most.
+const MOST_FOLDERS: usize = 20_000;
+
+/// Files of which only some folders are listed; the others have nothing.
+#[derive(Drop)]
+pub(crate) struct Bounded<'f, F> {
+    files: &'f mut F,
+    folders: usize,
+}
+
+impl<'f, F> Bounded<'f, F> {
+    /// Before any folder is listed.
+    pub(crate) fn new(files: &'f mut F) -> Self {
+        Bounded {
+            files,
+            folders: MOST_FOLDERS,
+        }
+    }
+}
+
+impl<F: Files> Files for Bounded<'_, F> {
+    // nothing is promised of which files are found
+    ghost lists = { λ old path listing new. Unit {0} };
+
+    ghost reads = { λ old path given new. Unit {0} };
+
+    ghost replaces = { λ old path text is_done new. Unit {0} };
+
+    fn list<A: Allocator + Copy>(
+        &mut self,
+        alloc: A,
+        path: &str,
+    ) -> io::Result<Option<Vec<Entry<A>, A>>> {
+        if self.folders == 0 {
+            return Ok(Some(Vec::new(alloc)));
+        }
+        self.folders -= 1;
+        self.files.list(alloc, path)
+    }
+
+    fn read<A: Allocator>(&mut self, alloc: A, path: &str) -> io::Result<Vec<u8, A>> {
+        self.files.read(alloc, path)
+    }
+
+    fn replace(&mut self, path: &str, text: &str) -> io::Result<()> {
+        self.files.replace(path, text)
+    }
+
+    fn copy_path<A: Allocator>(&self, alloc: A, path: &str) -> io::Result<Option<String<A>>> {
+        self.files.copy_path(alloc, path)
+    }
+}

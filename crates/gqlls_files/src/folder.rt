@@ -1,0 +1,214 @@
+// A server that knows the files of the folders that its client opens.
+ghost use Rattle.std.specs.Prelude.{◌≡◌, IfOk, None, Some, codes};
+ghost use Rattle.json.specs.Tree.{HasNumbers};
+ghost use Rattle.json.specs.Value.{value_view};
+ghost use Rattle.rpc_messages.specs.Messages.{IsAnswer};
+ghost use Rattle.rpc_messages.specs.Replies.{EndsOnlyIf, Replies};
+ghost use Rattle.rpc_messages.specs.declared.reply.Reply.TheVariants.{Answer};
+ghost use Rattle.gqlls_run.specs.Dialogue.{Reads, begun};
+ghost use Rattle.gqlls_run.specs.State.{StepsOf, dialogue_of};
+
+use crate::bounds::{Bounded, MOST_BYTES, MOST_FILES};
+use file_uris::{path_of, uri_of};
+use gqlfmt_files::Files;
+use gqlls_run::{Server, changed_files, opened_folders, uri_of as document_in};
+use json::Value;
+use named_files::{Named, is_graphql, named_files};
+use rpc_messages::{Reply, Service};
+use std::alloc::{AllocError, Global};
+use std::collections::BTreeSet;
+use std::mem;
+
+/// A server, the files that it may read, the paths of the folders that the client opens, and those of its open documents.
+#[derive(Drop)]
+pub struct FolderServer<'f, F> {
+    server: Server,
+    files: &'f mut F,
+    folders: Vec<String>,
+    open: BTreeSet<String>,
+    // how many bytes the files have in which names are looked for
+    kept: usize,
+}
+
+impl<'f, F: Files> FolderServer<'f, F> {
+    /// One that has read no message.
+    pub fn new(alloc: Global, server: Server, files: &'f mut F) -> Self
+        ensures { dialogue_of result.server ≡ dialogue_of server }
+    {
+        FolderServer {
+            server,
+            files,
+            folders: Vec::new(alloc),
+            open: BTreeSet::new(alloc),
+            kept: 0,
+        }
+    }
+
+    // How many bytes the next file may have.
+    fn room(&self) -> usize {
+        MOST_BYTES.saturating_sub(self.kept)
+    }
+
+    // The text of the file at a path, if it has one for which there is room.
+    fn text_at(&mut self, alloc: Global, path: &str) -> Option<String>
+        ensures { dialogue_of self.new.server ≡ dialogue_of self.old.server }
+    {
+        match self.files.read(alloc, path) {
+            Ok(bytes) if bytes.len() <= self.room() => String::from_utf8(bytes).ok(),
+            Ok(_) | Err(_) => None,
+        }
+    }
+
+    // Has names looked for in this file no more.
+    fn drop_file(&mut self, uri: &str)
+        ensures { Reads (dialogue_of self.old.server) (dialogue_of self.new.server) }
+    {
+        let bytes = self.server.drop_file(uri);
+        self.kept = self.kept.saturating_sub(bytes);
+    }
+
+    // Reads the file at a path again, unless it is open. One that can't be read, or is too long, is known no more.
+    fn refresh(&mut self, alloc: Global, path: &str) -> Result<(), AllocError>
+        ensures { Reads (dialogue_of self.old.server) (dialogue_of self.new.server) }
+    {
+        if self.open.contains(path) {
+            return Ok(());
+        }
+        let uri = uri_of(alloc, path)?;
+        self.drop_file(uri.as_str());
+        if let Some(text) = self.text_at(alloc, path) {
+            self.server.keep_file(alloc, uri.as_str(), text.as_str())?;
+            self.kept = self.kept.saturating_add(text.len());
+        }
+        Ok(())
+    }
+
+    // Reads the files of a folder.
+    fn read_folder(&mut self, alloc: Global, folder: &str) -> Result<(), AllocError>
+        ensures { Reads (dialogue_of self.old.server) (dialogue_of self.new.server) }
+    {
+        let found = named_files(alloc, &mut Bounded::new(self.files), &[], folder)?;
+        for named in found.iter().take(MOST_FILES) {
+            if let Named::File(path) = named {
+                self.refresh(alloc, path.as_str())?;
+            }
+        }
+        Ok(())
+    }
+
+    // Reads the files of all folders that the client opens.
+    fn read_folders(&mut self, alloc: Global) -> Result<(), AllocError>
+        ensures { Reads (dialogue_of self.old.server) (dialogue_of self.new.server) }
+    {
+        let folders = mem::replace(&mut self.folders, Vec::new(alloc));
+        for folder in &folders {
+            self.read_folder(alloc, folder.as_str())?;
+        }
+        Ok(())
+    }
+
+    // Notes the folders that the client opens.
+    fn note_folders(&mut self, alloc: Global, params: &Value<'_>) -> Result<(), AllocError>
+        ensures { dialogue_of self.new.server ≡ dialogue_of self.old.server }
+    {
+        for uri in &opened_folders(alloc, params)? {
+            if let Some(path) = path_of(alloc, uri)? {
+                self.folders.push(path)?;
+            }
+        }
+        Ok(())
+    }
+
+    // A document is open now: its file counts as the client has it.
+    fn note_open(&mut self, alloc: Global, params: &Value<'_>) -> Result<(), AllocError>
+        ensures { Reads (dialogue_of self.old.server) (dialogue_of self.new.server) }
+    {
+        if let Some(uri) = document_in(params)
+            && let Some(path) = path_of(alloc, uri)?
+        {
+            self.drop_file(uri_of(alloc, path.as_str())?.as_str());
+            self.open.insert(path)?;
+        }
+        Ok(())
+    }
+
+    // A document is closed: its file counts as it is stored.
+    fn note_closed(&mut self, alloc: Global, params: &Value<'_>) -> Result<(), AllocError>
+        ensures { Reads (dialogue_of self.old.server) (dialogue_of self.new.server) }
+    {
+        if let Some(uri) = document_in(params)
+            && let Some(path) = path_of(alloc, uri)?
+        {
+            self.open.remove(path.as_str());
+            if is_graphql(path.as_str()) {
+                self.refresh(alloc, path.as_str())?;
+            }
+        }
+        Ok(())
+    }
+
+    // Some files have changed, were made or are gone.
+    fn note_changes(&mut self, alloc: Global, params: &Value<'_>) -> Result<(), AllocError>
+        ensures { Reads (dialogue_of self.old.server) (dialogue_of self.new.server) }
+    {
+        for uri in &changed_files(alloc, params)? {
+            if let Some(path) = path_of(alloc, uri)?
+                && is_graphql(path.as_str())
+            {
+                self.refresh(alloc, path.as_str())?;
+            }
+        }
+        Ok(())
+    }
+
+    // What a notification says of files.
+    fn note(&mut self, alloc: Global, method: &str, params: &Value<'_>) -> Result<(), AllocError>
+        ensures { Reads (dialogue_of self.old.server) (dialogue_of self.new.server) }
+    {
+        match method {
+            "initialized" => self.read_folders(alloc),
+            "textDocument/didOpen" => self.note_open(alloc, params),
+            "textDocument/didClose" => self.note_closed(alloc, params),
+            "workspace/didChangeWatchedFiles" => self.note_changes(alloc, params),
+            _ => Ok(()),
+        }
+    }
+}
+
+impl<F: Files> Service for FolderServer<'_, F> {
+    ghost steps = { λ old id method params reply new. StepsOf old.server id method params reply new.server };
+
+    fn request(
+        &mut self,
+        alloc: Global,
+        id: &Value<'_>,
+        method: &str,
+        params: &Value<'_>,
+    ) -> Result<Vec<u8>, AllocError>
+        requires { HasNumbers (value_view id.now) }
+        ensures answers { IfOk result (λ body. IsAnswer (value_view id.now) body.items) }
+        ensures step { IfOk result (λ body. StepsOf self.old.server (Some (value_view id.now)) method.now (value_view params.now) (Answer body)
+            self.new.server) }
+    {
+        if method == "initialize" {
+            self.note_folders(alloc, params)?;
+        }
+        self.server.request(alloc, id, method, params)
+    }
+
+    fn notification(
+        &mut self,
+        alloc: Global,
+        method: &str,
+        params: &Value<'_>,
+    ) -> Result<Reply, AllocError>
+        ensures replies { IfOk result (Replies None) }
+        ensures ends { IfOk result (EndsOnlyIf (method.now ≡ codes "exit")) }
+        ensures step { IfOk result (λ reply. StepsOf self.old.server None method.now (value_view params.now) reply self.new.server) }
+    {
+        self.note(alloc, method, params)?;
+        // bound to a name, so that its clauses on `Ok` are found
+        let reply = self.server.notification(alloc, method, params)?;
+        Ok(reply)
+    }
+}
