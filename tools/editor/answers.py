@@ -1,4 +1,6 @@
 """What the Language Server Protocol wants of any answer about a document, whatever its text is. Each function asks about a `View` and says whether the answer is right."""
+import re
+
 from client import errors_of
 
 OPTIONS = {"tabSize": 2, "insertSpaces": True}
@@ -103,16 +105,24 @@ def completions(view):
     return True
 
 
+def has_no_definitions(text):
+    """Whether a text is white space, commas and comments alone."""
+    return re.fullmatch(r"(?:[ \t\r\n,\ufeff]|#[^\r\n]*)*", text) is not None
+
+
 def layout(view):
-    """A text in GraphQL gets a layout exactly where it has no errors; then it still has none, and keeps its layout."""
+    """A text in GraphQL gets a layout exactly where it has definitions and no errors; then it still has none, and keeps its layout."""
     if view.language != "graphql":
         return view.ask("formatting", options=OPTIONS) is None
     has_errors = errors_of(view.client.open("file:///anew", view.text.text)) != []
+    view.client.close("file:///anew")
     edits = view.ask("formatting", options=OPTIONS)
     if has_errors or edits is None:
-        return has_errors and edits is None
+        return edits is None and has_errors != has_no_definitions(view.text.text)
     errors = errors_of(view.client.open("file:///anew", view.text.changed(edits)))
-    return errors == [] and view.client.ask_about("file:///anew", "formatting", options=OPTIONS) == []
+    again = view.client.ask_about("file:///anew", "formatting", options=OPTIONS)
+    view.client.close("file:///anew")
+    return errors == again == []
 
 
 ALL = [symbols, folds, selections, tokens, names, completions, layout]

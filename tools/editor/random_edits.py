@@ -1,8 +1,8 @@
 #!/usr/bin/env python3
 """Makes random edits in many documents, and checks the server's messages after each: random_edits.py PROGRAM [EDITS] [SEED].
 
-The texts and positions are the client's own. The errors that are published have to be those of the same text opened anew and, where gqlcst is built, be at the offsets that
-it gives. Then it requests one of the other features, and its answer has to be as the protocol wants it (answers.py)."""
+The texts and positions are the client's own. The errors that are published have to be those of the same text opened anew in another server, which knows no
+other document, and, where gqlcst is built, be at the offsets that it gives; a text without definitions has none. Then it requests one of the other features, and its answer has to be as the protocol wants it (answers.py)."""
 import bisect
 import random
 import re
@@ -31,11 +31,12 @@ class Run:
     """A conversation with a server, and how many edits were made and how many were answered wrongly."""
 
     def __init__(self, program, seed, encoding):
-        self.client = Client(program)
+        self.client, self.other = Client(program), Client(program)
         self.encoding = encoding
         self.random = random.Random(seed)
         self.edits = self.documents = self.wrong = 0
-        assert self.client.initialize(encoding)["positionEncoding"] == encoding
+        for client in [self.client, self.other]:
+            assert client.initialize(encoding)["positionEncoding"] == encoding
 
     def edit(self, text, language):
         """One to three changes, each to the text that the one before left, and the last text."""
@@ -56,7 +57,9 @@ class Run:
 
     def fault(self, uri, text, language, notice):
         """The fault in the server's messages about a document, or nothing."""
-        if notice["diagnostics"] != self.client.open("file:///anew", text.text, language)["diagnostics"]:
+        anew = self.other.open(uri, text.text, language)["diagnostics"]
+        self.other.close(uri)
+        if notice["diagnostics"] != anew:
             return "other diagnostics than the text opened anew"
         if language == "graphql" and GQLCST.exists() and not at_their_offsets(text, errors_of(notice)):
             return "other offsets of errors than gqlcst's"
@@ -84,7 +87,10 @@ class Run:
 
 
 def at_their_offsets(text, errors):
-    """Whether the errors are the first that gqlcst finds in each definition, up to the ends of their lines: a hundred at most, and then how many more there are."""
+    """Whether the errors are the first that gqlcst finds in each definition, up to the ends of their lines: a hundred at most, and then how many more there are.
+    A text without definitions, of white space, commas and comments alone, has none."""
+    if answers.has_no_definitions(text.text):
+        return not errors
     data = text.text.encode()
     report = subprocess.run([GQLCST, "tree"], input=data, stdout=subprocess.PIPE).stdout
     starts = [int(start) for start in re.findall(rb"^    - \w+@(\d+)\.\.\d+$", report, re.MULTILINE)]
@@ -107,7 +113,7 @@ def main():
         while run.edits < edits // 2:
             language = run.random.choice(LANGUAGES)
             run.document(run.random.choice(TEXTS[language]) * run.random.randint(1, 3), min(25, edits // 2 - run.edits), language)
-        assert run.client.end() == 0
+        assert run.client.end() == run.other.end() == 0
     edits, documents, wrong = (sum(getattr(run, what) for run in runs) for what in ["edits", "documents", "wrong"])
     if not GQLCST.exists():
         print(f"random_edits: {GQLCST} isn't built, so no offsets were compared with its own")
