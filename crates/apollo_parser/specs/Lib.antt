@@ -52,6 +52,7 @@ pub use Rattle.apollo_lexer.specs.Faults
 pub use Rattle.apollo_lexer.specs.Limits
 pub use Rattle.apollo_lexer.specs.Answers as LexerAnswers
 pub use Rattle.parser_rules.specs.Messages
+pub use Rattle.parser_state.specs.Errors
 -- typed nodes
 pub use Rattle.apollo_cst_core.specs.Cast
 pub use Rattle.apollo_cst_core.specs.Children as CastChildren

@@ -17,6 +17,7 @@ ghost use Rattle.parser_rules.specs.RuleLanguage.{Call};
 ghost use Rattle.parser_rules.specs.Runs.{Runs};
 ghost use Rattle.parser_state.specs.Reading.{rooted, unread};
 
+use crate::borrowed_tree::BorrowedSyntaxTree;
 use crate::syntax_tree::{DocumentRoot, SelectionSetRoot, SyntaxTree, TypeRoot};
 use apollo_document::document;
 use apollo_grammar::{field_set, type_root};
@@ -75,8 +76,9 @@ impl<'i> Parser<'i> {
     ///
     /// So it bounds memory: of n items that are read, a tree has at most 5 n + 1 elements, and there are at most 3 n + 1 errors. An element takes
     /// 12 bytes while the tree has fewer than 2^28 of them and the text is shorter than 2 GiB, then 16, and 32 from 4 GiB of text on; an error takes
-    /// 64. So on such a text a limit of k, up to fifty million, takes at most 252 k + 76 bytes, besides the text, what an error says that is too long
-    /// to lie in it, and the room that lists keep in reserve: by the length of the text up to 48 KiB before anything is read, and later as they grow.
+    /// 40 while it borrows the text, and 64 with a text of its own. So on such a text a limit of k, up to fifty million, takes at most 180 k + 52 bytes for
+    /// `parse_borrowed`. A tree of `parse` takes 252 k + 76, and 120 k + 40 more while it is made, besides the text, and what an error says that is too long
+    /// to lie in it. Lists keep room in reserve: by the length of the text up to 48 KiB before anything is read, and later as they grow.
     pub fn token_limit(self, limit: usize) -> Self
         ensures { result ≡ record self.entry { token_limit = limit } }
     {
@@ -112,7 +114,7 @@ impl<'i> Parser<'i> {
         self,
         alloc: A,
         steps: &mut Steps,
-    ) -> Result<SyntaxTree<DocumentRoot, A>, AllocError>
+    ) -> Result<BorrowedSyntaxTree<'i, DocumentRoot, A>, AllocError>
         ensures run { IfOk result (ByRules self.entry.source.now self.entry.recursion_limit self.entry.token_limit) }
         ensures lookahead { steps.new.value ≤ steps.old.value + 2 * min (length (items_of self.entry.source.now)) self.entry.token_limit }
     {
@@ -123,7 +125,7 @@ impl<'i> Parser<'i> {
             return Err(error);
         }
         let finished = p.finish(self.token_limit, self.source, steps)?;
-        Ok(SyntaxTree::of(finished))
+        Ok(BorrowedSyntaxTree::of(finished))
     }
 
     /// Parses a document (GraphQL October 2021, section 2.2, "Document").
@@ -149,14 +151,26 @@ impl<'i> Parser<'i> {
         // whatever it answers, each item of the text is cut at most twice, and no more items are cut than twice the token limit
         ensures lookahead { steps.new.value ≤ steps.old.value + 2 * min (length (items_of self.entry.source.now)) self.entry.token_limit }
     {
-        self.run_document(alloc, steps)
+        let tree = self.run_document(alloc, steps)?;
+        tree.into_owned(alloc)
+    }
+
+    /// Answers as `parse`, with a tree and errors that borrow the text: so a long token is in memory once.
+    pub fn parse_borrowed<A: Allocator + Copy>(
+        self,
+        alloc: A,
+    ) -> Result<BorrowedSyntaxTree<'i, DocumentRoot, A>, AllocError>
+        ensures promise { IfOk result (Promise self.entry.source.now self.entry.recursion_limit self.entry.token_limit) }
+    {
+        let tree = self.run_document(alloc, &mut Steps::zero())?;
+        Ok(tree)
     }
 
     // The parse, as a run of the root's rule over the items of the text.
     fn run_selection_set<A: Allocator + Copy>(
         self,
         alloc: A,
-    ) -> Result<SyntaxTree<SelectionSetRoot, A>, AllocError>
+    ) -> Result<BorrowedSyntaxTree<'i, SelectionSetRoot, A>, AllocError>
         ensures { IfOk result (ByRootRule kind.SELECTION_SET field_set self.entry.source.now self.entry.recursion_limit self.entry.token_limit) }
     {
         let mut p = self.start(alloc, Steps::zero());
@@ -165,7 +179,7 @@ impl<'i> Parser<'i> {
         field_set(&mut p)?;
         p.drop_pending();
         let finished = p.finish(self.token_limit, self.source, &mut Steps::zero())?;
-        Ok(SyntaxTree::of(finished))
+        Ok(BorrowedSyntaxTree::of(finished))
     }
 
     /// Parses a selection set (GraphQL October 2021, section 2.4, "Selection Sets"), with its outer braces or with both left away.
@@ -180,11 +194,15 @@ impl<'i> Parser<'i> {
         // the tree is one SELECTION_SET, also where there are errors
         ensures one_selection_set { IfOk result (λ t. (kids : Forest) × (t.tree ≡ node kind.SELECTION_SET kids none)) }
     {
-        self.run_selection_set(alloc)
+        let tree = self.run_selection_set(alloc)?;
+        tree.into_owned(alloc)
     }
 
     // The parse, as a run of the root's rule over the items of the text.
-    fn run_type<A: Allocator + Copy>(self, alloc: A) -> Result<SyntaxTree<TypeRoot, A>, AllocError>
+    fn run_type<A: Allocator + Copy>(
+        self,
+        alloc: A,
+    ) -> Result<BorrowedSyntaxTree<'i, TypeRoot, A>, AllocError>
         ensures { IfOk result (ByTypeRule self.entry.source.now self.entry.recursion_limit self.entry.token_limit) }
     {
         let mut p = self.start(alloc, Steps::zero());
@@ -192,7 +210,7 @@ impl<'i> Parser<'i> {
         type_root(&mut p, first)?;
         p.drop_pending();
         let finished = p.finish(self.token_limit, self.source, &mut Steps::zero())?;
-        Ok(SyntaxTree::of(finished))
+        Ok(BorrowedSyntaxTree::of(finished))
     }
 
     /// Parses a type (GraphQL October 2021, section 2.11, "Type References").
@@ -208,6 +226,7 @@ impl<'i> Parser<'i> {
         // starts no type
         ensures one_type { IfOk result (λ t. OneType (first_kind (limited self.entry.token_limit (items_of self.entry.source.now))) t.tree) }
     {
-        self.run_type(alloc)
+        let tree = self.run_type(alloc)?;
+        tree.into_owned(alloc)
     }
 }

@@ -12,7 +12,6 @@ use apollo_cst_executable::{SelectionSet, Ty};
 use apollo_cst_type_system::Document;
 use apollo_lexer::{Error, LimitTracker};
 use apollo_tree::{CompactElement, IndexedElement, Subtree, SyntaxNode};
-use parser_state::Finished;
 use std::alloc::{AllocError, Allocator, Global};
 use std::fmt;
 use std::marker::{Model, PhantomData};
@@ -47,11 +46,11 @@ impl Root for TypeRoot {
 /// The tree of a text, the errors that were found in it, and how the limits were used. `R` marks what the root is.
 #[derive(Drop)]
 pub struct SyntaxTree<R: Root, A: Allocator = Global> {
-    tree: Subtree<A>,
-    errors: Vec<Error<A>, A>,
-    recursion_limit: LimitTracker,
-    token_limit: LimitTracker,
-    root: PhantomData<R>,
+    pub(crate) tree: Subtree<A>,
+    pub(crate) errors: Vec<Error<A>, A>,
+    pub(crate) recursion_limit: LimitTracker,
+    pub(crate) token_limit: LimitTracker,
+    pub(crate) root: PhantomData<R>,
     ghost rooted: { R.roots (root_kind tree) ≡ true },
 }
 
@@ -77,25 +76,6 @@ impl<R: Root, A: Allocator> SyntaxTree<R, A> {
     ghost use Rattle.apollo_tree.specs.Order.{order, text_at};
     ghost use Rattle.apollo_tree.specs.Indexed.{element_at};
     ghost use Rattle.apollo_tree.specs.References.{node_place};
-
-    // What a finished parse has.
-    pub(crate) fn of(finished: Finished<A>) -> Self
-        requires { R.roots (root_kind finished.tree) ≡ true }
-        ensures { result ≡ record {
-          tree = finished.tree;
-          errors = finished.errors.items;
-          recursion_limit = finished.recursion_limit;
-          token_limit = finished.token_limit;
-        } }
-    {
-        SyntaxTree {
-            tree: finished.tree,
-            errors: finished.errors,
-            recursion_limit: finished.recursion_limit,
-            token_limit: finished.token_limit,
-            root: PhantomData,
-        }
-    }
 
     /// The root, which holds all of the text.
     pub fn root(&self) -> SyntaxNode<'_>

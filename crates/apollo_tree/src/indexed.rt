@@ -1,8 +1,8 @@
 // An element as plain numbers, which refer to other elements by their index in document order.
 ghost use Rattle.std.specs.Prelude.{◌≡◌, ◌<◌, length};
 ghost use Rattle.apollo_tree.specs.Forms.{readable};
-ghost use Rattle.apollo_tree.specs.Indexed.{indexed};
-ghost use Rattle.apollo_tree.specs.References.{table_place};
+ghost use Rattle.apollo_tree.specs.Indexed.{element_at, indexed};
+ghost use Rattle.apollo_tree.specs.References.{table_place, table_tree};
 
 use crate::node::Table;
 use document_grammar::SyntaxKind;
@@ -47,6 +47,17 @@ impl<'t> Table<'t> {
             end,
             parent,
             after_subtree,
+        }
+    }
+
+    // The element with an index, if there are more elements than that.
+    pub(crate) fn element_at(self, index: usize) -> Option<IndexedElement>
+        ensures { result ≡ element_at (table_tree self.entry) index }
+    {
+        if index < self.element_count() {
+            Some(self.element(index))
+        } else {
+            None
         }
     }
 }

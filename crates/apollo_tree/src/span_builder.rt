@@ -7,6 +7,7 @@ ghost use Rattle.apollo_tree.specs.Adopted.{after_adoption};
 ghost use Rattle.document_grammar.specs.Forests.{Forest, none, leaf as leaf_of};
 ghost use Rattle.document_grammar.specs.Builds.{nothing, start, add_leaf, finish, wrap, CanOpenAt, built_count, built_text};
 
+use crate::borrowed::BorrowedSubtree;
 use crate::record::Record;
 use crate::subtree::Subtree;
 use crate::table::RecordTable;
@@ -22,7 +23,7 @@ pub struct Checkpoint {
 }
 
 /// Builds a tree of a text that is at hand elsewhere, from its leaves and the starts and ends of its nodes, called in document order. It keeps how
-/// long the leaves are, and no text: that is copied once, when the tree is finished.
+/// long the leaves are, and no text: the finished tree borrows it.
 ///
 /// Contracts see it as the trees in the innermost open node, and the open nodes from there outward. Each call also says which brackets
 /// have been written: a start opens, a finish closes, and a wrap opens at the index of its checkpoint.
@@ -265,14 +266,19 @@ impl<A: Allocator + Copy> SpanBuilder<A> {
         Subtree { records, text }
     }
 
-    /// The finished tree, once all nodes are closed and there is one root. Its text is copied from a source that begins with it.
-    pub fn finish(self, alloc: A, source: &str) -> Result<Subtree<A>, AllocError>
+    /// The finished tree, once all nodes are closed and there is one root. It borrows its text from a source that begins with it.
+    pub fn finish(self, source: &str) -> BorrowedSubtree<'_, A>
         requires complete { IsComplete self }
         requires source { take (length (built_text self)) source.now ≡ built_text self }
-        ensures value { IfOk result (λ t. t ≡ self.here) }
+        ensures value { result ≡ self.here }
+        ensures calls { brackets result ≡ written self }
+        ensures only { (f : Forest) → brackets f ≡ written self → f ≡ result }
     {
-        let text = String::from_str(alloc, &source[..self.len])?;
-        Ok(self.finish_over(text))
+        let SpanBuilder { records, len, .. } = self;
+        BorrowedSubtree {
+            records,
+            text: &source[..len],
+        }
     }
 }
 

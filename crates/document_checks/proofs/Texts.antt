@@ -1,6 +1,5 @@
 -- When a text passes.
-use Rattle.std.proofs.Common.{◌≡◌, ◌≢◌, ℕ, Bool, true, false, List, [], ◌∷◌, length, eqb, refl, ap, ◌∙◌, subst, arith}
-use Rattle.std.proofs.lemmas.Bool.Decides.{nat_tests}
+use Rattle.std.proofs.Common.{◌≡◌, ◌≢◌, ℕ, Bool, true, false, List, [], ap, ◌∙◌, subst}
 use Rattle.std.specs.Prelude.{◌↔◌}
 use Rattle.apollo_tree.specs.Order.{Place}
 use Rattle.apollo_parser.specs.Parsed.{Parsed}
@@ -18,10 +17,6 @@ invalid asked document passes is not = fails passes is (λ s. not s.valid)
 pub valid : (asked : Asked) (document : Place) (passes : Bool) → IsValidAs (document_kind document) document → (passes ≡ true) ↔ AreWithin asked document
     → (passes ≡ true) ↔ IsSound asked document
 valid asked document passes v iff = (λ e. record { valid = v; within = iff.0 e }, λ s. iff.1 s.within)
-
-pub empty_list : {X : Type 0} (xs : List X) → eqb (length xs) 0 ≡ true → xs ≡ []
-empty_list [] e = refl
-empty_list (x ∷ xs) e = absurd (grind (arith, nat_tests))
 
 pub refused : (asked : Asked) (source : List ℕ) (t : Parsed) (passes : Bool) → passes ≡ false → Promise source asked.limits.recursion asked.limits.tokens t
     → t.errors ≢ [] → (passes ≡ true) ↔ Passes asked source

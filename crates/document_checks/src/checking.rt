@@ -5,7 +5,7 @@ ghost use Rattle.document_checks.specs.Checking.{IsSound, Passes, as_asked};
 
 use crate::operations::check_operations;
 use crate::report::{Checks, Finding, Report};
-use apollo_parser::{Error, Parser};
+use apollo_parser::{BorrowedError, Parser};
 use apollo_tree::SyntaxNode;
 use apollo_validation::{Violation, message, validate};
 use first_errors::{FirstErrors, first_errors, for_people, shown_at};
@@ -18,19 +18,26 @@ const MOST: usize = 1000;
 fn finding_for_people(
     alloc: Global,
     source: &str,
-    error: &Error<Global>,
+    error: &BorrowedError<'_>,
 ) -> Result<Finding, AllocError> {
-    let (front, rest) = for_people(error.message());
-    let mut message = String::from_str(alloc, front)?;
-    message.push_str(rest)?;
+    let (words, quoted, end) = error.message_parts();
+    let (front, rest) = for_people(words);
+    let message = format!(in alloc; "{front}{rest}{quoted}{end}")?;
     Ok(Finding::of_error(error, shown_at(source, error), message))
+}
+
+// An error, in the parser's words.
+fn finding_as_found(alloc: Global, error: &BorrowedError<'_>) -> Result<Finding, AllocError> {
+    let (words, quoted, end) = error.message_parts();
+    let message = format!(in alloc; "{words}{quoted}{end}")?;
+    Ok(Finding::of_error(error, error.index(), message))
 }
 
 // The report of a text that has errors, with the first of each definition.
 fn first_refused(
     alloc: Global,
     source: &str,
-    first: &FirstErrors<Global>,
+    first: &FirstErrors<'_, Global>,
 ) -> Result<Report, AllocError>
     ensures { IfOk result (λ report. report.passes ≡ false) }
 {
@@ -42,13 +49,16 @@ fn first_refused(
 }
 
 // The report of a text that has errors, with the first of all, as the parser has them.
-fn all_refused(alloc: Global, errors: &[Error<Global>], most: usize) -> Result<Report, AllocError>
+fn all_refused(
+    alloc: Global,
+    errors: &[BorrowedError<'_>],
+    most: usize,
+) -> Result<Report, AllocError>
     ensures { IfOk result (λ report. report.passes ≡ false) }
 {
     let mut findings = Vec::new(alloc);
     for error in errors.iter().take(most) {
-        let message = String::from_str(alloc, error.message())?;
-        findings.push(Finding::of_error(error, error.index(), message))?;
+        findings.push(finding_as_found(alloc, error)?)?;
     }
     let more = errors.len().saturating_sub(most);
     Ok(Report::failed(alloc, findings, more))
@@ -59,7 +69,7 @@ fn refused(
     alloc: Global,
     source: &str,
     document: &SyntaxNode<'_>,
-    errors: &[Error<Global>],
+    errors: &[BorrowedError<'_>],
     checks: &Checks<'_>,
 ) -> Result<Report, AllocError>
     ensures { IfOk result (λ report. report.passes ≡ false) }
@@ -108,11 +118,10 @@ fn check_document(
 
 /// Checks a text: it passes exactly if it is a document within the parser's limits, which keeps all rules that need no schema, and each operation is
 /// within the limits, or the one that is named, which has to be there. It fails only where memory is refused.
-#[tactic(auto, using(crate::proofs::Texts::refused))]
 pub fn check(alloc: Global, source: &str, checks: &Checks<'_>) -> Result<Report, AllocError>
     ensures { IfOk result (λ report. (report.passes ≡ true) ↔ Passes (as_asked checks.now) source.now) }
 {
-    let tree = Parser::within(source, checks.limits).parse(alloc)?;
+    let tree = Parser::within(source, checks.limits).parse_borrowed(alloc)?;
     let errors = tree.errors().as_slice();
     if !errors.is_empty() {
         let report = refused(alloc, source, &tree.root(), errors, checks)?;

@@ -1,7 +1,7 @@
 // What a text is checked against, and what is found.
 ghost use Rattle.std.specs.Prelude.{◌≡◌, IfOk, true, false};
 
-use apollo_parser::{Error, Limits};
+use apollo_parser::{BorrowedError, Limits};
 use apollo_tree::SyntaxNode;
 use expansion_figures::Figures;
 use std::alloc::{AllocError, Global};
@@ -92,7 +92,7 @@ impl Finding {
     }
 
     /// A finding that an error of the parser is, with the byte offset at which it is shown.
-    pub(crate) fn of_error(error: &Error<Global>, start: usize, message: String) -> Finding {
+    pub(crate) fn of_error(error: &BorrowedError<'_>, start: usize, message: String) -> Finding {
         Finding {
             start,
             end: start.saturating_add(error.data().len()),

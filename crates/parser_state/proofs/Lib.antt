@@ -2,7 +2,6 @@ pub mod Reading
 pub mod Building
 pub mod Keywords
 pub mod Leaves
-pub mod Reporting
 pub mod Faults
 pub mod Lookahead
 pub mod Lengths

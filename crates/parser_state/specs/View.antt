@@ -1,9 +1,9 @@
--- What a parser shows of its tokens and reports.
+-- What a parser shows of its tokens and errors.
 use Rattle.std.specs.Prelude.{ℕ, Bool, true, false, Option, Some, None}
 use Rattle.apollo_lexer.specs.declared.token.Token.{Token}
 use Rattle.parser_state.specs.declared.state.PendingToken.{PendingToken}
-use Rattle.parser_state.specs.declared.report.Report.{Report}
-use Rattle.parser_state.specs.declared.report.Report.TheVariants.{Lexer, Fault, RecursionLimit}
+use Rattle.parser_state.specs.declared.borrowed_error.BorrowedError.{BorrowedError}
+use Rattle.parser_state.specs.declared.borrowed_error.BorrowedError.TheVariants.{Lexer, Fault, RecursionLimit}
 use Rattle.parser_rules.specs.State.{Text, Lexeme, bad_report, token_limit_report, recursion_limit_report, fault_report}
 use Rattle.parser_rules.specs.State as state
 
@@ -22,7 +22,7 @@ abbrev pub lexer_report : Bool → Text → ℕ → state.Report
 lexer_report true text index = token_limit_report index
 lexer_report false text index = bad_report text index
 
-abbrev pub report_of : Report → state.Report
+abbrev pub report_of : BorrowedError → state.Report
 report_of (Lexer e) = lexer_report e.is_limit e.text.now e.index
 report_of (Fault m t) = fault_report m (lexeme_of t)
 report_of (RecursionLimit t) = recursion_limit_report (lexeme_of t)

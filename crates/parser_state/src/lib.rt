@@ -6,7 +6,8 @@
 //! `apollo_document`, is written with these methods alone.
 #![tactic(auto)]
 
-mod report;
+mod borrowed_error;
 mod state;
 
+pub use borrowed_error::BorrowedError;
 pub use state::{Finished, ParserState, is_eof, is_kind, is_word};

@@ -8,7 +8,6 @@ mod nesting;
 mod reader;
 mod reading;
 mod reporting;
-mod reports;
 mod tokens;
 
 ghost use Rattle.std.specs.Prelude.{◌≡◌, ◌≤◌, ◌<◌, ◌^◌, ◌+◌, ◌*◌, ◌/◌, true, [], length, take, map, min, OnOk, IfOk};
@@ -19,17 +18,16 @@ ghost use Rattle.document_grammar.specs.Forests.{count, none, text};
 ghost use Rattle.apollo_lexer.specs.Answers.{answers_left};
 ghost use Rattle.parser_rules.specs.State as state;
 ghost use Rattle.parser_rules.specs.Open.{IsRoot};
-ghost use Rattle.parser_state.specs.Errors.{IsErrorOf};
+ghost use Rattle.parser_state.specs.Errors.{IsErrorOf, error_of};
 ghost use Rattle.parser_state.specs.Reading as reading;
 ghost use Rattle.parser_state.specs.View.{current_of, pending_of};
 
-use apollo_lexer::{Error, Lexer, LimitTracker, Steps, Token};
-use apollo_tree::{Checkpoint, SpanBuilder, Subtree};
+use crate::borrowed_error::BorrowedError;
+use apollo_lexer::{Lexer, LimitTracker, Steps, Token};
+use apollo_tree::{BorrowedSubtree, Checkpoint, SpanBuilder};
 use building::push_all;
 use document_grammar::SyntaxKind;
-use ghost_value::Ghost;
 use reader::Reader;
-use reports::{Reports, no_reports};
 use std::alloc::{AllocError, Allocator};
 use std::marker::Model;
 pub use tokens::{is_eof, is_kind, is_word};
@@ -41,11 +39,11 @@ pub struct PendingToken<'i> {
     pub text: &'i str,
 }
 
-/// What a parse leaves: the tree, the errors in the order in which they were found, and how the limits were used.
+/// What a parse leaves: the tree, the errors in the order in which they were found, and how the limits were used. Tree and errors borrow the source.
 #[derive(Drop)]
-pub struct Finished<A: Allocator> {
-    pub tree: Subtree<A>,
-    pub errors: Vec<Error<A>, A>,
+pub struct Finished<'i, A: Allocator> {
+    pub tree: BorrowedSubtree<'i, A>,
+    pub errors: Vec<BorrowedError<'i>, A>,
     pub recursion_limit: LimitTracker,
     pub token_limit: LimitTracker,
 }
@@ -58,8 +56,7 @@ pub struct ParserState<'i, A: Allocator> {
     current_token: Option<Token<'i>>,
     builder: SpanBuilder<A>,
     pending: Vec<PendingToken<'i>, A>,
-    errors: Vec<Error<A>, A>,
-    reports: Ghost<Reports>,
+    errors: Vec<BorrowedError<'i>, A>,
     recursion_limit: LimitTracker,
     accept_errors: bool,
 }
@@ -122,9 +119,7 @@ impl<'i, A: Allocator> Model for ParserState<'i, A> {
     ghost use Rattle.apollo_lexer.specs.Answers.{answers_left, final_high};
     ghost use Rattle.parser_state.specs.Lengths.{text_length};
     ghost use Rattle.parser_state.specs.Lookahead.{all_given};
-    ghost use Rattle.std.specs.List.{AllZip};
-    ghost use Rattle.parser_state.specs.Errors.{IsErrorOf};
-    ghost use Rattle.parser_state.specs.View.{current_of, pending_of};
+    ghost use Rattle.parser_state.specs.View.{current_of, pending_of, report_of};
     ghost use Rattle.parser_rules.specs.State.{IsNow};
 
     ghost view = { λ p. record {
@@ -132,7 +127,7 @@ impl<'i, A: Allocator> Model for ParserState<'i, A> {
       current = current_of p.current_token;
       pending = map pending_of p.pending.items;
       tree = p.builder;
-      errors = p.reports.value;
+      errors = map report_of p.errors.items;
       limit = p.recursion_limit.limit;
       depth = p.recursion_limit.current;
       high = p.recursion_limit.high;
@@ -141,7 +136,7 @@ impl<'i, A: Allocator> Model for ParserState<'i, A> {
       budget = p.reader.start.value + 2 * all_given p.reader.lexer;
     } };
 
-    ghost invariant = { λ p. IsNow (current_of p.current_token) × (text_length p.builder (map pending_of p.pending.items) (current_of p.current_token) (answers_left p.reader.lexer) < 2 ^ 64) × ∥ AllZip IsErrorOf p.reports.value p.errors.items ∥₁ };
+    ghost invariant = { λ p. IsNow (current_of p.current_token) × (text_length p.builder (map pending_of p.pending.items) (current_of p.current_token) (answers_left p.reader.lexer) < 2 ^ 64) };
 }
 
 impl<'i, A: Allocator + Copy> ParserState<'i, A> {
@@ -162,7 +157,6 @@ impl<'i, A: Allocator + Copy> ParserState<'i, A> {
             builder: SpanBuilder::new(alloc),
             pending: Vec::new(alloc),
             errors: Vec::new(alloc),
-            reports: no_reports(),
             recursion_limit: LimitTracker::new(recursion_limit),
             accept_errors: true,
         }
@@ -203,14 +197,14 @@ impl<'i, A: Allocator + Copy> ParserState<'i, A> {
     pub fn finish(
         self,
         token_limit: usize,
-        source: &str,
+        source: &'i str,
         steps: &mut Steps,
-    ) -> Result<Finished<A>, AllocError>
+    ) -> Result<Finished<'i, A>, AllocError>
         requires source { take (length (text (state.finished self))) source.now ≡ text (state.finished self) }
         requires open_root { IsRoot self.tree }
         ensures tree { IfOk result (λ t. t.tree ≡ state.finished self.entry) }
         ensures counted { IfOk result (λ t. count t.tree < 2 ^ 64) }
-        ensures errors { IfOk result (λ t. AllZip IsErrorOf self.entry.errors t.errors.items) }
+        ensures errors { IfOk result (λ t. AllZip IsErrorOf self.entry.errors (map error_of t.errors.items)) }
         ensures recursion_limit { IfOk result (λ t. t.recursion_limit ≡ record { current = self.entry.depth; high = self.entry.high; limit = self.entry.limit }) }
         ensures allowed { IfOk result (λ t. (t.token_limit.current ≡ 0) × (t.token_limit.limit ≡ token_limit) × (t.token_limit.high ≤ self.entry.asked)) }
         ensures steps { steps.new.value ≤ self.entry.budget }
@@ -221,7 +215,6 @@ impl<'i, A: Allocator + Copy> ParserState<'i, A> {
             pending,
             mut builder,
             errors,
-            alloc,
             recursion_limit,
             ..
         } = self;
@@ -232,7 +225,7 @@ impl<'i, A: Allocator + Copy> ParserState<'i, A> {
         let mut tokens = LimitTracker::new(token_limit);
         tokens.high = asked;
         Ok(Finished {
-            tree: builder.finish(alloc, source)?,
+            tree: builder.finish(source),
             errors,
             recursion_limit,
             token_limit: tokens,

@@ -6,7 +6,7 @@ ghost use Rattle.parser_rules.specs.State as state;
 ghost use Rattle.parser_rules.specs.Open.{IsInside};
 
 use super::ParserState;
-use crate::report::Report;
+use crate::borrowed_error::BorrowedError;
 use std::alloc::{AllocError, Allocator};
 
 impl<'i, A: Allocator + Copy> ParserState<'i, A> {
@@ -43,7 +43,7 @@ impl<'i, A: Allocator + Copy> ParserState<'i, A> {
         ensures budget { self.new.budget ≡ self.old.budget }
     {
         if let Some(token) = self.current_token {
-            self.push_report(Report::RecursionLimit(token))?;
+            self.push_error(BorrowedError::RecursionLimit(token))?;
             self.accept_errors = false;
         }
         Ok(())

@@ -19,7 +19,7 @@ ghost use Rattle.parser_state.specs.View.{current_of};
 use super::reader::Sorted;
 use super::tokens::{is_boolean, is_eof, is_kind, is_word};
 use super::{ParserState, PendingToken};
-use crate::report::Report;
+use crate::borrowed_error::BorrowedError;
 use apollo_lexer::{LexError, Token};
 use document_grammar::SyntaxKind;
 use lexical_grammar::TokenKind;
@@ -98,7 +98,7 @@ impl<'i, A: Allocator + Copy> ParserState<'i, A> {
         ensures step { OnOk result (self.new ≡ reading.refused error.entry.is_limit error.entry.text.now error.entry.index self.old) }
         ensures budget { self.new.budget ≡ self.old.budget }
     {
-        self.add_error(Report::Lexer(error))?;
+        self.add_error(BorrowedError::Lexer(error))?;
         if error.is_limit() {
             self.accept_errors = false;
             return Ok(());

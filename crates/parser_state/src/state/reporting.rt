@@ -1,4 +1,4 @@
-// Reporting: what was found wrong, and the errors of it.
+// Reporting: what was found wrong.
 #![tactic(auto, using(parser_rules::specs::Runs::does), unfolding(parser_rules::proofs::runs::Running::steps))]
 
 ghost use Rattle.std.specs.Prelude.{◌≡◌, ◌<◌, true, [], ◌∷◌, ◌++◌, OnOk};
@@ -12,33 +12,30 @@ ghost use Rattle.parser_state.specs.View.{report_of};
 ghost use Rattle.parser_state.specs.Parses.{Parses};
 
 use super::ParserState;
-use super::reports::one_more;
-use crate::report::Report;
+use crate::borrowed_error::BorrowedError;
 use document_grammar::SyntaxKind;
 use lexical_grammar::TokenKind;
 use parser_rules::Message;
 use std::alloc::{AllocError, Allocator};
 
 impl<'i, A: Allocator + Copy> ParserState<'i, A> {
-    // The report becomes an error.
+    // One error more.
     #[cold]
-    pub(super) fn add_error(&mut self, report: Report<'i>) -> Result<(), AllocError>
-        ensures step { OnOk result (self.new ≡ record self.old { errors = self.old.errors ++ report_of report.entry ∷ [] }) }
+    pub(super) fn add_error(&mut self, error: BorrowedError<'i>) -> Result<(), AllocError>
+        ensures step { OnOk result (self.new ≡ record self.old { errors = self.old.errors ++ report_of error.entry ∷ [] }) }
         ensures budget { self.new.budget ≡ self.old.budget }
     {
-        let error = report.to_error(self.alloc)?;
         self.errors.push(error)?;
-        self.reports = one_more(&self.reports, &report);
         Ok(())
     }
 
     // After a limit error no more is reported.
-    pub(super) fn push_report(&mut self, report: Report<'i>) -> Result<(), AllocError>
-        ensures step { OnOk result (self.new ≡ state.reported (report_of report.entry) self.old) }
+    pub(super) fn push_error(&mut self, error: BorrowedError<'i>) -> Result<(), AllocError>
+        ensures step { OnOk result (self.new ≡ state.reported (report_of error.entry) self.old) }
         ensures budget { self.new.budget ≡ self.old.budget }
     {
         if self.accept_errors {
-            self.add_error(report)?;
+            self.add_error(error)?;
         }
         Ok(())
     }
@@ -48,7 +45,7 @@ impl<'i, A: Allocator + Copy> ParserState<'i, A> {
         ensures { Parses (Do (Note message)) result self.old self.new }
     {
         if let Some(token) = self.current_token {
-            self.push_report(Report::Fault(message, token))?;
+            self.push_error(BorrowedError::Fault(message, token))?;
         }
         Ok(())
     }

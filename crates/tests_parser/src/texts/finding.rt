@@ -5,8 +5,8 @@ use super::typed::{put_definitions, put_values};
 use crate::answers::Answers;
 use apollo_parser::cst::{CstNode, SyntaxNodePtr};
 use apollo_parser::{
-    DocumentRoot, Error, LexError, Lexer, Limits, Parser, Root, SelectionSetRoot, Steps,
-    SyntaxKind, SyntaxNode, SyntaxTree, Token, TypeRoot,
+    BorrowedError, BorrowedSyntaxTree, DocumentRoot, Error, LexError, Lexer, LimitTracker, Limits,
+    Parser, Root, SelectionSetRoot, Steps, SyntaxKind, SyntaxNode, SyntaxTree, Token, TypeRoot,
 };
 use std::alloc::{AllocError, Global};
 
@@ -48,16 +48,27 @@ impl Parsed for TypeRoot {
     }
 }
 
-fn put_error(found: &mut Answers, error: &Error) {
-    found.write(&error.index(), " ");
-    if error.is_limit() {
+// Where an error is, and what it is about.
+fn put_subject(found: &mut Answers, index: usize, is_limit: bool, is_eof: bool, data: &str) {
+    found.write(&index, " ");
+    if is_limit {
         found.say("limit");
-    } else if error.is_eof() {
+    } else if is_eof {
         found.say("end");
     } else {
-        found.write(&error.data(), "");
+        found.write(&data, "");
     }
     found.say(": ");
+}
+
+fn put_error(found: &mut Answers, error: &Error) {
+    put_subject(
+        found,
+        error.index(),
+        error.is_limit(),
+        error.is_eof(),
+        error.data(),
+    );
     found.say(error.message());
     found.end_line();
 }
@@ -83,13 +94,23 @@ fn put_root(found: &mut Answers, root: SyntaxNode<'_>) {
     found.write(&node_count(root), " nodes below it; ");
 }
 
+fn put_counts(found: &mut Answers, elements: usize, tokens: LimitTracker, recursion: LimitTracker) {
+    found.write(&elements, " elements, ");
+    found.write(&tokens.high, " items, nesting ");
+    found.debug(&recursion.high);
+}
+
 // The errors, and a line with the root and the counts.
 fn put_tree<R: Root>(found: &mut Answers, tree: &SyntaxTree<R, Global>) {
     put_errors(found, tree);
     put_root(found, tree.root());
-    found.write(&tree.element_count(), " elements, ");
-    found.write(&tree.token_limit().high, " items, nesting ");
-    found.write(&tree.recursion_limit().high, ", ");
+    put_counts(
+        found,
+        tree.element_count(),
+        tree.token_limit(),
+        tree.recursion_limit(),
+    );
+    found.say(", ");
     found.write(&tree.errors().len(), " errors\n");
 }
 
@@ -216,6 +237,63 @@ fn put_copy(
     Ok(())
 }
 
+fn put_borrowed_error(found: &mut Answers, error: &BorrowedError<'_>) {
+    put_subject(
+        found,
+        error.index(),
+        error.is_limit(),
+        error.is_eof(),
+        error.data(),
+    );
+    let (words, quoted, end) = error.message_parts();
+    found.say(words);
+    found.say(quoted);
+    found.say(end);
+    found.end_line();
+}
+
+fn put_borrowed_errors(found: &mut Answers, tree: &BorrowedSyntaxTree<'_, DocumentRoot, Global>) {
+    for error in tree.errors() {
+        put_borrowed_error(found, error);
+    }
+}
+
+fn borrowed(
+    alloc: Global,
+    source: &str,
+    limits: Limits,
+) -> Result<BorrowedSyntaxTree<'_, DocumentRoot, Global>, AllocError> {
+    Parser::within(source, limits).parse_borrowed(alloc)
+}
+
+// What a tree that borrows the text says, in the words of `put_tree`, and its last element.
+fn put_borrowed_tree(found: &mut Answers, tree: &BorrowedSyntaxTree<'_, DocumentRoot, Global>) {
+    let last = tree.element_count().saturating_sub(1);
+    put_borrowed_errors(found, tree);
+    put_root(found, tree.root());
+    put_counts(
+        found,
+        tree.element_count(),
+        tree.token_limit(),
+        tree.recursion_limit(),
+    );
+    found.say("; ");
+    found.write(&tree.element(last), "\n");
+}
+
+// A tree that borrows the text; then the same tree with a text of its own.
+fn put_borrowed(
+    alloc: Global,
+    found: &mut Answers,
+    source: &str,
+    limits: Limits,
+) -> Result<(), AllocError> {
+    let tree = borrowed(alloc, source, limits)?;
+    put_borrowed_tree(found, &tree);
+    put_tree(found, &tree.into_owned(alloc)?);
+    Ok(())
+}
+
 fn document(alloc: Global, source: &str) -> Result<SyntaxTree<DocumentRoot, Global>, AllocError> {
     DocumentRoot::parse(alloc, Parser::new(source))
 }
@@ -273,6 +351,7 @@ fn put_findings(
     match mode {
         Mode::Tokens => put_items(alloc, found, source, limits),
         Mode::Copy => put_copy(alloc, found, source, limits),
+        Mode::Borrowed => put_borrowed(alloc, found, source, limits),
         Mode::Pointers => put_pointers(alloc, found, source),
         Mode::Document(view) => put_text::<DocumentRoot>(alloc, found, source, limits, view),
         Mode::SelectionSet(view) => {

@@ -26,6 +26,8 @@ pub enum Mode {
     Tokens,
     /// A copy of the tree of a document whose parse is counted.
     Copy,
+    /// The tree of a document that borrows its text, and the same tree with a text of its own.
+    Borrowed,
     /// A pointer to a field in the first line, looked up in the other lines.
     Pointers,
     Document(View),
@@ -58,6 +60,7 @@ fn mode_of(word: &str) -> Option<Mode> {
         "places" => Some(Mode::Document(View::Places)),
         "tokens" => Some(Mode::Tokens),
         "copy" => Some(Mode::Copy),
+        "borrowed" => Some(Mode::Borrowed),
         "pointers" => Some(Mode::Pointers),
         _ => None,
     }

@@ -6,11 +6,11 @@ use Rattle.parser_rules.specs.State.{State, Report, add_all, finished}
 use Rattle.parser_rules.specs.Open.{IsRoot}
 use Rattle.parser_state.specs.declared.state.PendingToken.{PendingToken}
 use Rattle.parser_state.specs.Lengths.{pending_length}
-use Rattle.parser_state.specs.Errors.{IsErrorOf}
+use Rattle.parser_state.specs.Errors.{IsErrorOf, error_of}
 use Rattle.parser_state.specs.View.{pending_of}
 use Rattle.parser_state.proofs.Lengths.{room-all}
 use Rattle.parser_state.proofs.Building.{free-fits, root-flushed, root-is-open, root-closes, begins-with}
-use Rattle.parser_state.proofs.Reporting.{errors-had}
+use Rattle.parser_state.proofs.Faults.{all-say}
 use Rattle.parser_state.proofs.state.ParserState.finish.Goals as goal
 
 pub push_all-requires : goal.push_all-requires
@@ -38,5 +38,5 @@ finish-requires g c =
 
 pub returns-clause-errors : goal.returns-clause-errors
 returns-clause-errors g c =
-    subst (λ (rs : List Report). AllZip IsErrorOf rs c.self.inside.errors.items) (ap (λ (s : State). s.errors) c.self.view_is)
-    (errors-had c.self.inside.reports.value c.self.inside.errors.items c.self.invariant.2)
+    subst (λ (rs : List Report). AllZip IsErrorOf rs (map error_of c.self.inside.errors.items)) (ap (λ (s : State). s.errors) c.self.view_is)
+    (all-say c.self.inside.errors.items)

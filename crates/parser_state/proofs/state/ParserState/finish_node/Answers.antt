@@ -11,4 +11,4 @@ finish_node-requires g c = free-fits c.self.inside.builder (subst (λ (s : State
 pub invariant_of-self : goal.invariant_of-self
 invariant_of-self g c =
     let h = free-fits c.self.inside.builder (subst (λ (s : State). IsOpen s.tree) (sym c.self.view_is) c.requires) in
-    (c.self.invariant.0, after-finish _ _ _ _ _ c.finish_node.ensures.after h c.self.invariant.1, c.self.invariant.2)
+    (c.self.invariant.0, after-finish _ _ _ _ _ c.finish_node.ensures.after h c.self.invariant.1)

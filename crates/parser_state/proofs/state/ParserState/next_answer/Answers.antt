@@ -8,7 +8,7 @@ use Rattle.parser_state.proofs.Reading.{taken-text}
 use Rattle.parser_state.proofs.state.ParserState.next_answer.Goals as goal
 
 pub invariant_of-self : goal.invariant_of-self
-invariant_of-self g c = (c.self.invariant.0, after-taken _ _ _ _ _ _ c.next_answer.ensures.answers c.self.invariant.1, c.self.invariant.2)
+invariant_of-self g c = (c.self.invariant.0, after-taken _ _ _ _ _ _ c.next_answer.ensures.answers c.self.invariant.1)
 
 pub returns-clause-taken : goal.returns-clause-taken
 returns-clause-taken g c = search rules

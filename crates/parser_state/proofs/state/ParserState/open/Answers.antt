@@ -7,5 +7,4 @@ pub invariant_of-self-2 : goal.invariant_of-self-2
 invariant_of-self-2 g c = (
   c.self.invariant.0,
   after-start c.args.root _ _ _ _ _ (c.in_ok-start_node.ensures.ok ∙ ap (start c.args.root) c.reserve_for.ensures) c.self.invariant.1,
-  c.self.invariant.2,
 )

@@ -15,4 +15,4 @@ pub invariant_of-self : goal.invariant_of-self
 invariant_of-self g c =
     let le = subst (λ (ps : List PendingToken). length (built_text c.push_all-pushed.new.builder) ≤ length (built_text c.self.inside.builder) + pending_length
     (map pending_of ps)) c.deref.ensures.value c.push_all-pushed.ensures.len in
-    (c.self.invariant.0, after-all _ _ _ _ _ _ le c.clear.ensures.items c.self.invariant.1, c.self.invariant.2)
+    (c.self.invariant.0, after-all _ _ _ _ _ _ le c.clear.ensures.items c.self.invariant.1)

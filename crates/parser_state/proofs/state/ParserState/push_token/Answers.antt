@@ -11,4 +11,4 @@ token-requires g c =
 pub invariant_of-self-2 : goal.invariant_of-self-2
 invariant_of-self-2 g c =
     let n = subst (λ (s : State). length c.args.text.now + text_length s.tree s.pending None s.items < 2 ^ 64) (sym c.self.view_is) c.requires in
-    (tt, after-leaf c.args.kind c.args.text.now _ _ _ _ _ c.in_ok-token.ensures.ok n, c.self.invariant.2)
+    (tt, after-leaf c.args.kind c.args.text.now _ _ _ _ _ c.in_ok-token.ensures.ok n)

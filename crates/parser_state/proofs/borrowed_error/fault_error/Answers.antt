@@ -3,7 +3,7 @@ use Rattle.lexical_grammar.specs.Answers.{is_end}
 use Rattle.parser_rules.specs.Messages.{at_text, at_end}
 use Rattle.parser_state.specs.View.{lexeme_of}
 use Rattle.parser_state.proofs.Faults.{text-error, end-error, plain-message}
-use Rattle.parser_state.proofs.report.fault_error.Goals as goal
+use Rattle.parser_state.proofs.borrowed_error.fault_error.Goals as goal
 
 pub returns-then-is_eof : goal.returns-then-is_eof
 returns-then-is_eof g c =
