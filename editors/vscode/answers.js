@@ -6,8 +6,9 @@ const location = ({ uri, range: at }) => new vscode.Location(vscode.Uri.parse(ur
 const edit = ({ range: at, newText }) => new vscode.TextEdit(range(at), newText);
 
 // VS Code counts severities and the kinds of symbols and completions from 0, the protocol from 1.
-function diagnostic({ range: at, message, severity, source, code }) {
-  return Object.assign(new vscode.Diagnostic(range(at), message, severity - 1), { source, code });
+function diagnostic({ range: at, message, severity, source, code, relatedInformation }) {
+  const related = relatedInformation?.map((it) => new vscode.DiagnosticRelatedInformation(location(it.location), it.message));
+  return Object.assign(new vscode.Diagnostic(range(at), message, severity - 1), { source, code, relatedInformation: related });
 }
 
 function symbol({ name, detail, kind, range: whole, selectionRange, children }) {

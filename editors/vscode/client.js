@@ -6,7 +6,11 @@ const { Connection } = require("./connection.js");
 const LANGUAGE = "graphql";
 const CAPABILITIES = {
   general: { positionEncodings: ["utf-16"] },
-  textDocument: { documentSymbol: { hierarchicalDocumentSymbolSupport: true }, hover: { contentFormat: ["markdown"] } },
+  textDocument: {
+    documentSymbol: { hierarchicalDocumentSymbolSupport: true },
+    hover: { contentFormat: ["markdown"] },
+    publishDiagnostics: { relatedInformation: true },
+  },
 };
 
 const named = (document) => ({ uri: document.uri.toString() });

@@ -63,10 +63,10 @@ class Client:
         """The result of a request about a document."""
         return self.ask(f"textDocument/{feature}", textDocument={"uri": uri}, **params)["result"]
 
-    def initialize(self, *encodings):
-        """Offers these encodings of positions, and gives the server's capabilities."""
+    def initialize(self, *encodings, related=False):
+        """Offers these encodings of positions, takes related information or doesn't, and gives the server's capabilities."""
         general = {"positionEncodings": list(encodings)} if encodings else {}
-        answer = self.ask("initialize", capabilities={"general": general})
+        answer = self.ask("initialize", capabilities={"general": general, "textDocument": {"publishDiagnostics": {"relatedInformation": related}}})
         self.notify("initialized")
         return answer["result"]["capabilities"]
 

@@ -206,6 +206,27 @@ def positions():
         client.end()
 
 
+def open_braces():
+    """The first error names the brace that is never closed, if a line begins with a definition's keyword inside it."""
+    client, silent = Client(PROGRAM), started()
+    client.initialize(related=True)
+    missing = [("query A {\n  a\n\nquery B {\n  b\n}\n", 0, 8), ("{ a\nfragment F on T { b }", 0, 0), ("mutation {\n  a {\n    b\n}\n\nmutation B($c: D) {\n  b(c: $c)\n}\n", 0, 9),
+               ("# 😀\rsubscription A { # {\r\n  a\rquery {b}", 1, 15), ("query A {\n  a {\n    b\n\nquery B {\n  b\n}\n", 1, 4), ("type A {\n  a: B\n\ntype B {\n  b: C\n}\n", 0, 7),
+               ('interface A {\n  a: B\n\n"""\n}\n"""\nextend union B = C', 0, 12), ("enum A {\n  B\n\ndirective @a on FIELD", 0, 7), ("schema {\n  query: A\nscalar A", 0, 7),
+               ("scalar A\ninput B {\n  a: A\nenum C {\n  D\n}\n", 1, 8), ("type A { a: B }\ntype B {\n  b: C\n\ninterface D { e: F }", 1, 7), ("type A {\n  a: B!!\n\ntype B {\n  b: C\n}\n", 0, 7),
+               ("query A {\n  a: $\n\nquery B { b }", 0, 8), ("type A {\n  a: $\n\ntype B {\n  b: C\n\ntype D {\n  e: F\n", 0, 7)]
+    for text, line, place in missing:
+        first, *others = client.open(URI, text)["diagnostics"]
+        named = first.pop("relatedInformation", None)
+        expect(f"the brace in {text!r}", named, [{"location": {"uri": URI, "range": span(line, place, place + 1)}, "message": "this { is never closed"}])
+        expect(f"the same without it, in {text!r}", silent.open(URI, text)["diagnostics"], [first, *others])
+    # no definition follows, none begins a line, the braces are closed, or the error is in front of the brace
+    for text in ["query A {\n  a\n", "query A {\n  a\n  query B { b }", "query A {\n  a: $\n}\nquery B { b }", "{\na {\ntype\n}\nb(", "type A {\ntype: B\nc D\n}", "query A($) { a }\nquery B {\n  b\n\nquery C { c }"]:
+        expect(f"no brace in {text!r}", "relatedInformation" in client.open(URI, text)["diagnostics"][0], False)
+    client.end()
+    silent.end()
+
+
 def violations():
     """Rules of validation, in the words of graphql-js: a warning where something isn't used or may be in another file, and else an error."""
     def found(text):
@@ -855,7 +876,7 @@ def many_changes():
             client.end()
 
 
-TESTS = [states, statuses_without_shutdown, faulty_messages, pieces_of_input, capabilities, changes, positions, diagnostics, violations, fragments_of_others, lambda: names("utf-16", 0), lambda: names("utf-8", 2), markups, other_documents, files_of_the_folder, types_of_the_document, members, uses_of_names, open_quotes, templates, changed_templates,
+TESTS = [states, statuses_without_shutdown, faulty_messages, pieces_of_input, capabilities, changes, positions, diagnostics, open_braces, violations, fragments_of_others, lambda: names("utf-16", 0), lambda: names("utf-8", 2), markups, other_documents, files_of_the_folder, types_of_the_document, members, uses_of_names, open_quotes, templates, changed_templates,
          lambda: parts("utf-16", 0), lambda: parts("utf-8", 2), names_of_symbols, more_folds, completion, layout, long_layout, layout_of_long_lines, limits, refused_words, standard, signatures, many_changes]
 for test in TESTS:
     test()

@@ -1,5 +1,5 @@
 -- The errors of the definitions, and the remarks on them.
-use Rattle.std.proofs.Common.{◌≡◌, ◌<◌, ◌+◌, ◌-◌, ℕ, suc, get_or, List, [], ◌∷◌, ◌++◌, Bool, true, false, cond, map, take, drop, length, min}
+use Rattle.std.proofs.Common.{◌≡◌, ◌<◌, ◌+◌, ◌-◌, ℕ, suc, get_or, List, [], ◌∷◌, ◌++◌, Bool, true, false, cond, None, map, take, drop, length, min}
 use Rattle.std.proofs.Common.{ap, refl, sym, ◌∙◌, inl, inr, arith}
 use Rattle.std.specs.Prelude.{nat_lt, take_while}
 use Rattle.std.specs.List.{flat_map}
@@ -81,4 +81,5 @@ no_groups (start ∷ starts) = no_groups starts
 -- the first remark is about the first error
 pub about_first : (starts : List ℕ) (errors : List Diagnostic) → IsAboutFirst errors (syntax_remarks starts errors)
 about_first starts [] = ap remarks_on (no_groups starts)
-about_first starts (error ∷ errors) = (let first = first_group starts error errors in (first.0, remarks_after first.0 error first.1, ap remarks_on first.2))
+about_first starts (error ∷ errors) =
+    (let first = first_group starts error errors in (first.0, None, remarks_after first.0 error first.1, ap remarks_on first.2))

@@ -1,5 +1,5 @@
 -- The tokens of lists of pieces that grow.
-use Rattle.std.proofs.Common.{◌≡◌, ℕ, ℤ, suc, ◌+◌, ◌-◌, ◌<◌, List, [], ◌∷◌, ◌++◌, Option, Some, None, append_assoc, subst, ap, sym, refl, ◌∙◌, length}
+use Rattle.std.proofs.Common.{◌≡◌, ℕ, ℤ, suc, ◌+◌, ◌-◌, ◌^◌, ◌<◌, List, [], ◌∷◌, ◌++◌, Option, Some, None, append_assoc, subst, ap, sym, refl, ◌∙◌, length}
 use Rattle.std.proofs.Common.{map, take, get_or, min, arith}
 use Rattle.std.specs.List.{flat_map}
 use Rattle.std.proofs.lemmas.Grind.{flat_map-append}
@@ -9,12 +9,13 @@ use Rattle.std.proofs.lemmas.List.Folds.{flat_map-map}
 use Rattle.std.proofs.Math.Seq.{take-suc}
 use Rattle.json.specs.Json.{Json, object}
 use Rattle.json.specs.Token.{Token, end_array, end_object}
-use Rattle.json.specs.Tree.{items_tokens, json_tokens}
+use Rattle.json.specs.Tree.{items_tokens, json_tokens, members_tokens}
 use Rattle.json.specs.Value.{items_of}
 use Rattle.line_index.specs.declared.PositionEncoding.{PositionEncoding}
-use Rattle.editor_diagnostics.specs.Publication.{publish_params, remark_diagnostic}
+use Rattle.editor_diagnostics.specs.Positions.{position_of, range_value}
+use Rattle.editor_diagnostics.specs.Publication.{publish_params, related_members, remark_diagnostic}
 use Rattle.editor_diagnostics.specs.Remarks.{Remarked, as_remarked}
-use Rattle.editor_diagnostics.specs.Tokens.{front_tokens, tokens_of_remarks}
+use Rattle.editor_diagnostics.specs.Tokens.{brace_end, brace_front, front_tokens, tokens_of_remarks}
 use Rattle.editor_diagnostics.specs.declared.remark.Remark.{Remark}
 
 -- three additions, one after the other
@@ -30,6 +31,13 @@ added_thrice {Y = Y} f old a b c one two three bs cs p q r m n =
     subst (λ (x : List Y). flat_map f three ≡ flat_map f old ++ (flat_map f a ++ (x ++ cs))) m
     (subst (λ (x : List Y). flat_map f three ≡ flat_map f old ++ (flat_map f a ++ (flat_map f b ++ x))) n (told_thrice f old a b c one two three p q r))
 
+-- and a fourth, which with the third makes some tokens
+pub added_four_times : {X Y : Type 0} (f : X → List Y) (old a b c one two three four : List X) (bs rest made : List Y) → one ≡ old ++ a → two ≡ one ++ b
+    → three ≡ two ++ c → flat_map f b ≡ bs → flat_map f four ≡ flat_map f three ++ rest → flat_map f c ++ rest ≡ made
+    → flat_map f four ≡ flat_map f old ++ (flat_map f a ++ (bs ++ made))
+added_four_times f old a b c one two three four bs rest made p q r m last is =
+    rw (last, told_thrice f old a b c one two three p q r, append_assoc, append_assoc, append_assoc, m, is)
+
 -- one more addition, after those of the first k of some things
 pub one_more : {E Y : Type 0} (g : E → List Y) (things : List E) (k : ℕ) (thing : E) (first old new : List Y) → thing ≡ get_or things k thing
     → k < length things
@@ -42,6 +50,15 @@ one_more {E = E} {Y = Y} g things k thing first old new is within so_far added =
     let taken : flat_map g (take (k + 1) things) ≡ flat_map g (take k things) ++ g thing =
     ap (flat_map g) step ∙ flat_map-append g (take k things) (thing ∷ []) ∙ ap (λ (x : List Y). flat_map g (take k things) ++ x) last in
     added ∙ ap (λ (x : List Y). x ++ g thing) so_far ∙ append_assoc first (flat_map g (take k things)) (g thing) ∙ ap (λ (x : List Y). first ++ x) (sym taken)
+
+-- ---- the tokens of a diagnostic
+
+-- a brace that is named, and the end of the diagnostic
+pub brace_tokens : (uri : List ℕ) (encoding : PositionEncoding) (text : List ℕ) (brace last : ℕ) (front : List Token) → front ≡ brace_front uri
+    → last ≡ min (brace + 1) (2 ^ 64 - 1)
+    → front ++ (json_tokens (range_value (position_of encoding text brace) (position_of encoding text last)) ++ brace_end)
+    ≡ members_tokens (related_members uri encoding text (Some brace))
+brace_tokens uri encoding text brace last front begins is = rw (begins, is)
 
 -- ---- the tokens of the parameters
 
@@ -58,19 +75,19 @@ params_tokens uri None values = ap (λ (x : List Token). front_tokens uri None +
 params_tokens uri (Some version) values = ap (λ (x : List Token). front_tokens uri (Some version) ++ x) (items_then values (end_object ∷ []))
 
 -- the tokens of remarks are those of their diagnostics
-remarks_tokens : (encoding : PositionEncoding) (text : List ℕ) (remarks : List Remark)
-    → tokens_of_remarks encoding text remarks ≡ flat_map json_tokens (map (remark_diagnostic encoding text) (map as_remarked remarks))
-remarks_tokens encoding text remarks =
-    sym (flat_map-map (λ (r : Remarked). json_tokens (remark_diagnostic encoding text r)) as_remarked remarks)
-    ∙ sym (flat_map-map json_tokens (remark_diagnostic encoding text) (map as_remarked remarks))
+remarks_tokens : (uri : List ℕ) (encoding : PositionEncoding) (text : List ℕ) (remarks : List Remark)
+    → tokens_of_remarks uri encoding text remarks ≡ flat_map json_tokens (map (remark_diagnostic uri encoding text) (map as_remarked remarks))
+remarks_tokens uri encoding text remarks =
+    sym (flat_map-map (λ (r : Remarked). json_tokens (remark_diagnostic uri encoding text r)) as_remarked remarks)
+    ∙ sym (flat_map-map json_tokens (remark_diagnostic uri encoding text) (map as_remarked remarks))
 
 -- the front, the diagnostics and the end make the parameters
 pub whole_params : (uri : List ℕ) (version : Option ℤ) (encoding : PositionEncoding) (text : List ℕ) (remarks : List Remark) (p q : List Token)
-    → p ≡ front_tokens uri version → q ≡ p ++ tokens_of_remarks encoding text remarks
-    → q ++ end_array ∷ end_object ∷ [] ≡ json_tokens (object (publish_params uri version (map (remark_diagnostic encoding text) (map as_remarked remarks))))
+    → p ≡ front_tokens uri version → q ≡ p ++ tokens_of_remarks uri encoding text remarks
+    → q ++ end_array ∷ end_object ∷ [] ≡ json_tokens (object (publish_params uri version (map (remark_diagnostic uri encoding text) (map as_remarked remarks))))
 whole_params uri version encoding text remarks p q front added =
-    let values : List Json = map (remark_diagnostic encoding text) (map as_remarked remarks) in
+    let values : List Json = map (remark_diagnostic uri encoding text) (map as_remarked remarks) in
     let f : List Token = front_tokens uri version in
-    let is : q ≡ f ++ flat_map json_tokens values = rw (added, front, remarks_tokens encoding text remarks) in
+    let is : q ≡ f ++ flat_map json_tokens values = rw (added, front, remarks_tokens uri encoding text remarks) in
     ap (λ (x : List Token). x ++ end_array ∷ end_object ∷ []) is
     ∙ append_assoc f (flat_map json_tokens values) (end_array ∷ end_object ∷ []) ∙ sym (params_tokens uri version values)

@@ -1,7 +1,7 @@
 -- The notice of the remarks on a document to a client.
-use Rattle.std.specs.Prelude.{ℕ, ℤ, List, map, Option, Some, None, codes, decimal}
+use Rattle.std.specs.Prelude.{ℕ, ◌+◌, ◌-◌, ◌^◌, ℤ, List, map, min, Option, Some, None, codes, decimal}
 use Rattle.std.specs.Fmt.{signed_decimal}
-use Rattle.json.specs.Json.{Json, Members, array, member, no_members, number, object, string}
+use Rattle.json.specs.Json.{Json, Members, array, item, member, no_items, no_members, number, object, string}
 use Rattle.json.specs.Value.{items_of}
 use Rattle.line_index.specs.declared.PositionEncoding.{PositionEncoding}
 use Rattle.rpc_messages.specs.Messages.{IsNoticeOf}
@@ -10,15 +10,36 @@ use Rattle.editor_diagnostics.specs.Remarks.{Remarked, severity_number}
 
 -- ---- diagnostics
 
--- a `Diagnostic` (Language Server Protocol 3.17) is from where the remark begins to where it ends
-abbrev pub words_of_remark : Remarked → Members
-words_of_remark r =
-    member (codes "code") (string r.code) (member (codes "severity") (number (decimal (severity_number r.severity)))
-    (member (codes "source") (string (codes "gqlls")) (member (codes "message") (string r.message) no_members)))
+-- a brace, which is one byte; no offset is greater than 2 ^ 64 - 1
+abbrev pub brace_range : PositionEncoding → List ℕ → ℕ → Json
+brace_range encoding text brace = range_value (position_of encoding text brace) (position_of encoding text (min (brace + 1) (2 ^ 64 - 1)))
 
-abbrev pub remark_diagnostic : PositionEncoding → List ℕ → Remarked → Json
-remark_diagnostic encoding text r =
-    object (member (codes "range") (range_value (position_of encoding text r.start) (position_of encoding text r.end)) (words_of_remark r))
+-- `Location` (Language Server Protocol 3.17)
+abbrev pub brace_location : List ℕ → PositionEncoding → List ℕ → ℕ → Json
+brace_location uri encoding text brace = object (member (codes "uri") (string uri) (member (codes "range") (brace_range encoding text brace) no_members))
+
+-- `DiagnosticRelatedInformation`
+abbrev pub brace_information : List ℕ → PositionEncoding → List ℕ → ℕ → Json
+brace_information uri encoding text brace =
+    object (member (codes "location") (brace_location uri encoding text brace) (member (codes "message") (string (codes "this { is never closed")) no_members))
+
+-- a brace that is named
+abbrev pub related_members : List ℕ → PositionEncoding → List ℕ → Option ℕ → Members
+related_members uri encoding text None = no_members
+related_members uri encoding text (Some brace) =
+    member (codes "relatedInformation") (array (item (brace_information uri encoding text brace) no_items)) no_members
+
+-- what follows the range, and then other members
+abbrev pub words_of_remark : Remarked → Members → Members
+words_of_remark r others =
+    member (codes "code") (string r.code) (member (codes "severity") (number (decimal (severity_number r.severity)))
+    (member (codes "source") (string (codes "gqlls")) (member (codes "message") (string r.message) others)))
+
+-- a `Diagnostic` is from where the remark begins to where it ends, in the document with this name
+abbrev pub remark_diagnostic : List ℕ → PositionEncoding → List ℕ → Remarked → Json
+remark_diagnostic uri encoding text r =
+    object (member (codes "range") (range_value (position_of encoding text r.start) (position_of encoding text r.end))
+    (words_of_remark r (related_members uri encoding text r.open_brace)))
 
 -- ---- notices
 
@@ -39,5 +60,5 @@ IsNoticeAbout uri version diagnostics body = IsNoticeOf method (publish_params u
 -- the body has these remarks on this text, at the positions where a client reads them
 pub record IsPublication
     (uri : List ℕ) (version : Option ℤ) (encoding : PositionEncoding) (text : List ℕ) (remarks : List Remarked) (body : List ℕ) : Type 0 where
-  pub notice : IsNoticeAbout uri version (map (remark_diagnostic encoding text) remarks) body
+  pub notice : IsNoticeAbout uri version (map (remark_diagnostic uri encoding text) remarks) body
   pub read : (offset : ℕ) → IsReadAt encoding text offset (position_of encoding text offset)

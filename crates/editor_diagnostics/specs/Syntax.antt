@@ -1,10 +1,10 @@
 -- The syntax errors of a document as remarks: one for each definition that has some.
 use Rattle.std.specs.Prelude.{◌≡◌, ℕ, ◌+◌, ◌-◌, ◌^◌, ◌==◌, if◌then◌else◌, Bool, not, List, [], ◌∷◌, ◌++◌, length, map, take, drop, min, nat_lt}
-use Rattle.std.specs.Prelude.{codes, decimal, flat_map, take_while}
+use Rattle.std.specs.Prelude.{codes, decimal, flat_map, take_while, Option, None}
 use Rattle.std.specs.List.{starts_with}
 use Rattle.apollo_lexer.specs.Diagnostics.{Diagnostic, subject_text}
 use Rattle.lexical_grammar.specs.Characters.{is_line_terminator}
-use Rattle.editor_diagnostics.specs.Remarks.{Remarked}
+use Rattle.editor_diagnostics.specs.Remarks.{Remarked, with_brace}
 use Rattle.editor_diagnostics.specs.declared.remark.Severity.TheVariants.{Error}
 use Rattle.editor_diagnostics.specs.declared.syntax.ErrorGroup.{ErrorGroup}
 
@@ -74,19 +74,28 @@ syntax_remark group = record {
   code = codes "syntax";
   severity = Error;
   message = words_for group.first.message ++ others_words group.others;
+  open_brace = None;
 }
 
 -- the number of further remarks, at the front of the text
 abbrev pub more_remarks : ℕ → List Remarked
 more_remarks n =
-    if n == 0 then [] else record { start = 0; end = 0; code = codes "syntax"; severity = Error; message = decimal n ++ (codes " more " ++ noun_of n) } ∷ []
+    if n == 0 then [] else record {
+      start = 0;
+      end = 0;
+      code = codes "syntax";
+      severity = Error;
+      message = decimal n ++ (codes " more " ++ noun_of n);
+      open_brace = None;
+    } ∷ []
 
 -- one remark for each definition that has errors, about the first of them, and where there are more than a hundred their number
 abbrev pub syntax_remarks : List ℕ → List Diagnostic → List Remarked
 syntax_remarks starts errors = map syntax_remark (take 100 (groups starts errors)) ++ more_remarks (length (groups starts errors) - 100)
 
--- where there are errors, the first remark is about the first of them
+-- where there are errors, the first remark is about the first of them, and may name a brace
 abbrev pub IsAboutFirst : List Diagnostic → List Remarked → Type 0
 IsAboutFirst [] remarks = remarks ≡ []
 IsAboutFirst (error ∷ errors) remarks =
-    (others : ℕ) × (more : List Remarked) × (remarks ≡ syntax_remark (record { first = error; others = others }) ∷ more)
+    (others : ℕ) × (brace : Option ℕ) × (more : List Remarked)
+    × (remarks ≡ with_brace brace (syntax_remark (record { first = error; others = others }) ∷ more))

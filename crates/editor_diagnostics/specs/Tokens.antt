@@ -2,7 +2,7 @@
 use Rattle.std.specs.Prelude.{ℕ, ℤ, List, [], ◌∷◌, Option, Some, None, codes}
 use Rattle.std.specs.Fmt.{signed_decimal}
 use Rattle.std.specs.List.{flat_map}
-use Rattle.json.specs.Token.{Token, begin_object, begin_array, key, string, number}
+use Rattle.json.specs.Token.{Token, begin_object, end_object, begin_array, end_array, key, string, number}
 use Rattle.json.specs.Tree.{json_tokens}
 use Rattle.line_index.specs.declared.PositionEncoding.{PositionEncoding}
 use Rattle.editor_diagnostics.specs.Publication.{remark_diagnostic}
@@ -15,8 +15,17 @@ front_tokens uri (Some version) =
     begin_object ∷ key (codes "uri") ∷ string uri ∷ key (codes "version") ∷ number (signed_decimal version) ∷ key (codes "diagnostics") ∷ begin_array ∷ []
 front_tokens uri None = begin_object ∷ key (codes "uri") ∷ string uri ∷ key (codes "diagnostics") ∷ begin_array ∷ []
 
-abbrev pub remark_tokens : PositionEncoding → List ℕ → Remark → List Token
-remark_tokens encoding text remark = json_tokens (remark_diagnostic encoding text (as_remarked remark))
+-- a brace that a diagnostic names, up to its range, and what follows that
+abbrev pub brace_front : List ℕ → List Token
+brace_front uri =
+    key (codes "relatedInformation") ∷ begin_array ∷ begin_object ∷ key (codes "location") ∷ begin_object ∷ key (codes "uri") ∷ string uri
+    ∷ key (codes "range") ∷ []
 
-abbrev pub tokens_of_remarks : PositionEncoding → List ℕ → List Remark → List Token
-tokens_of_remarks encoding text = flat_map (remark_tokens encoding text)
+abbrev pub brace_end : List Token
+brace_end = end_object ∷ key (codes "message") ∷ string (codes "this { is never closed") ∷ end_object ∷ end_array ∷ end_object ∷ []
+
+abbrev pub remark_tokens : List ℕ → PositionEncoding → List ℕ → Remark → List Token
+remark_tokens uri encoding text remark = json_tokens (remark_diagnostic uri encoding text (as_remarked remark))
+
+abbrev pub tokens_of_remarks : List ℕ → PositionEncoding → List ℕ → List Remark → List Token
+tokens_of_remarks uri encoding text = flat_map (remark_tokens uri encoding text)

@@ -15,5 +15,5 @@ mod wording;
 
 pub use positions::Positions;
 pub use publishing::{publication, withdrawal};
-pub use remark::{Remark, Severity};
+pub use remark::{Remark, Severity, name_brace};
 pub use syntax::syntax_remarks;

@@ -50,14 +50,15 @@ fn push_front<'p>(
 // Adds the diagnostics of remarks.
 fn push_remarks<'p>(
     pieces: &mut Vec<Piece<'p>>,
+    uri: &'p str,
     positions: &Positions<'_>,
     remarks: &'p [Remark],
 ) -> Result<(), AllocError>
     ensures { OnOk result (flat_map tokens_of pieces.new.items ≡ flat_map tokens_of pieces.old.items
-        ++ tokens_of_remarks positions.now.encoding positions.now.text.now remarks.now) }
+        ++ tokens_of_remarks uri.now positions.now.encoding positions.now.text.now remarks.now) }
 {
     for remark in remarks {
-        push_remark(pieces, positions, remark)?;
+        push_remark(pieces, uri, positions, remark)?;
     }
     Ok(())
 }
@@ -88,7 +89,7 @@ pub fn publication(
     let mut pieces = Vec::new(alloc);
     push_front(&mut pieces, uri, version)?;
     // a slice of its own, since no more than two lifetimes of the signature may meet in the pieces
-    push_remarks(&mut pieces, positions, &remarks[..])?;
+    push_remarks(&mut pieces, uri, positions, &remarks[..])?;
     let body = end(alloc, &mut pieces)?;
     Ok(body)
 }

@@ -1,6 +1,6 @@
 // Remarks on a document.
-ghost use Rattle.std.specs.Prelude.{◌≡◌};
-ghost use Rattle.editor_diagnostics.specs.Remarks.{severity_number};
+ghost use Rattle.std.specs.Prelude.{◌≡◌, map};
+ghost use Rattle.editor_diagnostics.specs.Remarks.{as_remarked, severity_number, with_brace};
 
 /// How serious a diagnostic is: a `DiagnosticSeverity` (Language Server Protocol 3.17).
 #[derive(Clone, Copy)]
@@ -32,4 +32,15 @@ pub struct Remark {
     pub code: &'static str,
     pub severity: Severity,
     pub message: String,
+    /// The byte offset of a brace that is never closed, where that is what is wrong.
+    pub open_brace: Option<usize>,
+}
+
+/// Has the first of some remarks name a brace that is never closed, by its byte offset, or none.
+pub fn name_brace(remarks: &mut [Remark], brace: Option<usize>)
+    ensures { map as_remarked remarks.new ≡ with_brace brace (map as_remarked remarks.old) }
+{
+    if !remarks.is_empty() {
+        remarks[0].open_brace = brace;
+    }
 }

@@ -122,6 +122,7 @@ fn remark_of(alloc: Global, group: &ErrorGroup<'_>) -> Result<Remark, AllocError
         code: SYNTAX,
         severity: Severity::Error,
         message: message_of(alloc, group)?,
+        open_brace: None,
     })
 }
 
@@ -150,6 +151,7 @@ fn push_more(alloc: Global, found: &mut Vec<Remark>, more: usize) -> Result<(), 
         code: SYNTAX,
         severity: Severity::Error,
         message,
+        open_brace: None,
     })?;
     Ok(())
 }

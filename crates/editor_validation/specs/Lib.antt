@@ -1,3 +1,4 @@
+pub mod Braces
 pub mod Fragments
 pub mod Mending
 pub mod Remarks

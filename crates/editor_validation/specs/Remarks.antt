@@ -1,5 +1,5 @@
 -- Remarks on a document: its syntax errors, or the rules of validation that it breaks.
-use Rattle.std.specs.Prelude.{◌≡◌, ℕ, Bool, not, ◌||◌, if◌then◌else◌, List, [], ◌∷◌, map, find, take, unwrap_or}
+use Rattle.std.specs.Prelude.{◌≡◌, ℕ, Bool, not, ◌||◌, if◌then◌else◌, List, [], ◌∷◌, map, find, take, None, Option, unwrap_or}
 use Rattle.std.specs.List.{filter}
 use Rattle.document_grammar.specs.declared.kind.SyntaxKind.TheVariants.{ENUM_VALUE, FRAGMENT_NAME, NAME, VARIABLE}
 use Rattle.document_grammar.specs.Numbers.{is_kind}
@@ -13,10 +13,11 @@ use Rattle.apollo_validation.specs.Lists.{document_kind}
 use Rattle.apollo_validation.specs.Messages.{message_of}
 use Rattle.apollo_validation.specs.Validity.{AreBreaches, BreaksAs}
 use Rattle.apollo_lexer.specs.Diagnostics.{Diagnostic}
-use Rattle.editor_diagnostics.specs.Remarks.{Remarked}
+use Rattle.editor_diagnostics.specs.Remarks.{Remarked, with_brace}
 use Rattle.editor_diagnostics.specs.Syntax.{IsAboutFirst, syntax_remarks}
 use Rattle.editor_diagnostics.specs.declared.remark.Severity.{Severity}
 use Rattle.editor_diagnostics.specs.declared.remark.Severity.TheVariants.{Error, Warning}
+use Rattle.editor_validation.specs.Braces.{open_brace}
 use Rattle.editor_validation.specs.Fragments.{Fragments}
 use Rattle.editor_validation.specs.Mending.{is_mended}
 
@@ -42,6 +43,7 @@ remark_of b = record {
   code = rule_name b.rule;
   severity = severity_of b.rule;
   message = message_of b;
+  open_brace = None;
 }
 
 -- There is a remark for each breach of a rule that no other document mends, up to a hundred of them; of more than ten thousand breaches some ten thousand
@@ -57,8 +59,14 @@ pub record AreRemarks (others : List Fragments) (document : Place) (remarks : Li
 abbrev pub definition_starts : Place → List ℕ
 definition_starts document = map (λ p. (range_at p).0) (child_nodes document)
 
--- the remarks on a document with these syntax errors: on the errors, and the first of them is about the first; without errors, on broken rules
-abbrev pub AreRemarksOn : List Fragments → Place → List Diagnostic → List Remarked → Type 0
-AreRemarksOn others document [] remarks = AreRemarks others document remarks
-AreRemarksOn others document (error ∷ errors) remarks =
-    (remarks ≡ syntax_remarks (definition_starts document) (error ∷ errors)) × IsAboutFirst (error ∷ errors) remarks
+-- the brace that the first error follows from, where it is named
+abbrev pub brace_of : Bool → Place → Diagnostic → Option ℕ
+brace_of names_braces document error = if names_braces then open_brace document error.index else None
+
+-- The remarks on a document with these syntax errors: on the errors, and the first of them is about the first and names the brace that is never closed.
+-- Without errors, on broken rules.
+abbrev pub AreRemarksOn : Bool → List Fragments → Place → List Diagnostic → List Remarked → Type 0
+AreRemarksOn names_braces others document [] remarks = AreRemarks others document remarks
+AreRemarksOn names_braces others document (error ∷ errors) remarks =
+    (remarks ≡ with_brace (brace_of names_braces document error) (syntax_remarks (definition_starts document) (error ∷ errors)))
+    × IsAboutFirst (error ∷ errors) remarks

@@ -1,15 +1,17 @@
 // All remarks on a document.
 ghost use Rattle.std.specs.Prelude.{◌≡◌, IfOk, map};
 ghost use Rattle.apollo_tree.specs.References.{node_place};
-ghost use Rattle.editor_diagnostics.specs.Remarks.{as_remarked};
+ghost use Rattle.editor_diagnostics.specs.Remarks.{as_remarked, with_brace};
+ghost use Rattle.editor_diagnostics.specs.Syntax.{IsAboutFirst, syntax_remarks};
 ghost use Rattle.editor_validation.specs.Fragments.{as_fragments};
-ghost use Rattle.editor_validation.specs.Remarks.{AreRemarksOn, definition_starts};
+ghost use Rattle.editor_validation.specs.Remarks.{AreRemarksOn, brace_of, definition_starts};
 
+use crate::braces::open_brace;
 use crate::broken_rules::rule_remarks;
 use crate::fragments::FragmentNames;
 use apollo_lexer::Error;
 use apollo_tree::SyntaxNode;
-use editor_diagnostics::{Remark, syntax_remarks};
+use editor_diagnostics::{Remark, name_brace, syntax_remarks};
 use std::alloc::{AllocError, Global};
 
 // Where the definitions of a document begin, by the root of its tree.
@@ -23,20 +25,55 @@ fn definition_starts(alloc: Global, document: &SyntaxNode<'_>) -> Result<Vec<usi
     Ok(starts)
 }
 
+// The brace that the first error of a document follows from, where it is named.
+fn brace_of(
+    alloc: Global,
+    document: &SyntaxNode<'_>,
+    error: &Error,
+    names_braces: bool,
+) -> Result<Option<usize>, AllocError>
+    ensures { IfOk result (λ brace. brace ≡ brace_of names_braces (node_place document.now) error.now) }
+{
+    if names_braces {
+        open_brace(alloc, document, error.index())
+    } else {
+        Ok(None)
+    }
+}
+
+// The remarks on the errors of a document, if there are any, by the root of its tree.
+fn error_remarks(
+    alloc: Global,
+    document: &SyntaxNode<'_>,
+    errors: &[Error],
+    brace: Option<usize>,
+) -> Result<Vec<Remark>, AllocError>
+    ensures remarks { IfOk result (λ found. map as_remarked found.items ≡ with_brace brace (syntax_remarks (definition_starts (node_place document.now)) errors.now)) }
+    ensures first { IfOk result (λ found. IsAboutFirst errors.now (map as_remarked found.items)) }
+{
+    let starts = definition_starts(alloc, document)?;
+    let mut found = syntax_remarks(alloc, starts.as_slice(), errors)?;
+    name_brace(found.as_mut_slice(), brace);
+    Ok(found)
+}
+
 /// The remarks on a document, by the root of its tree and the errors of its parse: on these, if there are any, and else on the rules of validation that
-/// it breaks and no other document mends, by the names of the fragments of the others; at most a hundred. It fails only where memory is refused.
+/// it breaks and no other document mends, by the names of the fragments of the others; at most a hundred. If it may, the first one names a brace that is
+/// never closed. It fails only where memory is refused.
 pub fn remarks<'t>(
     alloc: Global,
     document: &SyntaxNode<'t>,
     errors: &[Error],
     others: &[&'t FragmentNames],
+    names_braces: bool,
 ) -> Result<Vec<Remark>, AllocError>
-    ensures { IfOk result (λ found. AreRemarksOn (map (λ f. as_fragments f.now) others.now) (node_place document.now) errors.now (map as_remarked found.items)) }
+    ensures { IfOk result (λ found. AreRemarksOn names_braces (map (λ f. as_fragments f.now) others.now) (node_place document.now) errors.now
+        (map as_remarked found.items)) }
 {
-    if errors.is_empty() {
+    let Some(first) = errors.first() else {
         return rule_remarks(alloc, document, others);
-    }
-    let starts = definition_starts(alloc, document)?;
-    let found = syntax_remarks(alloc, starts.as_slice(), errors)?;
+    };
+    let brace = brace_of(alloc, document, first, names_braces)?;
+    let found = error_remarks(alloc, document, errors, brace)?;
     Ok(found)
 }

@@ -67,6 +67,7 @@ fn remark_of(alloc: Global, violation: &Violation<'_>) -> Result<Remark, AllocEr
         code: violation.rule.name(),
         severity: severity_of(violation.rule),
         message: message(alloc, violation)?,
+        open_brace: None,
     })
 }
 

@@ -4,6 +4,7 @@
 #![tactic(auto)]
 
 mod all_remarks;
+mod braces;
 mod broken_rules;
 mod fragments;
 mod mending;

@@ -1,5 +1,5 @@
 -- The documents beside one that is published.
-use Rattle.std.proofs.Common.{◌≡◌, ◌≢◌, ℕ, true, false, List, Option, None, inl, inr, sym, ap, ◌∙◌, subst}
+use Rattle.std.proofs.Common.{◌≡◌, ◌≢◌, ℕ, Bool, true, false, List, Option, None, inl, inr, sym, ap, ◌∙◌, subst}
 use Rattle.std.specs.Prelude.{is_some}
 use Rattle.apollo_parser.specs.declared.Limits.{Limits}
 use Rattle.json.specs.Json.{Json}
@@ -46,12 +46,15 @@ publishes_again uri file params reply old middle new takes published = record {
     stage = published.sets.stage ∙ takes.stage;
     encoding = published.sets.encoding ∙ takes.encoding;
     may_register = published.sets.may_register ∙ takes.may_register;
+    takes_related = published.sets.takes_related ∙ takes.takes_related;
     limits = published.sets.limits ∙ takes.limits;
   };
   others = published.others;
   elsewhere = published.elsewhere;
   version = published.version;
   versioned = published.versioned;
-  told = subst (λ (limits : Limits). Notifies (IsTold limits uri published.version file published.fragments published.others) reply)
-      takes.limits published.told;
+  told =
+      subst (λ (limits : Limits). Notifies (IsTold limits old.takes_related uri published.version file published.fragments published.others) reply) takes.limits
+      (subst (λ (related : Bool). Notifies (IsTold middle.limits related uri published.version file published.fragments published.others) reply)
+      takes.takes_related published.told);
 }

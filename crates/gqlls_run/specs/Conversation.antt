@@ -18,7 +18,7 @@ use Rattle.rpc_messages.specs.declared.reply.Reply.TheVariants.{Nothing, Answer,
 use Rattle.rpc_serving.specs.Serving.{EndsServing, IsServed}
 use Rattle.gqlls_run.specs.Files.{OpenFile}
 use Rattle.gqlls_run.specs.Layout.{IsFormattingIn, IsRefusalOf}
-use Rattle.gqlls_run.specs.Parameters.{Edit, IsVersionIn, Offers, edits_in, host_in, may_register_in, text_in, uri_in}
+use Rattle.gqlls_run.specs.Parameters.{Edit, IsVersionIn, Offers, edits_in, host_in, may_register_in, takes_related_in, text_in, uri_in}
 use Rattle.gqlls_run.specs.Registration.{IsRegistration}
 use Rattle.gqlls_run.specs.Dialogue.{AreOthers, Dialogue, IsChanged, Reads, Sets, begun}
 use Rattle.gqlls_run.specs.Told.{IsTold, Notifies}
@@ -49,9 +49,14 @@ abbrev pub IsAnnounced : Json → PositionEncoding → List ℕ → Type 0
 IsAnnounced id encoding body = (capabilities others : Members) × IsResult id (announcement encoding capabilities others) body
 
 -- The conversation begins, and counts columns from then on as the answer says. No client has to offer UTF-16. The client says whether the server may
--- register for the events of files.
+-- register for the events of files, and whether diagnostics may have related information.
 pub record Initializes (id params : Json) (reply : Reply) (old new : Dialogue) : Type 0 where
-  pub dialogue : new ≡ record old { stage = Running; encoding = new.encoding; may_register = may_register_in params }
+  pub dialogue : new ≡ record old {
+    stage = Running;
+    encoding = new.encoding;
+    may_register = may_register_in params;
+    takes_related = takes_related_in params;
+  }
   pub offered : new.encoding ≡ Utf8 → Offers params (codes "utf-8")
   pub announced : Answers (IsAnnounced id new.encoding) reply
 
@@ -115,7 +120,7 @@ pub record Publishes (uri : List ℕ) (file : OpenFile) (params : Json) (reply :
   pub elsewhere : AreOthers uri new.fragments new.files others
   pub version : Option ℤ
   pub versioned : IsVersionIn params version
-  pub told : Notifies (IsTold old.limits uri version file fragments others) reply
+  pub told : Notifies (IsTold old.limits old.takes_related uri version file fragments others) reply
 
 -- a text in a language that is opened, in the encoding of the conversation
 abbrev pub opened : Dialogue → List ℕ → Option HostLanguage → OpenFile

@@ -12,12 +12,14 @@ use Rattle.gqlls_run.specs.Parameters.{Edit}
 use Rattle.gqlls_run.specs.declared.server.Stage.{Stage}
 use Rattle.gqlls_run.specs.declared.server.Stage.TheVariants.{New}
 
--- How far the conversation is, how columns are counted, whether the server may register for the events of files, and the limits of each parse; each file
--- that the client has open, by its name, and the names of fragments in it; and those in files that are not open, as far as the server has read them.
+-- How far the conversation is, how columns are counted, whether the server may register for the events of files, whether diagnostics may have related
+-- information, and the limits of each parse; each file that the client has open, by its name, and the names of fragments in it; and those in files that are
+-- not open, as far as the server has read them.
 pub record Dialogue : Type 0 where
   pub stage : Stage
   pub encoding : PositionEncoding
   pub may_register : Bool
+  pub takes_related : Bool
   pub limits : Limits
   pub documents : List ℕ → Option OpenFile
   pub fragments : List ℕ → Option Fragments
@@ -29,6 +31,7 @@ begun limits = record {
   stage = New;
   encoding = Utf16;
   may_register = false;
+  takes_related = false;
   limits = limits;
   documents = λ name. None;
   fragments = λ name. None;
@@ -55,6 +58,7 @@ pub record Sets (uri : List ℕ) (file : Option OpenFile) (names : Option Fragme
   pub stage : new.stage ≡ old.stage
   pub encoding : new.encoding ≡ old.encoding
   pub may_register : new.may_register ≡ old.may_register
+  pub takes_related : new.takes_related ≡ old.takes_related
   pub limits : new.limits ≡ old.limits
 
 -- these are the names of fragments in all documents and files

@@ -141,6 +141,18 @@ registration_in params =
 abbrev pub may_register_in : Json → Bool
 may_register_in params = unwrap_or (registration_in params) false
 
+-- `PublishDiagnosticsClientCapabilities`
+abbrev pub publishing_in : Json → Option Json
+publishing_in capabilities = option_and_then (get (codes "publishDiagnostics")) (get (codes "textDocument") capabilities)
+
+abbrev pub related_in : Json → Option Bool
+related_in params =
+    option_and_then as_bool (option_and_then (get (codes "relatedInformation")) (option_and_then publishing_in (get (codes "capabilities") params)))
+
+-- whether a diagnostic may have related information
+abbrev pub takes_related_in : Json → Bool
+takes_related_in params = unwrap_or (related_in params) false
+
 -- how a client says that it can count columns
 abbrev pub encodings_in : Json → Option (List Json)
 encodings_in capabilities = option_and_then (items_at (codes "positionEncodings")) (get (codes "general") capabilities)

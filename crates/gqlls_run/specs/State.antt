@@ -45,6 +45,7 @@ dialogue_of server = record {
   stage = server.stage;
   encoding = server.encoding;
   may_register = server.may_register;
+  takes_related = server.takes_related;
   limits = server.limits;
   documents = files server.documents;
   fragments = names_in server.documents;

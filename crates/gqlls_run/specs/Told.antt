@@ -1,5 +1,5 @@
 -- What is published of the documents that a client has open.
-use Rattle.std.specs.Prelude.{◌≡◌, ℕ, ℤ, List, [], Option}
+use Rattle.std.specs.Prelude.{◌≡◌, ℕ, ℤ, Bool, List, [], Option}
 use Rattle.apollo_parser.specs.Parsed.{Parsed}
 use Rattle.apollo_parser.specs.Promise.{Promise}
 use Rattle.apollo_parser.specs.declared.Limits.{Limits}
@@ -13,9 +13,10 @@ use Rattle.rpc_messages.specs.declared.reply.Reply.{Reply}
 use Rattle.rpc_messages.specs.declared.reply.Reply.TheVariants.{Nothing, Answer, Notice, Request, Exit}
 
 -- The remarks on a parse: on its errors, or if it has none on the rules of validation that the document breaks, and that the other documents with these
--- fragments do not mend.
-abbrev pub AreRemarksOf : List Fragments → Parsed → List Remarked → Type 0
-AreRemarksOf others parsed remarks = AreRemarksOn others (record { whole = parsed.tree; index = 0 }) parsed.errors remarks
+-- fragments do not mend. Where the client takes related information, the first one names a brace that is never closed.
+abbrev pub AreRemarksOf : Bool → List Fragments → Parsed → List Remarked → Type 0
+AreRemarksOf takes_related others parsed remarks =
+    AreRemarksOn takes_related others (record { whole = parsed.tree; index = 0 }) parsed.errors remarks
 
 -- the names of fragments in a parse
 abbrev pub fragments_of : Parsed → Fragments
@@ -23,15 +24,16 @@ fragments_of parsed = fragments_in (record { whole = parsed.tree; index = 0 })
 
 -- The body publishes the remarks on a parse of this file within the limits, at their positions as the client counts them. There are none where
 -- the text that is parsed has no definitions. The parse has these fragments.
-pub record IsTold (limits : Limits) (uri : List ℕ) (version : Option ℤ) (file : OpenFile) (fragments : Fragments) (others : List Fragments) (body : List ℕ)
-    : Type 0 where
+pub record IsTold
+    (limits : Limits) (takes_related : Bool) (uri : List ℕ) (version : Option ℤ) (file : OpenFile) (fragments : Fragments) (others : List Fragments)
+    (body : List ℕ) : Type 0 where
   pub text : List ℕ
   pub source : IsSource file text
   pub parsed : Parsed
   pub promise : Promise text limits.recursion limits.tokens parsed
   pub named : fragments ≡ fragments_of parsed
   pub remarks : List Remarked
-  pub said : (¬ HasNoDefinitions text) → AreRemarksOf others parsed remarks
+  pub said : (¬ HasNoDefinitions text) → AreRemarksOf takes_related others parsed remarks
   pub silent : HasNoDefinitions text → remarks ≡ []
   pub published : IsPublication uri version file.content.encoding file.content.text remarks body
 

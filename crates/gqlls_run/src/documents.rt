@@ -144,13 +144,15 @@ impl Document {
         source_in(&self.content, &self.masked)
     }
 
-    // The remarks on it, by the fragments of the other documents: none where it has no definitions.
+    // The remarks on it, by the fragments of the other documents: none where it has no definitions. Where the client takes related information, the first
+    // one may name a brace.
     fn remarks<'a>(
         &'a self,
         alloc: Global,
         others: &[&'a FragmentNames],
+        takes_related: bool,
     ) -> Result<Vec<Remark>, AllocError>
-        ensures said { IfOk result (λ found. (¬ HasNoDefinitions (source_of self.now)) → AreRemarksOf (map (λ f. as_fragments f.now) others.now) self.now.tree (map as_remarked found.items)) }
+        ensures said { IfOk result (λ found. (¬ HasNoDefinitions (source_of self.now)) → AreRemarksOf takes_related (map (λ f. as_fragments f.now) others.now) self.now.tree (map as_remarked found.items)) }
         ensures silent { IfOk result (λ found. HasNoDefinitions (source_of self.now) → map as_remarked found.items ≡ []) }
     {
         if has_no_definitions(self.source()) {
@@ -162,23 +164,26 @@ impl Document {
             &self.tree.root(),
             self.tree.errors().as_slice(),
             others,
+            takes_related,
         )?;
         Ok(found)
     }
 
-    /// The notice of the remarks on it, by its name, the version that the client gave it, and the fragments of the other documents.
+    /// The notice of the remarks on it, by its name, the version that the client gave it, the fragments of the other documents, and whether the client takes
+    /// related information.
     pub(crate) fn told<'a>(
         &'a self,
         alloc: Global,
         uri: &str,
         version: Option<i64>,
         others: &[&'a FragmentNames],
+        takes_related: bool,
     ) -> Result<Vec<u8>, AllocError>
         ensures notifies { IfOk result (λ body. IsNotice body.items) }
-        ensures told { IfOk result (λ body. (limits : Limits) → IsParsed limits self.now → IsTold limits uri.now version (file_of self.now) (names_of self.now) (map (λ f. as_fragments f.now) others.now) body.items) }
+        ensures told { IfOk result (λ body. (limits : Limits) → IsParsed limits self.now → IsTold limits takes_related uri.now version (file_of self.now) (names_of self.now) (map (λ f. as_fragments f.now) others.now) body.items) }
     {
         let positions = self.positions(alloc)?;
-        let remarks = self.remarks(alloc, others)?;
+        let remarks = self.remarks(alloc, others, takes_related)?;
         // bound to a name, so that its clauses on `Ok` are found
         let body = publication(alloc, uri, version, &positions, remarks.as_slice())?;
         Ok(body)
@@ -277,23 +282,25 @@ fn all_fragments<'d>(
     Ok(found)
 }
 
-/// The notice of the remarks on a document beside others, by its name and the version that the client gave it.
+/// The notice of the remarks on a document beside others, by its name, the version that the client gave it, and whether the client takes related
+/// information.
 pub(crate) fn told_beside(
     alloc: Global,
     others: Documents<'_>,
     document: &Document,
     uri: &str,
     version: Option<i64>,
+    takes_related: bool,
 ) -> Result<Vec<u8>, AllocError>
     ensures notifies { IfOk result (λ body. IsNotice body.items) }
     ensures told { IfOk result (λ body. (limits : Limits) → IsParsed limits document.now → (names : List Fragments)
         × AreAll (names_in others.entry.opened.now) (names_in others.entry.files.now) names
-        × IsTold limits uri.now version (file_of document.now) (names_of document.now) names body.items) }
+        × IsTold limits takes_related uri.now version (file_of document.now) (names_of document.now) names body.items) }
 {
     let mut names = all_fragments(alloc, others.opened)?;
     let more = all_fragments(alloc, others.files)?;
     names.extend_from_slice(more.as_slice())?;
     // bound to a name, so that its clauses on `Ok` are found
-    let body = document.told(alloc, uri, version, names.as_slice())?;
+    let body = document.told(alloc, uri, version, names.as_slice(), takes_related)?;
     Ok(body)
 }

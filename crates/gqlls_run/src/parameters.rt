@@ -7,7 +7,7 @@ ghost use Rattle.json.specs.Json.{string};
 ghost use Rattle.json.specs.Value.{value_view};
 ghost use Rattle.line_index.specs.declared.PositionEncoding.TheVariants.{Utf8};
 ghost use Rattle.gqlls_run.specs.Parameters.{IsVersionIn, Offers, OffersAll, number_at, position_at, position_in, range_in, text_in, uri_in};
-ghost use Rattle.gqlls_run.specs.Parameters.{changed_files, may_register_in, registration_in, name_in, names_at, opened_folders, root_in};
+ghost use Rattle.gqlls_run.specs.Parameters.{changed_files, may_register_in, registration_in, name_in, names_at, opened_folders, related_in, root_in, takes_related_in};
 ghost use Rattle.gqlls_run.specs.Files.{host_named};
 ghost use Rattle.gqlls_run.specs.Parameters.{each, edit_in, edits_in, extent_in, host_in, items_at, list_of, told};
 
@@ -286,6 +286,22 @@ pub(crate) fn may_register(params: &Value<'_>) -> bool
     ensures { result ≡ may_register_in (value_view params.now) }
 {
     registration_of(params).unwrap_or(false)
+}
+
+// Whether a client takes diagnostics with related information, where it says so.
+fn related_of(params: &Value<'_>) -> Option<bool>
+    ensures { result ≡ related_in (value_view params.now) }
+{
+    let capabilities = params.get("capabilities")?;
+    let publishing = capabilities.get("textDocument")?.get("publishDiagnostics")?;
+    publishing.get("relatedInformation")?.as_bool()
+}
+
+/// Whether a client takes diagnostics with related information.
+pub(crate) fn takes_related(params: &Value<'_>) -> bool
+    ensures { result ≡ takes_related_in (value_view params.now) }
+{
+    related_of(params).unwrap_or(false)
 }
 
 fn include_declaration(params: &Value<'_>) -> Option<bool> {

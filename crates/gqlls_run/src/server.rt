@@ -15,7 +15,7 @@ use crate::documents::{Document, Documents, insert, told_beside};
 use crate::formatting::{answer_formatting, answer_null};
 use crate::parameters::{
     asks_before_renaming, changes_of, encoding_of, host_of, markup_of, may_register, query_of,
-    text_of, uri_of, version_of,
+    takes_related, text_of, uri_of, version_of,
 };
 use crate::questions::{answer_question, question_of};
 use crate::searching::answer_search;
@@ -47,6 +47,7 @@ pub struct Server {
     encoding: PositionEncoding,
     markup: Markup,
     may_register: bool,
+    takes_related: bool,
     limits: Limits,
 }
 
@@ -62,6 +63,7 @@ impl Server {
             encoding: PositionEncoding::Utf16,
             markup: Markup::Markdown,
             may_register: false,
+            takes_related: false,
             limits,
         }
     }
@@ -187,7 +189,14 @@ impl Server {
         ensures publishes { IfOk result (λ reply. Publishes uri.now (file_of document) (value_view params.now) reply (dialogue_of self.old) (dialogue_of self.new)) }
     {
         self.documents.remove(uri);
-        let told = told_beside(alloc, self.known(), &document, uri, version_of(params))?;
+        let told = told_beside(
+            alloc,
+            self.known(),
+            &document,
+            uri,
+            version_of(params),
+            self.takes_related,
+        )?;
         insert(alloc, &mut self.documents, uri, document)?;
         Ok(Reply::Notice(told))
     }
@@ -309,6 +318,7 @@ impl Service for Server {
                 self.encoding = encoding_of(params);
                 self.markup = markup_of(params);
                 self.may_register = may_register(params);
+                self.takes_related = takes_related(params);
                 answer_initialize(alloc, id, self.encoding, asks_before_renaming(params))
             }
             Stage::New => refused(alloc, id, code::NOT_INITIALIZED, "not initialized"),

@@ -56,9 +56,14 @@ const tests = {
     const opened = new Document("/new.graphql", "{ a ");
     tell("onDidOpenTextDocument", opened);
     await until(() => errorsOf(opened));
-    const [{ range, message, severity, source }] = errorsOf(opened);
-    assert.deepEqual([span(range), message, severity, source], [[0, 4, 0, 4], "expected }", 0, "gqlls"]);
+    const [{ range, message, severity, source, relatedInformation }] = errorsOf(opened);
+    assert.deepEqual([span(range), message, severity, source, relatedInformation], [[0, 4, 0, 4], "expected }", 0, "gqlls", undefined]);
     tell("onDidChangeTextDocument", { document: opened, contentChanges: [] });
+    opened.replace(new vscode.Range(0, 4, 0, 4), "\nfragment F on T { b }");
+    await until(() => errorsOf(opened)[0].relatedInformation);
+    const [{ location, message: words }] = errorsOf(opened)[0].relatedInformation;
+    assert.deepEqual([location.uri.path, span(location.range), words], ["/new.graphql", [0, 0, 0, 1], "this { is never closed"]);
+    opened.replace(new vscode.Range(0, 4, 1, 21), "");
     opened.replace(new vscode.Range(0, 4, 0, 4), "}");
     await until(() => errorsOf(opened).length === 0);
     tell("onDidCloseTextDocument", opened);

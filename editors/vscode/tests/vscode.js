@@ -73,6 +73,7 @@ const vscode = {
   Location: record(["uri", "range"]),
   TextEdit: record(["range", "newText"]),
   Diagnostic: record(["range", "message", "severity"]),
+  DiagnosticRelatedInformation: record(["location", "message"]),
   DocumentSymbol: record(["name", "detail", "kind", "range", "selectionRange"], ({ name, range, selectionRange }) => name && range.contains(selectionRange)),
   CompletionItem: record(["label", "kind"]),
   FoldingRange: record(["start", "end", "kind"]),

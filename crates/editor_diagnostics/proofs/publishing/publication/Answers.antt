@@ -8,7 +8,7 @@ use Rattle.editor_diagnostics.proofs.publishing.publication.Goals as goal
 pub end-requires : goal.end-requires
 end-requires c = record {
   members = publish_params c.args.uri.now c.args.version
-      (map (remark_diagnostic c.args.positions.now.encoding c.args.positions.now.text.now) (map as_remarked c.args.remarks.now));
+      (map (remark_diagnostic c.args.uri.now c.args.positions.now.encoding c.args.positions.now.text.now) (map as_remarked c.args.remarks.now));
   is = whole_params c.args.uri.now c.args.version _ _ c.args.remarks.now _ _ c.in_ok-push_front.ensures c.in_ok-push_remarks.ensures;
 }
 

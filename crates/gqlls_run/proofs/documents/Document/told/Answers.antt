@@ -22,8 +22,9 @@ returns-clause-told c = λ limits parsed.
       promise = parsed.promise;
       named = parsed.named;
       remarks = map as_remarked c.as_slice.result.now;
-      said = subst (λ (found : List Remark). (¬ HasNoDefinitions (source_of document)) → AreRemarksOf others document.tree (map as_remarked found)) found
-          c.in_ok-remarks.ensures.said;
+      said = subst
+          (λ (found : List Remark). (¬ HasNoDefinitions (source_of document))
+          → AreRemarksOf c.args.takes_related others document.tree (map as_remarked found)) found c.in_ok-remarks.ensures.said;
       silent = subst (λ (found : List Remark). HasNoDefinitions (source_of document) → map as_remarked found ≡ []) found c.in_ok-remarks.ensures.silent;
       published = same_publication _ _ _ _ _ _ _ _ c.in_ok-positions.ensures.encoding c.in_ok-positions.ensures.text c.in_ok-body.ensures.published;
     }

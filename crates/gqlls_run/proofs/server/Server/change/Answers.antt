@@ -33,6 +33,7 @@ returns-clause-changes c =
             stage = refl;
             encoding = refl;
             may_register = refl;
+            takes_related = refl;
             limits = refl;
           })
           c.in_ok-reply.ensures.publishes;

@@ -22,6 +22,7 @@ returns-clause-closes c =
         stage = refl;
         encoding = refl;
         may_register = refl;
+        takes_related = refl;
         limits = refl;
       };
       told = c.in_ok-told.ensures.withdrawn;

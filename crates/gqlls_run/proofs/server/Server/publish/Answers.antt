@@ -22,6 +22,7 @@ returns-clause-publishes c =
         stage = refl;
         encoding = refl;
         may_register = refl;
+        takes_related = refl;
         limits = refl;
       };
       others = told.0;
