@@ -1,5 +1,5 @@
 -- Items that are written to a buffer one after another, as far as there is room.
-use Rattle.std.proofs.Common.{◌≡◌, ◌∙◌, ◌≤◌, ◌<◌, ◌+◌, ◌-◌, ap, sym, ℕ, zero, suc, min, List, [], ◌∷◌, ◌++◌, length, take, drop, set, get_or, refl, arith}
+use Rattle.std.proofs.Common.{◌≡◌, ◌∙◌, ◌≤◌, ◌<◌, ◌-◌, ap, sym, ℕ, zero, suc, min, List, [], ◌∷◌, ◌++◌, length, take, drop, set, refl, arith}
 use borrow.Rule.Slice.PartMut.{put_mid}
 use Rattle.apollo_parser.specs.Filled.{filled}
 use Rattle.apollo_tree.proofs.Filling.{filled-by-none, no-room}

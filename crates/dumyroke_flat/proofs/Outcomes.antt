@@ -8,7 +8,7 @@ use Rattle.apollo_parser.specs.Order.{order}
 use Rattle.apollo_parser.specs.Parsed.{Parsed}
 use Rattle.apollo_parser.specs.StringValues.{IsStringValue}
 use Rattle.apollo_parser.specs.Tokens.{IsString}
-use Rattle.formatter.specs.Formatted.{IsRefused}
+use Rattle.formatter.specs.Formatted.{IsNoDocument}
 use Rattle.dumyroke_flat.specs.declared.rows.ByteCount.{ByteCount}
 use Rattle.apollo_tree.specs.declared.compact.CompactElement.{CompactElement}
 use Rattle.dumyroke_flat.specs.declared.rows.ErrorRow.{ErrorRow}
@@ -114,15 +114,14 @@ not-a-string literal text before count same other counted = rw counted (record {
   no_longer = omega arith;
 })
 
-pub not-a-document : (source text : List ℕ) (r k : ℕ) (before : List ℕ) (errors : List Diagnostic) (count : ByteCount) → text ≡ source
-    → IsRefused text r k errors
+pub not-a-document : (source text : List ℕ) (r k : ℕ) (before : List ℕ) (count : ByteCount) → text ≡ source → IsNoDocument text r k
     → count ≡ record { bytes = 0; status = NOT_A_DOCUMENT } → FormatOutcome source r k before before count
-not-a-document source text r k before errors count same refused counted = rw counted (record {
+not-a-document source text r k before count same refused counted = rw counted (record {
   ok = λ e. absurd (omega (arith, e));
   whole = omega arith;
   not_utf8 = λ e. absurd (omega (arith, e));
   no_room = λ e. absurd (omega (arith, e));
-  not_a_document = λ _. (errors, subst (λ (t : List ℕ). IsRefused t r k errors) same refused);
+  not_a_document = λ _. subst (λ (t : List ℕ). IsNoDocument t r k) same refused;
   refused = λ _. (refl, refl);
   known = (2, omega arith, refl);
 })

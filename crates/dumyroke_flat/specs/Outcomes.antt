@@ -6,7 +6,6 @@ use Rattle.std.specs.Str.{IsUtf8}
 use Rattle.document_grammar.specs.declared.kind.SyntaxKind.TheVariants as kind
 use Rattle.apollo_parser.specs.Answers.{limited}
 use Rattle.apollo_parser.specs.Derivation.{selections, type}
-use Rattle.apollo_parser.specs.Diagnostics.{Diagnostic}
 use Rattle.apollo_parser.specs.Forests.{Forest, none, node, text}
 use Rattle.apollo_parser.specs.Order.{order}
 use Rattle.apollo_parser.specs.Parsed.{Parsed}
@@ -19,7 +18,7 @@ use Rattle.dumyroke_flat.specs.declared.rows.ByteCount.{ByteCount}
 use Rattle.dumyroke_flat.specs.declared.rows.Counts.{Counts}
 use Rattle.apollo_tree.specs.declared.compact.CompactElement.{CompactElement}
 use Rattle.dumyroke_flat.specs.declared.rows.ErrorRow.{ErrorRow}
-use Rattle.formatter.specs.Formatted.{IsDocument, IsFormatted, IsRefused}
+use Rattle.formatter.specs.Formatted.{IsDocument, IsFormatted, IsNoDocument}
 use Rattle.formatter.specs.Lengths.{longest_layout}
 use Rattle.apollo_parser.specs.Compact.{compact_elements}
 use Rattle.apollo_parser.specs.Filled.{filled}
@@ -149,7 +148,7 @@ pub record FormatOutcome (source : List ℕ) (max_depth max_items : ℕ) (before
   -- it is such a document, and the buffer has less room than its formatted text can take
   pub no_room : count.status ≡ NO_ROOM → IsDocument source max_depth max_items × (length before < longest_layout max_depth (length source))
   -- it is no document within both limits, and these are the errors of its parse, at least one
-  pub not_a_document : count.status ≡ NOT_A_DOCUMENT → (errors : List Diagnostic) × IsRefused source max_depth max_items errors
+  pub not_a_document : count.status ≡ NOT_A_DOCUMENT → IsNoDocument source max_depth max_items
   -- nothing was written
   pub refused : count.status ≢ OK → (after ≡ before) × (count.bytes ≡ 0)
   pub known : Contains (OK ∷ NOT_UTF8 ∷ NOT_A_DOCUMENT ∷ NO_ROOM ∷ NO_MEMORY ∷ []) count.status

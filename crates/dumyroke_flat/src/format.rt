@@ -24,8 +24,8 @@ pub fn format_into<A: Allocator + Copy>(
         return refused(status::NOT_UTF8);
     };
     match format_within(alloc, text, limits, formatted.len()) {
-        Ok(Ok(document)) => written(formatted, document.as_str()),
-        Ok(Err(_)) => refused(status::NOT_A_DOCUMENT),
+        Ok(Some(document)) => written(formatted, document.as_str()),
+        Ok(None) => refused(status::NOT_A_DOCUMENT),
         Err(WriteError::TooLong) => refused(status::NO_ROOM),
         Err(WriteError::Memory) => refused(status::NO_MEMORY),
     }

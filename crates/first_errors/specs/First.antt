@@ -1,8 +1,8 @@
 -- Which errors of a text people see.
 use Rattle.std.specs.Prelude.{◌≡◌, ◌-◌, ◌==◌, ◌||◌, ℕ, Bool, nat_lt, if◌then◌else◌, List, [], ◌∷◌, ◌++◌, length, map, take, drop, take_while}
-use Rattle.apollo_lexer.specs.Diagnostics.{Diagnostic}
-use Rattle.apollo_tree.specs.Order.{Place, range_at}
-use Rattle.apollo_tree.specs.Children.{child_nodes}
+use Rattle.apollo_parser.specs.Diagnostics.{Diagnostic}
+use Rattle.apollo_parser.specs.Order.{Place, range_at}
+use Rattle.apollo_parser.specs.Children.{child_nodes}
 
 -- where the document and its definitions begin
 abbrev pub definition_starts : Place → List ℕ

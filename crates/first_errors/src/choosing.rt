@@ -1,16 +1,16 @@
 // The first error of each part of a document.
 ghost use Rattle.std.specs.Prelude.{◌≡◌, ◌++◌, ◌≤◌, IfOk, OnOk, length, map};
-ghost use Rattle.apollo_tree.specs.References.{node_place};
+ghost use Rattle.apollo_parser.specs.Errors.{error_of};
+ghost use Rattle.apollo_parser.specs.References.{node_place};
 ghost use Rattle.first_errors.specs.First.{begun, definition_starts, first_of, first_of_each, IsFirst};
 
-use apollo_lexer::Error;
-use apollo_tree::SyntaxNode;
+use apollo_parser::{BorrowedError, SyntaxNode};
 use std::alloc::{AllocError, Allocator};
 
-/// The errors of a text that people see.
+/// The errors of a text that people see. They borrow the text.
 #[derive(Drop)]
-pub struct FirstErrors<A: Allocator> {
-    pub errors: Vec<Error<A>, A>,
+pub struct FirstErrors<'i, A: Allocator> {
+    pub errors: Vec<BorrowedError<'i>, A>,
     /// How many more the text has.
     pub more: usize,
 }
@@ -44,12 +44,12 @@ fn begun(starts: &[usize], offset: usize) -> usize
 }
 
 // Adds an error, if parts have begun before it and not before the last one.
-fn push_first<'e, A: Allocator>(
-    found: &mut Vec<&'e Error<A>, A>,
+fn push_first<'i, A: Allocator>(
+    found: &mut Vec<BorrowedError<'i>, A>,
     count: usize,
-    error: &'e Error<A>,
+    error: BorrowedError<'i>,
 ) -> Result<(), AllocError>
-    ensures { OnOk result (map (λ error. error.now) found.new.items ≡ map (λ error. error.now) found.old.items ++ first_of count error.now) }
+    ensures { OnOk result (map error_of found.new.items ≡ map error_of found.old.items ++ first_of count (error_of error.entry)) }
 {
     if count > 0 {
         found.push(error)?;
@@ -58,55 +58,40 @@ fn push_first<'e, A: Allocator>(
 }
 
 // The first error of each part that has one.
-fn first_of_each<'e, A: Allocator>(
+fn first_of_each<'i, A: Allocator>(
     alloc: A,
     starts: &[usize],
-    errors: &'e [Error<A>],
-) -> Result<Vec<&'e Error<A>, A>, AllocError>
-    ensures { IfOk result (λ found. map (λ error. error.now) found.items ≡ first_of_each starts.now errors.now) }
+    errors: &[BorrowedError<'i>],
+) -> Result<Vec<BorrowedError<'i>, A>, AllocError>
+    ensures { IfOk result (λ found. map error_of found.items ≡ first_of_each starts.now (map error_of errors.now)) }
 {
     let mut found = Vec::new(alloc);
     let mut left = starts;
     for error in errors {
         let count = begun(left, error.index());
         let (_, later) = left.split_at(count);
-        push_first(&mut found, count, error)?;
+        push_first(&mut found, count, *error)?;
         left = later;
     }
     Ok(found)
 }
 
-// The same errors in memory of their own.
-fn copied<A: Allocator + Copy>(
-    alloc: A,
-    found: &[&Error<A>],
-) -> Result<Vec<Error<A>, A>, AllocError>
-    ensures { IfOk result (λ errors. errors.items ≡ map (λ error. error.now) found.now) }
-{
-    let mut errors = Vec::new(alloc);
-    for error in found {
-        errors.push(error.try_clone(alloc)?)?;
-    }
-    Ok(errors)
-}
-
 /// The errors of a document that people see, by the root of its tree: of each part that begins with a definition the first, and at most `most` in all;
 /// and how many more there are. It fails only where memory is refused.
-pub fn first_errors<A: Allocator + Copy>(
+pub fn first_errors<'i, A: Allocator + Copy>(
     alloc: A,
     document: &SyntaxNode<'_>,
-    errors: &[Error<A>],
+    errors: &[BorrowedError<'i>],
     most: usize,
-) -> Result<FirstErrors<A>, AllocError>
-    ensures { IfOk result (λ first. IsFirst (node_place document.now) errors.now most first.errors.items first.more) }
+) -> Result<FirstErrors<'i, A>, AllocError>
+    ensures { IfOk result (λ first. IsFirst (node_place document.now) (map error_of errors.now) most (map error_of first.errors.items) first.more) }
 {
     let starts = definition_starts(alloc, document)?;
     let mut found = first_of_each(alloc, starts.as_slice(), errors)?;
     found.truncate(most);
-    let shown = copied(alloc, found.as_slice())?;
-    let more = errors.len().saturating_sub(shown.len());
+    let more = errors.len().saturating_sub(found.len());
     Ok(FirstErrors {
-        errors: shown,
+        errors: found,
         more,
     })
 }

@@ -2,8 +2,7 @@
 ghost use Rattle.std.specs.Prelude.{◌≡◌, ◌++◌, ◌≤◌, length};
 ghost use Rattle.first_errors.specs.Words.{IsForPeople, IsReplaced};
 
-use apollo_lexer::Error;
-use std::alloc::Allocator;
+use apollo_parser::BorrowedError;
 
 // How messages of the parser begin, and the words for people in their place.
 const WORDS: [(&str, &str); 8] = [
@@ -32,7 +31,7 @@ fn replaced<'m>(message: &'m str, rows: &[(&'static str, &'static str)]) -> (&'s
     ("", message)
 }
 
-/// An error's message for people, in two parts. Punctuators are called by their signs.
+/// An error's message for people, or its first part, in two parts. Punctuators are called by their signs.
 pub fn for_people(message: &str) -> (&'static str, &str)
     ensures { IsForPeople message.now (result.0.now ++ result.1.now) }
 {
@@ -40,7 +39,7 @@ pub fn for_people(message: &str) -> (&'static str, &str)
 }
 
 /// The byte offset at which an error is shown. One at the end of the text is shown after its last character that is no white space.
-pub fn shown_at<A: Allocator>(source: &str, error: &Error<A>) -> usize
+pub fn shown_at(source: &str, error: &BorrowedError<'_>) -> usize
     ensures { result ≤ length source.now }
 {
     let offset = if error.is_eof() {

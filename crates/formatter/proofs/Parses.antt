@@ -1,7 +1,6 @@
 -- What follows from a parse with errors, and from one without.
-use Rattle.std.proofs.Common.{◌≡◌, ℕ, ◌≤◌, true, false, List, [], ◌∷◌, length, refl, sym, ap, ◌∙◌, eqb, arith}
+use Rattle.std.proofs.Common.{◌≡◌, ◌≢◌, ℕ, ◌≤◌, List, [], length, ◌∙◌, arith}
 use Rattle.std.specs.Prelude.{Result, Ok, Err, IfErr}
-use Rattle.std.proofs.lemmas.Bool.Decides.{nat_tests}
 use Rattle.lexical_grammar.specs.Answers.{usize_max}
 use Rattle.apollo_lexer.specs.Diagnostics.{Diagnostic}
 use Rattle.document_grammar.specs.Numbered.{tree_of}
@@ -14,21 +13,14 @@ use Rattle.format_layout.specs.Formatted.{IsSentence, Formatted}
 use Rattle.format_layout.proofs.Nests.{alike-nest}
 use Rattle.formatter.specs.Formatted.{IsDocument, IsFormatted, IsRefused}
 
-pub empty-list : {X : Type 0} (xs : List X) → eqb (length xs) 0 ≡ true → xs ≡ []
-empty-list [] e = refl
-empty-list (x ∷ xs) e = absurd (grind (arith, nat_tests))
-
-some-list : {X : Type 0} (xs : List X) → xs ≡ [] → eqb (length xs) 0 ≡ false → ⊥
-some-list xs e h = let no : true ≡ false = sym (ap (λ l. eqb (length l) 0) e) ∙ h in (cc)
-
-pub refused : (source : List ℕ) (r k : ℕ) (t : Parsed) (errors : List Diagnostic) → errors ≡ t.errors → eqb (length errors) 0 ≡ false
-    → Promise source r k t → IsRefused source r k errors
+pub refused : (source : List ℕ) (r k : ℕ) (t : Parsed) (errors : List Diagnostic) → errors ≡ t.errors → errors ≢ [] → Promise source r k t
+    → IsRefused source r k errors
 refused source r k t errors e some p = record {
-  no_document = λ d. some-list errors (e ∙ p.accepts d.tree d.sentence d.within) some;
+  no_document = λ d. some (e ∙ p.accepts d.tree d.sentence d.within);
   parsed = t;
   promise = p;
   errors_of = e;
-  some = λ none. some-list errors none some;
+  some = some;
 }
 
 pub sentence-of : (source : List ℕ) (r k : ℕ) → k ≤ usize_max → IsDocument source r k → IsSentence source

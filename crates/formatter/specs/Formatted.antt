@@ -27,3 +27,7 @@ pub record IsRefused (source : List ℕ) (r k : ℕ) (errors : List Diagnostic) 
   pub promise : Promise source r k parsed
   pub errors_of : errors ≡ parsed.errors
   pub some : errors ≢ []
+
+-- It is so with some errors.
+abbrev pub IsNoDocument : List ℕ → ℕ → ℕ → Type 0
+IsNoDocument source r k = (errors : List Diagnostic) × IsRefused source r k errors

@@ -51,7 +51,7 @@ const NESTING: usize = 0;
 
 // The gaps of such a text's layout.
 fn gaps_of<A: Allocator + Copy>(alloc: A, source: &str) -> Result<Gaps<A>, AllocError> {
-    let tree = Parser::new(source).parse(alloc)?;
+    let tree = Parser::new(source).parse_borrowed(alloc)?;
     Gaps::of(alloc, source, &TreeElements { tree: &tree })
 }
 

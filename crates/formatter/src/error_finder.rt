@@ -1,5 +1,6 @@
 // Finds the errors of a text that people see.
-ghost use Rattle.std.specs.Prelude.{IfOk};
+ghost use Rattle.std.specs.Prelude.{IfOk, map};
+ghost use Rattle.apollo_parser.specs.Errors.{error_of};
 ghost use Rattle.formatter.specs.Finding.{AreFirstOf};
 
 use crate::Formatter;
@@ -10,25 +11,25 @@ use std::alloc::{AllocError, Allocator};
 /// What finds the errors of a text that people see.
 pub trait ErrorFinder {
     /// The errors of a text's parse within the limits, as the function `first_errors` has them.
-    fn first_errors<A: Allocator + Copy>(
+    fn first_errors<'s, A: Allocator + Copy>(
         &self,
         alloc: A,
-        source: &str,
+        source: &'s str,
         limits: Limits,
         most: usize,
-    ) -> Result<FirstErrors<A>, AllocError>
-        ensures { IfOk result (λ first. AreFirstOf limits source.now most first.errors.items first.more) };
+    ) -> Result<FirstErrors<'s, A>, AllocError>
+        ensures { IfOk result (λ first. AreFirstOf limits source.now most (map error_of first.errors.items) first.more) };
 }
 
 impl ErrorFinder for Formatter {
-    fn first_errors<A: Allocator + Copy>(
+    fn first_errors<'s, A: Allocator + Copy>(
         &self,
         alloc: A,
-        source: &str,
+        source: &'s str,
         limits: Limits,
         most: usize,
-    ) -> Result<FirstErrors<A>, AllocError> {
-        let tree = Parser::within(source, limits).parse(alloc)?;
+    ) -> Result<FirstErrors<'s, A>, AllocError> {
+        let tree = Parser::within(source, limits).parse_borrowed(alloc)?;
         first_errors(alloc, &tree.root(), tree.errors().as_slice(), most)
     }
 }

@@ -6,17 +6,19 @@
 //! `ErrorFinder`, so that it is proved without the code of the parser.
 #![tactic(auto)]
 
-ghost use Rattle.std.specs.Prelude.{◌≡◌, ◌<◌, ◌≤◌, ℕ, true, false, List, None, length, IfErr, IfOk, IfSome, OnOk, string_bytes};
+ghost use Rattle.std.specs.Prelude.{◌≡◌, ◌<◌, ◌≤◌, ℕ, true, false, List, None, length, IfErr, IfOk, IfSome, string_bytes};
 ghost use Rattle.lexical_grammar.specs.Reads.{items_of};
 ghost use Rattle.format_layout.specs.declared.style.WriteError.TheVariants.{TooLong};
 ghost use Rattle.format_layout.specs.Lengths.{longest_layout};
 ghost use Rattle.formatter.specs.Comments.{HasNoDefinitions, HasSameComments};
-ghost use Rattle.formatter.specs.Formatted.{IsDocument, IsFormatted, IsRefused};
+ghost use Rattle.formatter.specs.Formatted.{IsDocument, IsFormatted, IsNoDocument, IsRefused};
 
 mod comments;
 mod error_finder;
 
-use apollo_parser::{DocumentRoot, Error, IndexedElement, Lexer, Limits, Parser, SyntaxTree};
+use apollo_parser::{
+    BorrowedSyntaxTree, DocumentRoot, Error, IndexedElement, Lexer, Limits, Parser, own_errors,
+};
 pub use comments::{format_comments, has_no_definitions};
 pub use error_finder::ErrorFinder;
 pub use format_layout::WriteError;
@@ -25,11 +27,11 @@ use std::alloc::{AllocError, Allocator};
 
 // A tree, as the layout reads it.
 #[derive(Drop)]
-struct TreeElements<'t, A: Allocator> {
-    tree: &'t SyntaxTree<DocumentRoot, A>,
+struct TreeElements<'t, 's, A: Allocator> {
+    tree: &'t BorrowedSyntaxTree<'s, DocumentRoot, A>,
 }
 
-impl<'t, A: Allocator> Elements for TreeElements<'t, A> {
+impl<'t, 's, A: Allocator> Elements for TreeElements<'t, 's, A> {
     fn element_count(&self) -> usize {
         self.tree.element_count()
     }
@@ -41,41 +43,26 @@ impl<'t, A: Allocator> Elements for TreeElements<'t, A> {
     }
 }
 
-// The errors of a parse, in memory of their own.
-fn errors_of<A: Allocator + Copy>(
-    alloc: A,
-    tree: &SyntaxTree<DocumentRoot, A>,
-) -> Result<Vec<Error<A>, A>, AllocError>
-    ensures { IfOk result (λ errors. errors.items ≡ tree.now.errors) }
-{
-    let mut errors = Vec::new(alloc);
-    for error in tree.errors() {
-        errors.push(error.try_clone(alloc)?)?;
-    }
-    Ok(errors)
-}
-
-// The gaps of a document's layout, or the errors of a text that is no document within both limits. The tree is let go before the layout is written.
+// The gaps of a document's layout; `None` where the text is no document within both limits. The tree is let go before the layout is written.
 fn gaps_of<A: Allocator + Copy>(
     alloc: A,
     source: &str,
     limits: Limits,
-) -> Result<Result<Gaps<A>, Vec<Error<A>, A>>, AllocError>
-    ensures document { IfOk result (λ r. OnOk r (IsDocument source.now limits.recursion limits.tokens)) }
-    ensures refused { IfOk result (λ r. IfErr r (λ errors. IsRefused source.now limits.recursion limits.tokens errors.items)) }
+) -> Result<Option<Gaps<A>>, AllocError>
+    ensures document { IfOk result (λ o. IfSome o (λ gaps. IsDocument source.now limits.recursion limits.tokens)) }
+    ensures refused { IfOk result (λ o. o ≡ None → IsNoDocument source.now limits.recursion limits.tokens) }
 {
-    let tree = Parser::within(source, limits).parse(alloc)?;
-    let errors = errors_of(alloc, &tree)?;
-    if !errors.as_slice().is_empty() {
-        return Ok(Err(errors));
+    let tree = Parser::within(source, limits).parse_borrowed(alloc)?;
+    if !tree.errors().as_slice().is_empty() {
+        return Ok(None);
     }
     let gaps = Gaps::of(alloc, source, &TreeElements { tree: &tree })?;
-    Ok(Ok(gaps))
+    Ok(Some(gaps))
 }
 
-/// The document with the layout of this crate, of at most `most` bytes; or the errors of `Parser::parse`, at least one, where the text is no document
-/// within both limits. It fails where memory is refused, or the formatted text has more bytes, which is found before it is built: after at most some
-/// two times `most` bytes. Where `most` is at least `longest_layout`, which no formatted text exceeds, it fails for memory alone.
+/// The document with the layout of this crate, of at most `most` bytes; `None` where the text is no document within both limits, and a parse has
+/// errors. It fails where memory is refused, or the formatted text has more bytes, which is found before it is built: after at most some two times
+/// `most` bytes. Where `most` is at least `longest_layout`, which no formatted text exceeds, it fails for memory alone.
 ///
 /// The token limit is one on the text, and none on the formatted text (`stays_within`).
 ///
@@ -86,23 +73,35 @@ pub fn format_within<A: Allocator + Copy>(
     source: &str,
     limits: Limits,
     most: usize,
-) -> Result<Result<String<A>, Vec<Error<A>, A>>, WriteError>
-    ensures formatted { IfOk result (λ r. IfOk r (λ text. IsFormatted source.now limits.recursion limits.tokens (string_bytes text))) }
-    ensures short { IfOk result (λ r. IfOk r (λ text. length (string_bytes text) ≤ most)) }
-    ensures longest { IfOk result (λ r. IfOk r (λ text. length (string_bytes text) ≤ longest_layout limits.recursion (length source.now))) }
-    ensures refused { IfOk result (λ r. IfErr r (λ errors. IsRefused source.now limits.recursion limits.tokens errors.items)) }
+) -> Result<Option<String<A>>, WriteError>
+    ensures formatted { IfOk result (λ o. IfSome o (λ text. IsFormatted source.now limits.recursion limits.tokens (string_bytes text))) }
+    ensures short { IfOk result (λ o. IfSome o (λ text. length (string_bytes text) ≤ most)) }
+    ensures longest { IfOk result (λ o. IfSome o (λ text. length (string_bytes text) ≤ longest_layout limits.recursion (length source.now))) }
+    ensures refused { IfOk result (λ o. o ≡ None → IsNoDocument source.now limits.recursion limits.tokens) }
     ensures long { IfErr result (λ error. error ≡ TooLong → IsDocument source.now limits.recursion limits.tokens) }
     ensures small { IfErr result (λ error. error ≡ TooLong → most < longest_layout limits.recursion (length source.now)) }
 {
-    let gaps = match gaps_of(alloc, source, limits)? {
-        Ok(gaps) => gaps,
-        Err(errors) => return Ok(Err(errors)),
+    let Some(gaps) = gaps_of(alloc, source, limits)? else {
+        return Ok(None);
     };
     let text = format_document(alloc, source, gaps, limits.recursion, most)?;
-    Ok(Ok(text))
+    Ok(Some(text))
 }
 
-/// The same for a formatted text of any length. It fails only where memory is refused.
+// The errors of a text's parse.
+fn errors_of<A: Allocator + Copy>(
+    alloc: A,
+    source: &str,
+    limits: Limits,
+) -> Result<Vec<Error<A>, A>, AllocError>
+    ensures { IfOk result (λ errors. ¬ IsDocument source.now limits.recursion limits.tokens → IsRefused source.now limits.recursion limits.tokens errors.items) }
+{
+    let tree = Parser::within(source, limits).parse_borrowed(alloc)?;
+    let errors = own_errors(alloc, tree.errors().as_slice())?;
+    Ok(errors)
+}
+
+/// The same for a formatted text of any length; or the errors of `Parser::parse`, at least one. It fails only where memory is refused.
 pub fn format<A: Allocator + Copy>(
     alloc: A,
     source: &str,
@@ -112,7 +111,8 @@ pub fn format<A: Allocator + Copy>(
     ensures refused { IfOk result (λ r. IfErr r (λ errors. IsRefused source.now limits.recursion limits.tokens errors.items)) }
 {
     match format_within(alloc, source, limits, usize::MAX) {
-        Ok(formatted) => Ok(formatted),
+        Ok(Some(text)) => Ok(Ok(text)),
+        Ok(None) => Ok(Err(errors_of(alloc, source, limits)?)),
         // no memory has more bytes
         Err(_) => Err(AllocError),
     }
@@ -131,18 +131,18 @@ pub fn stays_within(text: &str, token_limit: usize) -> bool
 
 /// What formats documents.
 pub trait DocumentFormatter {
-    /// The document with another layout, or the errors of a text that is no document within both limits, as the function `format_within` has it.
+    /// The document with another layout, or `None`, as the function `format_within` has it.
     fn format_within<A: Allocator + Copy>(
         &self,
         alloc: A,
         source: &str,
         limits: Limits,
         most: usize,
-    ) -> Result<Result<String<A>, Vec<Error<A>, A>>, WriteError>
-        ensures formatted { IfOk result (λ r. IfOk r (λ text. IsFormatted source.now limits.recursion limits.tokens (string_bytes text))) }
-        ensures short { IfOk result (λ r. IfOk r (λ text. length (string_bytes text) ≤ most)) }
-        ensures longest { IfOk result (λ r. IfOk r (λ text. length (string_bytes text) ≤ longest_layout limits.recursion (length source.now))) }
-        ensures refused { IfOk result (λ r. IfErr r (λ errors. IsRefused source.now limits.recursion limits.tokens errors.items)) }
+    ) -> Result<Option<String<A>>, WriteError>
+        ensures formatted { IfOk result (λ o. IfSome o (λ text. IsFormatted source.now limits.recursion limits.tokens (string_bytes text))) }
+        ensures short { IfOk result (λ o. IfSome o (λ text. length (string_bytes text) ≤ most)) }
+        ensures longest { IfOk result (λ o. IfSome o (λ text. length (string_bytes text) ≤ longest_layout limits.recursion (length source.now))) }
+        ensures refused { IfOk result (λ o. o ≡ None → IsNoDocument source.now limits.recursion limits.tokens) }
         ensures long { IfErr result (λ error. error ≡ TooLong → IsDocument source.now limits.recursion limits.tokens) }
         ensures small { IfErr result (λ error. error ≡ TooLong → most < longest_layout limits.recursion (length source.now)) };
 
@@ -172,7 +172,7 @@ impl DocumentFormatter for Formatter {
         source: &str,
         limits: Limits,
         most: usize,
-    ) -> Result<Result<String<A>, Vec<Error<A>, A>>, WriteError> {
+    ) -> Result<Option<String<A>>, WriteError> {
         format_within(alloc, source, limits, most)
     }
 

@@ -20,7 +20,7 @@ fn push_finding<'t, A: Allocator>(
     let start = finding.start.min(source.len());
     let remark = Remark {
         offset: start,
-        message: (finding.message.as_str(), ""),
+        message: (finding.message.as_str(), "", "", ""),
         marked: source.get(start..finding.end).unwrap_or(""),
     };
     push_message(text, name, index, &remark)

@@ -3,7 +3,6 @@ use Rattle.std.specs.Prelude.{◌≡◌, ◌≢◌, ◌<◌, ◌≤◌, ◌⊎�
 use Rattle.formatter.specs.Formatted as format
 use Rattle.formatter.specs.Lengths.{longest_layout}
 use Rattle.formatter.specs.Within.{IsFormattedWithin, IsOutgrown, HasCommentsAlone, AreCommentsWithin, AreCommentsOutgrown}
-use Rattle.apollo_parser.specs.Diagnostics.{Diagnostic}
 use Rattle.apollo_parser.specs.declared.Limits.{Limits}
 use Rattle.line_ends.specs.declared.LineEnd.{LineEnd}
 use Rattle.line_ends.specs.declared.LineEnd.TheVariants as end
@@ -38,8 +37,7 @@ pub record IsLaidOut (bounds : Bounds) (source text : List ℕ) : Type 0 where
 
 -- the source is no document within both limits, and no text of comments alone within them
 pub record HasErrors (limits : Limits) (source : List ℕ) : Type 0 where
-  pub errors : List Diagnostic
-  pub refused : format.IsRefused source limits.recursion limits.tokens errors
+  pub refused : format.IsNoDocument source limits.recursion limits.tokens
   pub definitions : ¬ HasCommentsAlone limits source
 
 -- It is one, but its formatted text has more items than are allowed.

@@ -1,7 +1,6 @@
 // What becomes of a text.
 ghost use Rattle.std.specs.Prelude.{◌≤◌, ℕ, List, IfOk, length, string_bytes};
 ghost use Rattle.lexical_grammar.specs.Reads.{items_of};
-ghost use Rattle.apollo_parser.specs.Diagnostics.{Diagnostic};
 ghost use Rattle.formatter.specs.Comments.{HasSameComments};
 ghost use Rattle.formatter.specs.Formatted as format;
 ghost use Rattle.formatter.specs.Lengths.{longest_layout};
@@ -69,8 +68,8 @@ impl<A: Allocator + Copy, L: DocumentFormatter> Job<'_, A, L> {
 
     // Formats a text that is no document: one of comments alone, or else it has errors.
     fn revise_comments(&self, source: &str) -> Result<Revised<A, Refusal>, AllocError>
-        ensures { IfOk result (λ revised. (errors : List Diagnostic)
-            → format.IsRefused source.now self.now.bounds.limits.recursion self.now.bounds.limits.tokens errors → IsRevised self.now.bounds source.now revised) }
+        ensures { IfOk result (λ revised. format.IsNoDocument source.now self.now.bounds.limits.recursion self.now.bounds.limits.tokens
+            → IsRevised self.now.bounds source.now revised) }
     {
         if !stays_within(source, self.bounds.limits.tokens) {
             return Ok(Revised::Refused(Refusal::Errors));
@@ -93,8 +92,8 @@ impl<A: Allocator + Copy, L: DocumentFormatter> Job<'_, A, L> {
             .formatter
             .format_within(self.alloc, source, self.bounds.limits, most)
         {
-            Ok(Ok(text)) => self.compared_with_ends(source, text),
-            Ok(Err(_)) => self.revise_comments(source),
+            Ok(Some(document)) => self.compared_with_ends(source, document),
+            Ok(None) => self.revise_comments(source),
             Err(WriteError::TooLong) => Ok(Revised::Refused(Refusal::TooLong)),
             Err(WriteError::Memory) => Err(AllocError),
         }

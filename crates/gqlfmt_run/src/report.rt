@@ -25,14 +25,16 @@ fn render_report<A: Allocator + Copy>(
     alloc: A,
     name: &str,
     source: &str,
-    first: &FirstErrors<A>,
+    first: &FirstErrors<'_, A>,
 ) -> Result<String<A>, AllocError> {
     let index = LineIndex::new(alloc, source)?;
     let mut report = String::new(alloc);
     for error in &first.errors {
+        let (words, quoted, end) = error.message_parts();
+        let (front, rest) = for_people(words);
         let remark = Remark {
             offset: shown_at(source, error),
-            message: for_people(error.message()),
+            message: (front, rest, quoted, end),
             marked: error.data(),
         };
         push_message(&mut report, name, &index, &remark)?;

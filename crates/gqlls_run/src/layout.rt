@@ -27,14 +27,14 @@ pub(crate) fn formatted(alloc: Global, source: &str, limits: Limits) -> Result<L
     ensures { IfOk result (IsLayoutOf limits source.now) }
 {
     match format_within(alloc, source, limits, MOST_BYTES) {
-        Ok(Ok(text)) => {
+        Ok(Some(text)) => {
             if stays_within(text.as_str(), limits.tokens) {
                 Ok(Layout::Text(text))
             } else {
                 Ok(Layout::Left)
             }
         }
-        Ok(Err(_)) => Ok(Layout::Left),
+        Ok(None) => Ok(Layout::Left),
         Err(WriteError::TooLong) => Ok(Layout::TooLong),
         Err(WriteError::Memory) => Err(AllocError),
     }

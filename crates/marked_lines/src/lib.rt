@@ -14,12 +14,12 @@ use excerpt::push_excerpt;
 use line_index::LineIndex;
 use std::alloc::{AllocError, Allocator};
 
-/// A message, in two parts, about a place of a text.
+/// A message, in four parts, about a place of a text.
 #[derive(Clone, Copy)]
 pub struct Remark<'m> {
     /// The byte offset of the place.
     pub offset: usize,
-    pub message: (&'m str, &'m str),
+    pub message: (&'m str, &'m str, &'m str, &'m str),
     /// The text that is marked there.
     pub marked: &'m str,
 }
@@ -42,6 +42,8 @@ pub fn push_message<A: Allocator>(
     write!(report, ":{line}:{column}: ")?;
     push_escaped(report, remark.message.0)?;
     push_escaped(report, remark.message.1)?;
+    push_escaped(report, remark.message.2)?;
+    push_escaped(report, remark.message.3)?;
     report.push('\n')?;
     push_excerpt(
         report,

@@ -1,16 +1,22 @@
-use Rattle.std.proofs.Common.{◌≡◌, true, false, length, sym, ap, ◌∙◌, eqb, arith}
+use Rattle.std.proofs.Common.{◌≡◌, ◌<◌, length, map, refl, sym, ap, ◌∙◌, arith}
 use Rattle.std.proofs.lemmas.Bool.Decides.{nat_tests}
-use Rattle.formatter.proofs.Parses.{empty-list, is-document, refused}
+use Rattle.std.proofs.lemmas.List.{length-map, nil_from_length}
+use Rattle.apollo_parser.specs.Errors.{error_of}
+use Rattle.formatter.proofs.Parses.{is-document, refused}
 use Rattle.formatter.proofs.gaps_of.Goals as goal
 
 pub returns-then-not-is_empty-clause-refused : goal.returns-then-not-is_empty-clause-refused
-returns-then-not-is_empty-clause-refused g c =
+returns-then-not-is_empty-clause-refused g c = λ _.
+    let errors = c.as_slice.result.now in
     let parsed = rw (c.within.ensures.source, c.within.ensures.recursion_limit, c.within.ensures.token_limit) at c.in_ok-tree.ensures.promise in
-    let some : c.is_empty.result ≡ false = grind (arith, nat_tests) in
-    refused _ _ _ _ _ c.in_ok-errors.ensures (ap (λ l. eqb (length l) 0) (sym c.as_slice.ensures.value) ∙ sym c.is_empty.ensures ∙ some) parsed
+    let are = ap (map error_of) c.as_slice.ensures.value ∙ c.errors.ensures in
+    let some : 0 < length errors = grind (arith, nat_tests) in
+    (_, refused _ _ _ _ _ refl (λ none. absurd (omega (arith, some, length-map errors error_of, ap length (are ∙ none)))) parsed)
 
 pub returns-clause-document : goal.returns-clause-document
 returns-clause-document g c =
+    let errors = c.as_slice.result.now in
     let parsed = rw (c.within.ensures.source, c.within.ensures.recursion_limit, c.within.ensures.token_limit) at c.in_ok-tree.ensures.promise in
-    let none : c.is_empty.result ≡ true = grind (arith, nat_tests) in
-    is-document _ _ _ _ (sym c.in_ok-errors.ensures ∙ sym c.as_slice.ensures.value ∙ empty-list c.as_slice.result.now (sym c.is_empty.ensures ∙ none)) parsed
+    let are = ap (map error_of) c.as_slice.ensures.value ∙ c.errors.ensures in
+    let none : length errors ≡ 0 = grind (arith, nat_tests) in
+    is-document _ _ _ _ (sym are ∙ ap (map error_of) (nil_from_length errors none)) parsed
