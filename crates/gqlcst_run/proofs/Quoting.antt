@@ -2,7 +2,7 @@
 use Rattle.std.proofs.Common.{◌≡◌, ◌≢◌, ℕ, zero, suc, ◌+◌, ◌-◌, ◌/◌, ◌%◌, ◌<◌, ◌≤◌, Bool, true, false, cond, List, [], ◌∷◌, ◌++◌, length, get_or, take, drop}
 use Rattle.std.proofs.Common.{refl, sym, ap, ◌∙◌, append_assoc, subst, true≢false, arith}
 use borrow.Author.Tests.{eq-eqb, ne_eqb, ltb-true}
-use Rattle.std.specs.Prelude.{codes, Option, Some, None, slice_index}
+use Rattle.std.specs.Prelude.{codes, Some, None, slice_index}
 use Rattle.std.specs.Bool.{MatchBool}
 use Rattle.std.specs.List.{prefix_len, flat_map, list_all}
 use Rattle.std.specs.Char.{is_ascii}
@@ -171,6 +171,9 @@ plain-all (b ∷ text) all =
     let each = and_parts (is_plain b) (list_all is_plain text) all in
     rw (plain-one b each.0, plain-all text each.1) refl
 
+plain-escaped : (text : List ℕ) → list_all is_plain text ≡ true → IsEscaped text text
+plain-escaped text all = λ ascii. sym (plain-all text all)
+
 pub plain_put : (front text bytes : List ℕ) (plain : Bool) (s t : Buffered) → bytes ≡ text → plain ≡ list_all is_plain bytes → plain ≡ true
     → Puts s (front ++ (34 ∷ (bytes ++ 34 ∷ []))) t → PutsSome (IsFormAfter front (debug_str text)) s t
 plain_put front text bytes plain s t is tests all p = record {
@@ -192,10 +195,6 @@ quoted_put front text s t u p q = record {
   puts = puts_then s t u front q.output p q.puts;
 }
 
--- a text in quotes after none
-pub nothing_before : (stated : Option (List ℕ)) (s t : Buffered) → PutsSome (IsFormAfter [] stated) s t → PutsSome (IsForm stated) s t
-nothing_before stated s t p = record { output = p.output; made = subst (IsForm stated) (sym p.made.joined) p.made.stated_form; puts = p.puts }
-
 -- the form of a text in three parts is made of the forms of the parts, one after the other
 pub escaped-parts : (a b c f g h : List ℕ) → IsEscaped a f → IsEscaped b g → IsEscaped c h → IsEscaped (a ++ b ++ c) (f ++ g ++ h)
 escaped-parts a b c f g h x y z = λ ascii.
@@ -203,3 +202,14 @@ escaped-parts a b c f g h x y z = λ ascii.
     let each = and_parts (list_all is_ascii a) (list_all is_ascii b) (sym (list_all-append is_ascii a b) ∙ both.0) in
     rw (x each.0, y each.1, z both.1) (sym (flat_map-append (debug_escape 34) (a ++ b) c
     ∙ ap (λ (bs : List ℕ). bs ++ flat_map (debug_escape 34) c) (flat_map-append (debug_escape 34) a b)))
+
+-- so a text in three plain parts is written as it is
+pub plain_parts_put : (a b c one two three : List ℕ) (s t : Buffered) → one ≡ a → two ≡ b → three ≡ c
+    → list_all is_plain one ≡ true → list_all is_plain two ≡ true → list_all is_plain three ≡ true
+    → Puts s (one ++ (two ++ (three ++ []))) t → PutsSome (IsEscaped (a ++ b ++ c)) s t
+plain_parts_put a b c one two three s t same-one same-two same-three x y z p = record {
+  output = one ++ (two ++ (three ++ []));
+  made = subst (IsEscaped (a ++ b ++ c)) (rw (same-one, same-two, same-three, append-nil c) (append_assoc a b c))
+      (escaped-parts a b c a b c (plain-escaped a (rw same-one at x)) (plain-escaped b (rw same-two at y)) (plain-escaped c (rw same-three at z)));
+  puts = p;
+}

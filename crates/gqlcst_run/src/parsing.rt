@@ -7,7 +7,7 @@ ghost use Rattle.apollo_parser.specs.LexerAnswers.{answers_left};
 ghost use Rattle.gqlcst_run.specs.Parsing.{IsFound};
 
 use crate::finding::{Finding, finding_of};
-use apollo_parser::{DocumentRoot, Lexer, Limits, Parser, SyntaxTree};
+use apollo_parser::{BorrowedSyntaxTree, DocumentRoot, Lexer, Limits, Parser};
 use std::alloc::{AllocError, Allocator};
 
 /// A lexer of the text, with the token limit.
@@ -23,10 +23,10 @@ pub fn parse<A: Allocator + Copy>(
     alloc: A,
     source: &str,
     limits: Limits,
-) -> Result<(SyntaxTree<DocumentRoot, A>, Finding), AllocError>
+) -> Result<(BorrowedSyntaxTree<'_, DocumentRoot, A>, Finding), AllocError>
     ensures { IfOk result (λ it. IsFound limits source.now it.0.errors it.1) }
 {
-    let tree = Parser::within(source, limits).parse(alloc)?;
+    let tree = Parser::within(source, limits).parse_borrowed(alloc)?;
     let finding = finding_of(tree.errors().len());
     Ok((tree, finding))
 }

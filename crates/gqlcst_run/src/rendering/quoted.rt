@@ -207,18 +207,17 @@ impl OutputBuffer {
         self.put_quoted_escaped(writer, text);
     }
 
-    /// Puts a text in quotes.
-    #[tactic(auto, using(crate::proofs::Quoting::nothing_before))]
-    pub fn put_quoted<W: Sink>(&mut self, writer: &mut W, text: &str)
-        ensures { PutsSome (IsForm (debug_str text.now)) (self.old, W.account writer.old) (self.new, W.account writer.new) }
-    {
-        self.put_quoted_after(writer, "", text);
-    }
-
     // Puts a text that is in three parts as it is written between quotes.
+    #[inline(always)]
+    #[tactic(auto, using(crate::proofs::Quoting::plain_parts_put))]
     fn put_escaped_parts<W: Sink>(&mut self, writer: &mut W, front: &str, middle: &str, back: &str)
         ensures { PutsSome (IsEscaped (front.now ++ middle.now ++ back.now)) (self.old, W.account writer.old) (self.new, W.account writer.new) }
     {
+        let (one, two, three) = (front.as_bytes(), middle.as_bytes(), back.as_bytes());
+        if are_plain(one) && are_plain(two) && are_plain(three) {
+            self.put_four(writer, one, two, three, b"");
+            return;
+        }
         self.put_escaped(writer, front);
         self.put_escaped(writer, middle);
         self.put_escaped(writer, back);

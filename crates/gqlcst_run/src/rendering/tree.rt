@@ -4,7 +4,7 @@ ghost use Rattle.gqlcst_run.specs.Buffering.{PutsAny};
 use crate::output_buffer::OutputBuffer;
 use crate::rendering::errors::put_error;
 use crate::rendering::kind_name::kind_name;
-use apollo_parser::{DocumentRoot, IndexedElement, LimitTracker, SyntaxTree};
+use apollo_parser::{BorrowedSyntaxTree, DocumentRoot, IndexedElement, LimitTracker};
 use byte_devices::Sink;
 use std::alloc::Allocator;
 
@@ -62,7 +62,10 @@ fn put_element<W: Sink>(
 }
 
 // The parent of an element.
-fn parent_of<A: Allocator>(tree: &SyntaxTree<DocumentRoot, A>, index: usize) -> Option<usize> {
+fn parent_of<A: Allocator>(
+    tree: &BorrowedSyntaxTree<'_, DocumentRoot, A>,
+    index: usize,
+) -> Option<usize> {
     tree.element(index)?.parent
 }
 
@@ -75,7 +78,11 @@ struct Open {
 
 impl Open {
     // Closes nodes until this one is the innermost.
-    fn close_to<A: Allocator>(&mut self, tree: &SyntaxTree<DocumentRoot, A>, node: Option<usize>) {
+    fn close_to<A: Allocator>(
+        &mut self,
+        tree: &BorrowedSyntaxTree<'_, DocumentRoot, A>,
+        node: Option<usize>,
+    ) {
         for _ in 0..self.level {
             let Some(inner) = self.node else {
                 return;
@@ -100,7 +107,7 @@ impl Open {
 fn put_elements<A: Allocator, W: Sink>(
     buffer: &mut OutputBuffer,
     writer: &mut W,
-    tree: &SyntaxTree<DocumentRoot, A>,
+    tree: &BorrowedSyntaxTree<'_, DocumentRoot, A>,
     source: &str,
 )
     ensures { PutsAny (buffer.old, W.account writer.old) (buffer.new, W.account writer.new) }
@@ -126,7 +133,7 @@ fn put_elements<A: Allocator, W: Sink>(
 fn put_error_lines<A: Allocator, W: Sink>(
     buffer: &mut OutputBuffer,
     writer: &mut W,
-    tree: &SyntaxTree<DocumentRoot, A>,
+    tree: &BorrowedSyntaxTree<'_, DocumentRoot, A>,
 )
     ensures { PutsAny (buffer.old, W.account writer.old) (buffer.new, W.account writer.new) }
 {
@@ -153,7 +160,7 @@ fn put_limit<W: Sink>(buffer: &mut OutputBuffer, writer: &mut W, limit: LimitTra
 pub fn put_tree<A: Allocator, W: Sink>(
     buffer: &mut OutputBuffer,
     writer: &mut W,
-    tree: &SyntaxTree<DocumentRoot, A>,
+    tree: &BorrowedSyntaxTree<'_, DocumentRoot, A>,
     source: &str,
 )
     ensures { PutsAny (buffer.old, W.account writer.old) (buffer.new, W.account writer.new) }

@@ -1,4 +1,7 @@
-use Rattle.std.proofs.Common.{◌∙◌, length, ap}
+use Rattle.std.proofs.Common.{◌∙◌, length, ap, sym}
+use Rattle.std.proofs.lemmas.List.{length-map}
+use Rattle.std.specs.Slice.Iter.{iter_rest}
+use Rattle.apollo_parser.specs.Errors.{error_of}
 use Rattle.gqlcst_run.specs.Parsing.{finding_of}
 use Rattle.gqlcst_run.proofs.parsing.parse.Goals as goal
 
@@ -14,5 +17,7 @@ returns g c =
       ascii = rw source at parsed.ascii;
       accepted = λ none. record { tree = _; sentence = (sound none).0; within = (sound none).1 };
       accepts = λ a. accepts a.tree a.sentence a.within;
-      counted = c.finding_of-finding.ensures ∙ ap finding_of (c.len.ensures.value ∙ ap length c.errors.ensures);
+      counted =
+          c.finding_of-finding.ensures
+          ∙ ap finding_of (c.len.ensures.value ∙ sym (length-map (iter_rest c.errors.result) error_of) ∙ ap length c.errors.ensures);
     }
