@@ -11,6 +11,8 @@ import time
 from pathlib import Path
 
 TOP = Path(__file__).resolve().parent.parent.parent
+# The keys that have a name.
+NAMED = {"Enter", "Escape", "Space", "Tab", "C-u"}
 tests = failed = 0
 
 
@@ -25,11 +27,12 @@ class Helix:
         return subprocess.run([*self.tmux, *words], check=True, capture_output=True, text=True).stdout
 
     def press(self, *keys):
-        """Presses keys by tmux's names, and types what has no such name. Escape with a key behind it at once is another key to Helix."""
+        """Presses keys by tmux's names, and types what has no such name, at the speed of a fast typist: Helix drops completions that keys overtake. Escape
+        with a key behind it at once is another key to Helix."""
         for key in keys:
-            self.run("send-keys", key)
-            if key == "Escape":
-                time.sleep(0.2)
+            for each in [key] if key in NAMED or len(key) == 1 else key:
+                self.run("send-keys", *(["-l"] if len(each) == 1 else []), each)
+                time.sleep(0.2 if each == "Escape" else 0.05)
 
     def expect(self, what, *texts):
         """All these texts are on the screen, within ten seconds. Columns of blanks count as one."""
