@@ -22,6 +22,8 @@ TEXTS = {
     "braces": lambda n: "{" * n,
     "quotes": lambda n: '"' * n,
     "backslashes in a string": lambda n: '"' + "\\" * n + '"',
+    "a long string": lambda n: '{a(b:"' + "x" * n + '")}',
+    "a long string without an end": lambda n: '"' + "x" * n,
     "dots": lambda n: "." * n,
     "commas after ...": lambda n: "{..." + "," * n + "a}",
     "names with commas between": lambda n: "{" + "a," * (n // 2) + "}",

@@ -9,7 +9,7 @@ from .definitions import CRATES, KIT, Source, definition_lines, in_order, is_gen
 # The calls that a user reads, by their part: a title, files and folders, and how much of the list of definitions is counted for it.
 PARTS = {
     "`parse`, and parts of documents": "apollo_parser/src/parser.rt",
-    "trees, typed nodes and values": """apollo_parser/src/syntax_tree.rt apollo_tree/src/builder.rt apollo_tree/src/node.rt apollo_tree/src/children.rt
+    "trees, typed nodes and values": """apollo_parser/src/syntax_tree.rt apollo_parser/src/borrowed_tree.rt parser_state/src/borrowed_error.rt apollo_tree/src/builder.rt apollo_tree/src/node.rt apollo_tree/src/children.rt
         apollo_tree/src/pointer.rt apollo_tree/src/subtree.rt apollo_tree/src/range.rt apollo_tree/src/token_text.rt apollo_tree/src/indexed.rt
         apollo_cst_core/src/laws.rt apollo_cst_executable/src apollo_cst_type_system/src""",
     "the lexer": """apollo_lexer/src/lexer.rt apollo_lexer/src/limit.rt apollo_lexer/src/error.rt apollo_lexer/src/token.rt apollo_lexer/src/lex_error.rt""",
