@@ -4,7 +4,7 @@ for docs/SPEED.md.
 
 There are `--edits` edits in the middle of the schema; every second one makes errors, and the next takes them away. Ends with status 1 where the median of the
 times is above 60 milliseconds, or the memory above 40 bytes for each byte of the text. A time is from the first byte that is sent to the last that is received:
-the client makes JSON of a message before, and reads it after."""
+the client makes JSON of a message before, and reads it after. The server's own time is on the processor, so no other work of the machine lengthens it."""
 
 import json
 import statistics
@@ -39,6 +39,12 @@ def memory(client):
     return int(found.split()[1]) * 1024
 
 
+def processor(client):
+    """The server's time on the processor so far, in milliseconds."""
+    with open(f"/proc/{client.process.pid}/schedstat") as times:
+        return int(times.read().split()[0]) / 1e6
+
+
 def timed(client, method, **params):
     """How many milliseconds pass from a message to the server's reply, and the reply."""
     message = {"jsonrpc": "2.0", "method": f"textDocument/{method}", "params": params}
@@ -52,15 +58,17 @@ def timed(client, method, **params):
 
 
 def edits(client, line, character, count):
-    """The time of each edit at a place."""
-    times = []
+    """The time of each edit at a place, and the server's own."""
+    times, own = [], []
     for version in range(1, count + 1):
         is_fault = version % 2
         change = {"range": {"start": at(line, character), "end": at(line, character + 1 - is_fault)}, "text": "!" * is_fault}
+        before = processor(client)
         spent, said = timed(client, "didChange", textDocument={"uri": URI, "version": version}, contentChanges=[change])
         assert said["params"]["version"] == version and bool(said["params"]["diagnostics"]) == bool(is_fault)
         times.append(spent)
-    return times
+        own.append(processor(client) - before)
+    return times, own
 
 
 def requests(client, line, character):
@@ -83,9 +91,9 @@ def measured(program, name, text, line, character, count):
     before = memory(client)
     opened, said = timed(client, "didOpen", textDocument={"uri": URI, "languageId": "graphql", "version": 0, "text": text})
     assert said["params"]["diagnostics"] == []
-    times = edits(client, line, character, count)
+    times, own = edits(client, line, character, count)
     median, used = statistics.median(times), (memory(client) - before) / len(text.encode())
-    row = f"| {name}, {len(text) / 1e6:.2f} MB | {opened:.0f} | {median:.0f} | {max(times):.0f} | {used:.1f} |"
+    row = f"| {name}, {len(text) / 1e6:.2f} MB | {opened:.0f} | {median:.0f} | {max(times):.0f} | {max(own):.0f} | {used:.1f} |"
     return client, before, row, median <= MOST_MILLISECONDS and used <= MOST_BYTES
 
 
@@ -98,7 +106,8 @@ def main():
     client, before, first, is_fast = measured(program, "many lines", many, line, character, count)
     other, _, second, is_fast_too = measured(program, "one line", one, 0, one.index(" T3200 "), count)
     other.end()
-    print(f"| | to open it | an edit, median of {count} | longest | memory, bytes a byte of text |\n|---|---|---|---|---|\n{first}\n{second}")
+    print(f"| | to open it | an edit, median of {count} | longest | longest of its own | memory, bytes a byte of text |\n|---|---|---|---|---|---|")
+    print(f"{first}\n{second}")
     print("\n| request | |\n|---|---|")
     for feature, spent in requests(client, line, character):
         print(f"| {feature} | {spent:.0f} |")
