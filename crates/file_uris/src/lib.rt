@@ -5,11 +5,9 @@
 //! `gqlls_files`, the crate above, calls both.
 #![tactic(auto)]
 
-ghost use Rattle.std.specs.Prelude.{◌≡◌, ◌++◌, ℕ, IfOk, MatchOption, List, codes, string_bytes};
+ghost use Rattle.std.specs.Prelude.{◌≡◌, ℕ, IfOk, MatchOption, List, string_bytes};
 ghost use Rattle.std.specs.Str.{IsUtf8};
-ghost use Rattle.percent_encoding.specs.Percent.{percent_encode};
-ghost use Rattle.file_uris.specs.Uris.{IsAbsolute, NamesFile, Spells};
-ghost use Rattle.file_uris.specs.declared.TheConstants.{ESCAPED};
+ghost use Rattle.file_uris.specs.Uris.{IsAbsolute, NamesFile, Spells, uri_of};
 
 use percent_encoding::{
     AsciiSet, NON_ALPHANUMERIC, ascii_set, percent_decode, utf8_percent_encode,
@@ -67,7 +65,7 @@ pub fn path_of(alloc: Global, uri: &str) -> Result<Option<String>, AllocError>
 /// A URI of a path, with all but the unreserved bytes and slashes as escapes. It names the path if that begins with a slash. It fails only where memory is
 /// refused.
 pub fn uri_of(alloc: Global, path: &str) -> Result<String, AllocError>
-    ensures spelling { IfOk result (λ uri. string_bytes uri ≡ codes "file://" ++ percent_encode ESCAPED path.now) }
+    ensures spelling { IfOk result (λ uri. string_bytes uri ≡ uri_of path.now) }
     ensures names { IsAbsolute path.now → IfOk result (λ uri. NamesFile (string_bytes uri) path.now) }
 {
     let mut uri = String::from_str(alloc, "file://")?;

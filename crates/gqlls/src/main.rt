@@ -48,8 +48,8 @@ fn print(rt: &HostRuntime, information: Information) -> Result<u8, Fault> {
 fn serve(rt: &HostRuntime, limits: Limits) -> Result<u8, Fault> {
     let mut reader = StdSource::new(rt.stdin());
     let mut writer = StdSink::new(rt.stdout());
-    let mut files = StdFiles::up_to(rt, MOST_BYTES as u64);
-    run(rt.alloc(), &mut reader, &mut writer, &mut files, limits)
+    let files = StdFiles::up_to(rt, MOST_BYTES as u64);
+    run(rt.alloc(), &mut reader, &mut writer, files, limits)
 }
 
 // What is said on standard error about a run that failed.

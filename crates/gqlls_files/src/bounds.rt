@@ -1,4 +1,7 @@
 // How much of a folder is read.
+ghost use Rattle.std.specs.Prelude.{◌≡◌};
+ghost use Rattle.named_files.specs.Finding.{Lists};
+
 use gqlfmt_files::{Entry, Files};
 use std::alloc::Allocator;
 use std::io;
@@ -14,28 +17,37 @@ const MOST_FOLDERS: usize = 20_000;
 
 /// Files of which only some folders are listed; the others have nothing.
 #[derive(Drop)]
-pub(crate) struct Bounded<'f, F> {
-    files: &'f mut F,
+pub(crate) struct Bounded<F> {
+    pub files: F,
     folders: usize,
 }
 
-impl<'f, F> Bounded<'f, F> {
+impl<F: Files> Bounded<F> {
     /// Before any folder is listed.
-    pub(crate) fn new(files: &'f mut F) -> Self {
+    pub(crate) fn new(files: F) -> Self
+        ensures { result.files ≡ files }
+    {
         Bounded {
             files,
             folders: MOST_FOLDERS,
         }
     }
+
+    /// Has as many folders listed as at the beginning.
+    pub(crate) fn begin(&mut self)
+        ensures { self.new.files ≡ self.old.files }
+    {
+        self.folders = MOST_FOLDERS;
+    }
 }
 
-impl<F: Files> Files for Bounded<'_, F> {
+impl<F: Files> Files for Bounded<F> {
     // nothing is promised of which files are found
-    ghost lists = { λ old path listing new. Unit {0} };
+    ghost lists = { λ old path listing new. Lists F.lists old.files new.files };
 
-    ghost reads = { λ old path given new. Unit {0} };
+    ghost reads = { λ old path given new. F.reads old.files path given new.files };
 
-    ghost replaces = { λ old path text is_done new. Unit {0} };
+    ghost replaces = { λ old path text is_done new. F.replaces old.files path text is_done new.files };
 
     fn list<A: Allocator + Copy>(
         &mut self,

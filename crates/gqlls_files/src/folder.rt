@@ -1,12 +1,14 @@
 // A server that knows the files of the folders that its client opens.
-ghost use Rattle.std.specs.Prelude.{◌≡◌, IfOk, None, Some, codes};
+ghost use Rattle.std.specs.Prelude.{◌≡◌, ℕ, List, IfOk, IfSome, None, Ok, OnOk, Result, Some, codes, string_bytes};
+ghost use Rattle.std.specs.declared.io.Error.{Error};
 ghost use Rattle.json.specs.Tree.{HasNumbers};
 ghost use Rattle.json.specs.Value.{value_view};
 ghost use Rattle.rpc_messages.specs.Messages.{IsAnswer};
 ghost use Rattle.rpc_messages.specs.Replies.{EndsOnlyIf, Replies};
 ghost use Rattle.rpc_messages.specs.declared.reply.Reply.TheVariants.{Answer};
-ghost use Rattle.gqlls_run.specs.Dialogue.{Reads, begun};
-ghost use Rattle.gqlls_run.specs.State.{StepsOf, dialogue_of};
+ghost use Rattle.gqlls_run.specs.State.{dialogue_of};
+ghost use Rattle.gqlls_files.specs.Sessions.{Reads, Steps};
+ghost use Rattle.gqlls_files.specs.State.{session_of};
 
 use crate::bounds::{Bounded, MOST_BYTES, MOST_FILES};
 use file_uris::{path_of, uri_of};
@@ -21,23 +23,23 @@ use std::mem;
 
 /// A server, the files that it may read, the paths of the folders that the client opens, and those of its open documents.
 #[derive(Drop)]
-pub struct FolderServer<'f, F> {
+pub struct FolderServer<F> {
     server: Server,
-    files: &'f mut F,
+    files: Bounded<F>,
     folders: Vec<String>,
     open: BTreeSet<String>,
     // how many bytes the files have in which names are looked for
     kept: usize,
 }
 
-impl<'f, F: Files> FolderServer<'f, F> {
+impl<F: Files> FolderServer<F> {
     /// One that has read no message.
-    pub fn new(alloc: Global, server: Server, files: &'f mut F) -> Self
-        ensures { dialogue_of result.server ≡ dialogue_of server }
+    pub fn new(alloc: Global, server: Server, files: F) -> Self
+        ensures { session_of result ≡ record { dialogue = dialogue_of server; files = files } }
     {
         FolderServer {
             server,
-            files,
+            files: Bounded::new(files),
             folders: Vec::new(alloc),
             open: BTreeSet::new(alloc),
             kept: 0,
@@ -49,9 +51,19 @@ impl<'f, F: Files> FolderServer<'f, F> {
         MOST_BYTES.saturating_sub(self.kept)
     }
 
+    // Has names looked for in this file no more.
+    fn drop_file(&mut self, uri: &str)
+        ensures { Reads F.lists F.reads (session_of self.old) (session_of self.new) }
+    {
+        let bytes = self.server.drop_file(uri);
+        self.kept = self.kept.saturating_sub(bytes);
+    }
+
     // The text of the file at a path, if it has one for which there is room.
     fn text_at(&mut self, alloc: Global, path: &str) -> Option<String>
-        ensures { dialogue_of self.new.server ≡ dialogue_of self.old.server }
+        ensures dialogue { dialogue_of self.new.server ≡ dialogue_of self.old.server }
+        ensures given { (given : Result (List ℕ) Error) × F.reads self.old.files.files path.now given self.new.files.files
+            × IfSome result (λ text. given ≡ Ok (string_bytes text)) }
     {
         match self.files.read(alloc, path) {
             Ok(bytes) if bytes.len() <= self.room() => String::from_utf8(bytes).ok(),
@@ -59,46 +71,41 @@ impl<'f, F: Files> FolderServer<'f, F> {
         }
     }
 
-    // Has names looked for in this file no more.
-    fn drop_file(&mut self, uri: &str)
-        ensures { Reads (dialogue_of self.old.server) (dialogue_of self.new.server) }
-    {
-        let bytes = self.server.drop_file(uri);
-        self.kept = self.kept.saturating_sub(bytes);
-    }
-
-    // Reads the file at a path again, unless it is open. One that can't be read, or is too long, is known no more.
+    // Reads the file at a path again, if its name is a GraphQL file's and it isn't open. One that can't be read, or is too long, is known no more.
     fn refresh(&mut self, alloc: Global, path: &str) -> Result<(), AllocError>
-        ensures { Reads (dialogue_of self.old.server) (dialogue_of self.new.server) }
+        ensures { OnOk result (Reads F.lists F.reads (session_of self.old) (session_of self.new)) }
     {
-        if self.open.contains(path) {
+        if !is_graphql(path) || self.open.contains(path) {
             return Ok(());
         }
         let uri = uri_of(alloc, path)?;
         self.drop_file(uri.as_str());
-        if let Some(text) = self.text_at(alloc, path) {
-            self.server.keep_file(alloc, uri.as_str(), text.as_str())?;
-            self.kept = self.kept.saturating_add(text.len());
-        }
+        let Some(text) = self.text_at(alloc, path) else {
+            return Ok(());
+        };
+        self.server.keep_file(alloc, uri.as_str(), text.as_str())?;
+        self.kept = self.kept.saturating_add(text.len());
         Ok(())
     }
 
     // Reads the files of a folder.
     fn read_folder(&mut self, alloc: Global, folder: &str) -> Result<(), AllocError>
-        ensures { Reads (dialogue_of self.old.server) (dialogue_of self.new.server) }
+        ensures { OnOk result (Reads F.lists F.reads (session_of self.old) (session_of self.new)) }
     {
-        let found = named_files(alloc, &mut Bounded::new(self.files), &[], folder)?;
+        self.files.begin();
+        let found = named_files(alloc, &mut self.files, &[], folder)?;
         for named in found.iter().take(MOST_FILES) {
-            if let Named::File(path) = named {
-                self.refresh(alloc, path.as_str())?;
-            }
+            let Named::File(path) = named else {
+                continue;
+            };
+            self.refresh(alloc, path.as_str())?;
         }
         Ok(())
     }
 
     // Reads the files of all folders that the client opens.
     fn read_folders(&mut self, alloc: Global) -> Result<(), AllocError>
-        ensures { Reads (dialogue_of self.old.server) (dialogue_of self.new.server) }
+        ensures { OnOk result (Reads F.lists F.reads (session_of self.old) (session_of self.new)) }
     {
         let folders = mem::replace(&mut self.folders, Vec::new(alloc));
         for folder in &folders {
@@ -109,7 +116,7 @@ impl<'f, F: Files> FolderServer<'f, F> {
 
     // Notes the folders that the client opens.
     fn note_folders(&mut self, alloc: Global, params: &Value<'_>) -> Result<(), AllocError>
-        ensures { dialogue_of self.new.server ≡ dialogue_of self.old.server }
+        ensures { session_of self.new ≡ session_of self.old }
     {
         for uri in &opened_folders(alloc, params)? {
             if let Some(path) = path_of(alloc, uri)? {
@@ -121,7 +128,7 @@ impl<'f, F: Files> FolderServer<'f, F> {
 
     // A document is open now: its file counts as the client has it.
     fn note_open(&mut self, alloc: Global, params: &Value<'_>) -> Result<(), AllocError>
-        ensures { Reads (dialogue_of self.old.server) (dialogue_of self.new.server) }
+        ensures { OnOk result (Reads F.lists F.reads (session_of self.old) (session_of self.new)) }
     {
         if let Some(uri) = document_in(params)
             && let Some(path) = path_of(alloc, uri)?
@@ -134,36 +141,33 @@ impl<'f, F: Files> FolderServer<'f, F> {
 
     // A document is closed: its file counts as it is stored.
     fn note_closed(&mut self, alloc: Global, params: &Value<'_>) -> Result<(), AllocError>
-        ensures { Reads (dialogue_of self.old.server) (dialogue_of self.new.server) }
+        ensures { OnOk result (Reads F.lists F.reads (session_of self.old) (session_of self.new)) }
     {
         if let Some(uri) = document_in(params)
             && let Some(path) = path_of(alloc, uri)?
         {
             self.open.remove(path.as_str());
-            if is_graphql(path.as_str()) {
-                self.refresh(alloc, path.as_str())?;
-            }
+            self.refresh(alloc, path.as_str())?;
         }
         Ok(())
     }
 
     // Some files have changed, were made or are gone.
     fn note_changes(&mut self, alloc: Global, params: &Value<'_>) -> Result<(), AllocError>
-        ensures { Reads (dialogue_of self.old.server) (dialogue_of self.new.server) }
+        ensures { OnOk result (Reads F.lists F.reads (session_of self.old) (session_of self.new)) }
     {
         for uri in &changed_files(alloc, params)? {
-            if let Some(path) = path_of(alloc, uri)?
-                && is_graphql(path.as_str())
-            {
-                self.refresh(alloc, path.as_str())?;
-            }
+            let Some(path) = path_of(alloc, uri)? else {
+                continue;
+            };
+            self.refresh(alloc, path.as_str())?;
         }
         Ok(())
     }
 
     // What a notification says of files.
     fn note(&mut self, alloc: Global, method: &str, params: &Value<'_>) -> Result<(), AllocError>
-        ensures { Reads (dialogue_of self.old.server) (dialogue_of self.new.server) }
+        ensures { OnOk result (Reads F.lists F.reads (session_of self.old) (session_of self.new)) }
     {
         match method {
             "initialized" => self.read_folders(alloc),
@@ -175,8 +179,8 @@ impl<'f, F: Files> FolderServer<'f, F> {
     }
 }
 
-impl<F: Files> Service for FolderServer<'_, F> {
-    ghost steps = { λ old id method params reply new. StepsOf old.server id method params reply new.server };
+impl<F: Files> Service for FolderServer<F> {
+    ghost steps = { λ old id method params reply new. Steps F.lists F.reads (session_of old) id method params reply (session_of new) };
 
     fn request(
         &mut self,
@@ -187,8 +191,8 @@ impl<F: Files> Service for FolderServer<'_, F> {
     ) -> Result<Vec<u8>, AllocError>
         requires { HasNumbers (value_view id.now) }
         ensures answers { IfOk result (λ body. IsAnswer (value_view id.now) body.items) }
-        ensures step { IfOk result (λ body. StepsOf self.old.server (Some (value_view id.now)) method.now (value_view params.now) (Answer body)
-            self.new.server) }
+        ensures step { IfOk result (λ body. Steps F.lists F.reads (session_of self.old) (Some (value_view id.now)) method.now (value_view params.now) (Answer body)
+            (session_of self.new)) }
     {
         if method == "initialize" {
             self.note_folders(alloc, params)?;
@@ -204,7 +208,7 @@ impl<F: Files> Service for FolderServer<'_, F> {
     ) -> Result<Reply, AllocError>
         ensures replies { IfOk result (Replies None) }
         ensures ends { IfOk result (EndsOnlyIf (method.now ≡ codes "exit")) }
-        ensures step { IfOk result (λ reply. StepsOf self.old.server None method.now (value_view params.now) reply self.new.server) }
+        ensures step { IfOk result (λ reply. Steps F.lists F.reads (session_of self.old) None method.now (value_view params.now) reply (session_of self.new)) }
     {
         self.note(alloc, method, params)?;
         // bound to a name, so that its clauses on `Ok` are found

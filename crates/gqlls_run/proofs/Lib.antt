@@ -1,6 +1,5 @@
 pub mod Announced
 pub mod Changes
-pub mod Dialogues
 pub mod Layouts
 pub mod Maps
 pub mod Messages

@@ -1,26 +1,21 @@
 -- The outcome of each message of a conversation, by the Language Server Protocol 3.17.
 use Rattle.std.specs.Prelude.{◌≡◌, ◌≢◌, ℕ, ℤ, List, [], true, false, Option, Some, None, MatchOption, codes}
 use lib.IntN.{pos, neg_ℤ}
-use Rattle.byte_devices.specs.Devices.{Account}
-use Rattle.byte_devices.specs.declared.fault.Fault.{Fault}
 use Rattle.json.specs.Json as json
 use Rattle.json.specs.Json.{Json, Members, member, object, string}
-use Rattle.apollo_parser.specs.declared.Limits.{Limits}
 use Rattle.editor_diagnostics.specs.Publication.{IsNoticeAbout}
 use Rattle.editor_validation.specs.Fragments.{Fragments}
 use Rattle.line_index.specs.declared.PositionEncoding.{PositionEncoding}
 use Rattle.line_index.specs.declared.PositionEncoding.TheVariants.{Utf8, Utf16}
 use Rattle.embedded_documents.specs.declared.scanning.HostLanguage.{HostLanguage}
 use Rattle.rpc_messages.specs.Messages.{IsResult}
-use Rattle.rpc_messages.specs.Steps.{Takes}
 use Rattle.rpc_messages.specs.declared.reply.Reply.{Reply}
 use Rattle.rpc_messages.specs.declared.reply.Reply.TheVariants.{Nothing, Answer, Notice, Request, Exit}
-use Rattle.rpc_serving.specs.Serving.{EndsServing, IsServed}
 use Rattle.gqlls_run.specs.Files.{OpenFile}
 use Rattle.gqlls_run.specs.Layout.{IsFormattingIn, IsRefusalOf}
 use Rattle.gqlls_run.specs.Parameters.{Edit, IsVersionIn, Offers, edits_in, host_in, may_register_in, takes_related_in, text_in, uri_in}
 use Rattle.gqlls_run.specs.Registration.{IsRegistration}
-use Rattle.gqlls_run.specs.Dialogue.{AreOthers, Dialogue, IsChanged, Reads, Sets, begun}
+use Rattle.gqlls_run.specs.Dialogue.{AreOthers, Dialogue, IsChanged, Sets}
 use Rattle.gqlls_run.specs.Told.{IsTold, Notifies}
 use Rattle.gqlls_run.specs.declared.server.Stage.{Stage}
 use Rattle.gqlls_run.specs.declared.server.Stage.TheVariants.{New, Running, ShutDown}
@@ -185,19 +180,9 @@ pub record IsHeard (method : List ℕ) (params : Json) (reply : Reply) (old new 
   pub others : IsOther method → IsIgnored reply old new
   pub not_running : old.stage ≢ Running → method ≢ codes "exit" → IsIgnored reply old new
 
--- ---- conversations
+-- ---- both
 
--- the outcome of a request, which has an id, or of a notification, before which files may be read
+-- the outcome of a request, which has an id, or of a notification
 abbrev pub Steps : Dialogue → Option Json → List ℕ → Json → Reply → Dialogue → Type 0
 Steps old (Some id) method params reply new = IsAsked id method params reply old new
-Steps old None method params reply new = (ready : Dialogue) × Reads old ready × IsHeard method params reply ready new
-
--- what was written is what a conversation about the bytes that were read says, from its beginning and within these limits
-pub record Serves (limits : Limits) (status : ℕ) (read_old read_new write_old write_new : Account) : Type 0 where
-  pub last : Dialogue
-  pub served : IsServed (Takes Steps) (begun limits) last status read_old read_new write_old write_new
-
--- the run fails, and what was written is what such a conversation says, as far as it came
-pub record Fails (limits : Limits) (read_old read_new write_old write_new : Account) (fault : Fault) : Type 0 where
-  pub last : Dialogue
-  pub ends : EndsServing (Takes Steps) (begun limits) last read_old read_new write_old write_new fault
+Steps old None method params reply new = IsHeard method params reply old new

@@ -38,13 +38,6 @@ begun limits = record {
   files = λ name. None;
 }
 
-abbrev pub without_files : Dialogue → Dialogue
-without_files dialogue = record dialogue { files = λ name. None }
-
--- files may be read, and nothing else changes
-abbrev pub Reads : Dialogue → Dialogue → Type 0
-Reads old new = without_files new ≡ without_files old
-
 -- one document is opened, changed or closed, and the others stay
 pub record Updates {A : Type 0} (uri : List ℕ) (value : Option A) (old new : List ℕ → Option A) : Type 0 where
   pub this : new uri ≡ value
@@ -60,6 +53,14 @@ pub record Sets (uri : List ℕ) (file : Option OpenFile) (names : Option Fragme
   pub may_register : new.may_register ≡ old.may_register
   pub takes_related : new.takes_related ≡ old.takes_related
   pub limits : new.limits ≡ old.limits
+
+abbrev pub without_files : Dialogue → Dialogue
+without_files dialogue = record dialogue { files = λ name. None }
+
+-- the names of fragments in one file that is not open are these from now on, and nothing else changes
+pub record Learns (name : List ℕ) (names : Option Fragments) (old new : Dialogue) : Type 0 where
+  pub files : Updates name names old.files new.files
+  pub others : without_files new ≡ without_files old
 
 -- these are the names of fragments in all documents and files
 abbrev pub AreAll : (List ℕ → Option Fragments) → (List ℕ → Option Fragments) → List Fragments → Type 0

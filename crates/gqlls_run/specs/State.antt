@@ -52,9 +52,6 @@ dialogue_of server = record {
   files = names_in server.files;
 }
 
--- the message takes the old service's dialogue to the new one's
-abbrev pub StepsIn : {S : Type 0} → (S → Dialogue) → S → Option Json → List ℕ → Json → Reply → S → Type 0
-StepsIn dialogue old id method params reply new = Steps (dialogue old) id method params reply (dialogue new)
-
+-- the message takes the old server's dialogue to the new one's
 abbrev pub StepsOf : Server → Option Json → List ℕ → Json → Reply → Server → Type 0
-StepsOf = StepsIn dialogue_of
+StepsOf old id method params reply new = Steps (dialogue_of old) id method params reply (dialogue_of new)

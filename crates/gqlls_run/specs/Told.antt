@@ -1,5 +1,5 @@
--- What is published of the documents that a client has open.
-use Rattle.std.specs.Prelude.{◌≡◌, ℕ, ℤ, Bool, List, [], Option}
+-- What is published of the documents that a client has open, and known of files that are not.
+use Rattle.std.specs.Prelude.{◌≡◌, ℕ, ℤ, Bool, List, [], Option, Some}
 use Rattle.apollo_parser.specs.Parsed.{Parsed}
 use Rattle.apollo_parser.specs.Promise.{Promise}
 use Rattle.apollo_parser.specs.declared.Limits.{Limits}
@@ -8,6 +8,7 @@ use Rattle.editor_diagnostics.specs.Remarks.{Remarked}
 use Rattle.editor_validation.specs.Fragments.{Fragments, fragments_in}
 use Rattle.editor_validation.specs.Remarks.{AreRemarksOn}
 use Rattle.formatter.specs.Comments.{HasNoDefinitions}
+use Rattle.gqlls_run.specs.Dialogue.{Dialogue, Learns}
 use Rattle.gqlls_run.specs.Files.{IsSource, OpenFile}
 use Rattle.rpc_messages.specs.declared.reply.Reply.{Reply}
 use Rattle.rpc_messages.specs.declared.reply.Reply.TheVariants.{Nothing, Answer, Notice, Request, Exit}
@@ -21,6 +22,12 @@ AreRemarksOf takes_related others parsed remarks =
 -- the names of fragments in a parse
 abbrev pub fragments_of : Parsed → Fragments
 fragments_of parsed = fragments_in (record { whole = parsed.tree; index = 0 })
+
+-- a file that is not open has this text, whose fragments are those of a parse within the limits
+pub record Keeps (name text : List ℕ) (old new : Dialogue) : Type 0 where
+  pub parsed : Parsed
+  pub promise : Promise text old.limits.recursion old.limits.tokens parsed
+  pub learns : Learns name (Some (fragments_of parsed)) old new
 
 -- The body publishes the remarks on a parse of this file within the limits, at their positions as the client counts them. There are none where
 -- the text that is parsed has no definitions. The parse has these fragments.

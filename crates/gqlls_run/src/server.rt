@@ -1,14 +1,15 @@
 // The server: what it replies to each message.
-ghost use Rattle.std.specs.Prelude.{◌≡◌, IfOk, None, codes};
+ghost use Rattle.std.specs.Prelude.{◌≡◌, IfOk, None, OnOk, codes};
 ghost use Rattle.json.specs.Tree.{HasNumbers};
 ghost use Rattle.json.specs.Value.{value_view};
 ghost use Rattle.rpc_messages.specs.Messages.{IsAnswer};
 ghost use Rattle.rpc_messages.specs.Replies.{EndsOnlyIf, Replies};
 ghost use Rattle.rpc_messages.specs.declared.reply.Reply.TheVariants.{Answer};
 ghost use Rattle.gqlls_run.specs.Conversation.{Begins, Changes, Closes, Formats, IsAsked, IsHeard, Opens, Publishes, exit_status};
-ghost use Rattle.gqlls_run.specs.Dialogue.{Reads, begun};
+ghost use Rattle.gqlls_run.specs.Dialogue.{Learns, begun};
 ghost use Rattle.gqlls_run.specs.Layout.{IsRefusalOf};
 ghost use Rattle.gqlls_run.specs.State.{IsParsed, StepsOf, dialogue_of, file_of};
+ghost use Rattle.gqlls_run.specs.Told.{Keeps};
 
 use crate::capabilities::{answer_initialize, registration};
 use crate::documents::{Document, Documents, insert, told_beside};
@@ -71,7 +72,7 @@ impl Server {
     /// Has names looked for in a file that is not open, by its URI and its text, in the place of the one with this URI. It fails only where memory is
     /// refused.
     pub fn keep_file(&mut self, alloc: Global, uri: &str, text: &str) -> Result<(), AllocError>
-        ensures { Reads (dialogue_of self.old) (dialogue_of self.new) }
+        ensures { OnOk result (Keeps uri.now text.now (dialogue_of self.old) (dialogue_of self.new)) }
     {
         let document = Document::new(alloc, self.encoding, text, None, self.limits)?;
         insert(alloc, &mut self.files, uri, document)
@@ -79,7 +80,7 @@ impl Server {
 
     /// Has names looked for in this file no more, and gives how many bytes it has.
     pub fn drop_file(&mut self, uri: &str) -> usize
-        ensures { Reads (dialogue_of self.old) (dialogue_of self.new) }
+        ensures { Learns uri.now None (dialogue_of self.old) (dialogue_of self.new) }
     {
         match self.files.remove(uri) {
             Some(document) => document.content.text().len(),

@@ -6,3 +6,4 @@ mod NameLemmas
 pub mod FrameLemmas
 pub mod NumeralLemmas
 pub mod WrittenLemmas
+pub mod Views
