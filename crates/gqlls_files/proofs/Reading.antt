@@ -4,7 +4,7 @@ use Rattle.std.specs.declared.io.Error.{Error}
 use Rattle.gqlfmt_files.specs.Listing.{Listing}
 use Rattle.named_files.specs.Finding.{Lists, none, more}
 use Rattle.named_files.proofs.SearchLemmas.{lists_on}
-use Rattle.gqlls_files.specs.Sessions.{Reads, Session, dropped, kept, listed, nothing, passed_over}
+use Rattle.gqlls_files.specs.FolderDialogues.{Reads, FolderDialogue, dropped, kept, listed, nothing, passed_over}
 use Rattle.gqlls_files.specs.declared.bounds.Bounded.{Bounded}
 
 module _ {F : Type 0} (lists : F → List ℕ → Listing → F → Type 0) where
@@ -15,7 +15,7 @@ module _ {F : Type 0} (lists : F → List ℕ → Listing → F → Type 0) wher
   within old new (more some last) = lists_on lists _ _ _ (within old _ some) last
 
 module _ {F : Type 0} (lists : F → List ℕ → Listing → F → Type 0) (reads : F → List ℕ → Result (List ℕ) Error → F → Type 0) where
-  pub reads_on : {old middle new : Session F} → Reads lists reads old middle → Reads lists reads middle new → Reads lists reads old new
+  pub reads_on : {old middle new : FolderDialogue F} → Reads lists reads old middle → Reads lists reads middle new → Reads lists reads old new
   reads_on one nothing = one
   reads_on one (listed two lists is) = listed (reads_on one two) lists is
   reads_on one (passed_over two reads is) = passed_over (reads_on one two) reads is
@@ -23,7 +23,7 @@ module _ {F : Type 0} (lists : F → List ℕ → Listing → F → Type 0) (rea
   reads_on one (dropped two is learns) = dropped (reads_on one two) is learns
 
   -- folders are listed
-  pub reads_lists : (session : Session F) (files : F) → Lists lists session.files files
-      → Reads lists reads session (record { dialogue = session.dialogue; files = files })
-  reads_lists session files none = nothing
-  reads_lists session files (more some last) = listed (reads_lists session _ some) last refl
+  pub reads_lists : (state : FolderDialogue F) (files : F) → Lists lists state.files files
+      → Reads lists reads state (record { dialogue = state.dialogue; files = files })
+  reads_lists state files none = nothing
+  reads_lists state files (more some last) = listed (reads_lists state _ some) last refl

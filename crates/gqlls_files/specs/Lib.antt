@@ -1,2 +1,2 @@
-pub mod Sessions
+pub mod FolderDialogues
 pub mod State

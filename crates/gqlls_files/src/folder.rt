@@ -7,8 +7,8 @@ ghost use Rattle.rpc_messages.specs.Messages.{IsAnswer};
 ghost use Rattle.rpc_messages.specs.Replies.{EndsOnlyIf, Replies};
 ghost use Rattle.rpc_messages.specs.declared.reply.Reply.TheVariants.{Answer};
 ghost use Rattle.gqlls_run.specs.State.{dialogue_of};
-ghost use Rattle.gqlls_files.specs.Sessions.{Reads, Steps};
-ghost use Rattle.gqlls_files.specs.State.{session_of};
+ghost use Rattle.gqlls_files.specs.FolderDialogues.{Reads, Steps};
+ghost use Rattle.gqlls_files.specs.State.{folder_dialogue_of};
 
 use crate::bounds::{Bounded, MOST_BYTES, MOST_FILES};
 use file_uris::{path_of, uri_of};
@@ -35,7 +35,7 @@ pub struct FolderServer<F> {
 impl<F: Files> FolderServer<F> {
     /// One that has read no message.
     pub fn new(alloc: Global, server: Server, files: F) -> Self
-        ensures { session_of result ≡ record { dialogue = dialogue_of server; files = files } }
+        ensures { folder_dialogue_of result ≡ record { dialogue = dialogue_of server; files = files } }
     {
         FolderServer {
             server,
@@ -53,7 +53,7 @@ impl<F: Files> FolderServer<F> {
 
     // Has names looked for in this file no more.
     fn drop_file(&mut self, uri: &str)
-        ensures { Reads F.lists F.reads (session_of self.old) (session_of self.new) }
+        ensures { Reads F.lists F.reads (folder_dialogue_of self.old) (folder_dialogue_of self.new) }
     {
         let bytes = self.server.drop_file(uri);
         self.kept = self.kept.saturating_sub(bytes);
@@ -73,7 +73,7 @@ impl<F: Files> FolderServer<F> {
 
     // Reads the file at a path again, if its name is a GraphQL file's and it isn't open. One that can't be read, or is too long, is known no more.
     fn refresh(&mut self, alloc: Global, path: &str) -> Result<(), AllocError>
-        ensures { OnOk result (Reads F.lists F.reads (session_of self.old) (session_of self.new)) }
+        ensures { OnOk result (Reads F.lists F.reads (folder_dialogue_of self.old) (folder_dialogue_of self.new)) }
     {
         if !is_graphql(path) || self.open.contains(path) {
             return Ok(());
@@ -90,7 +90,7 @@ impl<F: Files> FolderServer<F> {
 
     // Reads the files of a folder.
     fn read_folder(&mut self, alloc: Global, folder: &str) -> Result<(), AllocError>
-        ensures { OnOk result (Reads F.lists F.reads (session_of self.old) (session_of self.new)) }
+        ensures { OnOk result (Reads F.lists F.reads (folder_dialogue_of self.old) (folder_dialogue_of self.new)) }
     {
         self.files.begin();
         let found = named_files(alloc, &mut self.files, &[], folder)?;
@@ -105,7 +105,7 @@ impl<F: Files> FolderServer<F> {
 
     // Reads the files of all folders that the client opens.
     fn read_folders(&mut self, alloc: Global) -> Result<(), AllocError>
-        ensures { OnOk result (Reads F.lists F.reads (session_of self.old) (session_of self.new)) }
+        ensures { OnOk result (Reads F.lists F.reads (folder_dialogue_of self.old) (folder_dialogue_of self.new)) }
     {
         let folders = mem::replace(&mut self.folders, Vec::new(alloc));
         for folder in &folders {
@@ -116,7 +116,7 @@ impl<F: Files> FolderServer<F> {
 
     // Notes the folders that the client opens.
     fn note_folders(&mut self, alloc: Global, params: &Value<'_>) -> Result<(), AllocError>
-        ensures { session_of self.new ≡ session_of self.old }
+        ensures { folder_dialogue_of self.new ≡ folder_dialogue_of self.old }
     {
         for uri in &opened_folders(alloc, params)? {
             if let Some(path) = path_of(alloc, uri)? {
@@ -128,7 +128,7 @@ impl<F: Files> FolderServer<F> {
 
     // A document is open now: its file counts as the client has it.
     fn note_open(&mut self, alloc: Global, params: &Value<'_>) -> Result<(), AllocError>
-        ensures { OnOk result (Reads F.lists F.reads (session_of self.old) (session_of self.new)) }
+        ensures { OnOk result (Reads F.lists F.reads (folder_dialogue_of self.old) (folder_dialogue_of self.new)) }
     {
         if let Some(uri) = document_in(params)
             && let Some(path) = path_of(alloc, uri)?
@@ -141,7 +141,7 @@ impl<F: Files> FolderServer<F> {
 
     // A document is closed: its file counts as it is stored.
     fn note_closed(&mut self, alloc: Global, params: &Value<'_>) -> Result<(), AllocError>
-        ensures { OnOk result (Reads F.lists F.reads (session_of self.old) (session_of self.new)) }
+        ensures { OnOk result (Reads F.lists F.reads (folder_dialogue_of self.old) (folder_dialogue_of self.new)) }
     {
         if let Some(uri) = document_in(params)
             && let Some(path) = path_of(alloc, uri)?
@@ -154,7 +154,7 @@ impl<F: Files> FolderServer<F> {
 
     // Some files have changed, were made or are gone.
     fn note_changes(&mut self, alloc: Global, params: &Value<'_>) -> Result<(), AllocError>
-        ensures { OnOk result (Reads F.lists F.reads (session_of self.old) (session_of self.new)) }
+        ensures { OnOk result (Reads F.lists F.reads (folder_dialogue_of self.old) (folder_dialogue_of self.new)) }
     {
         for uri in &changed_files(alloc, params)? {
             let Some(path) = path_of(alloc, uri)? else {
@@ -167,7 +167,7 @@ impl<F: Files> FolderServer<F> {
 
     // What a notification says of files.
     fn note(&mut self, alloc: Global, method: &str, params: &Value<'_>) -> Result<(), AllocError>
-        ensures { OnOk result (Reads F.lists F.reads (session_of self.old) (session_of self.new)) }
+        ensures { OnOk result (Reads F.lists F.reads (folder_dialogue_of self.old) (folder_dialogue_of self.new)) }
     {
         match method {
             "initialized" => self.read_folders(alloc),
@@ -180,7 +180,7 @@ impl<F: Files> FolderServer<F> {
 }
 
 impl<F: Files> Service for FolderServer<F> {
-    ghost steps = { λ old id method params reply new. Steps F.lists F.reads (session_of old) id method params reply (session_of new) };
+    ghost steps = { λ old id method params reply new. Steps F.lists F.reads (folder_dialogue_of old) id method params reply (folder_dialogue_of new) };
 
     fn request(
         &mut self,
@@ -191,8 +191,8 @@ impl<F: Files> Service for FolderServer<F> {
     ) -> Result<Vec<u8>, AllocError>
         requires { HasNumbers (value_view id.now) }
         ensures answers { IfOk result (λ body. IsAnswer (value_view id.now) body.items) }
-        ensures step { IfOk result (λ body. Steps F.lists F.reads (session_of self.old) (Some (value_view id.now)) method.now (value_view params.now) (Answer body)
-            (session_of self.new)) }
+        ensures step { IfOk result (λ body. Steps F.lists F.reads (folder_dialogue_of self.old) (Some (value_view id.now)) method.now (value_view params.now)
+            (Answer body) (folder_dialogue_of self.new)) }
     {
         if method == "initialize" {
             self.note_folders(alloc, params)?;
@@ -208,7 +208,8 @@ impl<F: Files> Service for FolderServer<F> {
     ) -> Result<Reply, AllocError>
         ensures replies { IfOk result (Replies None) }
         ensures ends { IfOk result (EndsOnlyIf (method.now ≡ codes "exit")) }
-        ensures step { IfOk result (λ reply. Steps F.lists F.reads (session_of self.old) None method.now (value_view params.now) reply (session_of self.new)) }
+        ensures step { IfOk result (λ reply. Steps F.lists F.reads (folder_dialogue_of self.old) None method.now (value_view params.now) reply
+            (folder_dialogue_of self.new)) }
     {
         self.note(alloc, method, params)?;
         // bound to a name, so that its clauses on `Ok` are found

@@ -1,6 +1,6 @@
 // A whole run.
 ghost use Rattle.std.specs.Prelude.{IfErr, IfOk};
-ghost use Rattle.gqlls_files.specs.Sessions.{Fails, Serves};
+ghost use Rattle.gqlls_files.specs.FolderDialogues.{Fails, Serves};
 
 use crate::folder::FolderServer;
 use byte_devices::{Fault, Sink, Source};

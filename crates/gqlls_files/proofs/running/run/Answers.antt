@@ -5,21 +5,21 @@ use Rattle.rpc_serving.proofs.Views.{fails_of, served_of}
 use Rattle.gqlls_run.specs.Dialogue.{Dialogue, begun}
 use Rattle.gqlls_run.specs.State.{dialogue_of}
 use Rattle.gqlls_run.specs.declared.server.Server.{Server}
-use Rattle.gqlls_files.specs.Sessions.{Steps, opening}
-use Rattle.gqlls_files.specs.State.{session_of}
+use Rattle.gqlls_files.specs.FolderDialogues.{Steps, opening}
+use Rattle.gqlls_files.specs.State.{folder_dialogue_of}
 use Rattle.gqlls_files.specs.declared.folder.FolderServer.{FolderServer}
 use Rattle.gqlls_files.proofs.running.run.Goals as goal
 
 opens : {F : Type 0} (limits : Limits) (files : F) (server : Server) (service : FolderServer F) → dialogue_of server ≡ begun limits
-    → session_of service ≡ record { dialogue = dialogue_of server; files = files } → session_of service ≡ opening limits files
+    → folder_dialogue_of service ≡ record { dialogue = dialogue_of server; files = files } → folder_dialogue_of service ≡ opening limits files
 opens limits files server service begins is = is ∙ ap (λ (dialogue : Dialogue). record { dialogue = dialogue; files = files }) begins
 
 pub returns-clause-ok : goal.returns-clause-ok
 returns-clause-ok g c =
     IfOk-weaker c.serve.result _ _ (λ status served. record {
-      last = session_of c.serve.new.service;
+      last = folder_dialogue_of c.serve.new.service;
       served =
-          served_of session_of (Steps g.F.Files.lists g.F.Files.reads) _ _ _ _ _ _ _
+          served_of folder_dialogue_of (Steps g.F.Files.lists g.F.Files.reads) _ _ _ _ _ _ _
           (opens _ _ c.new.result c.new-server.result c.new.ensures c.new-server.ensures) status served;
     })
     c.serve.ensures.ok
@@ -27,9 +27,9 @@ returns-clause-ok g c =
 pub returns-clause-err : goal.returns-clause-err
 returns-clause-err g c =
     IfErr-weaker c.serve.result _ _ (λ fault ends. record {
-      last = session_of c.serve.new.service;
+      last = folder_dialogue_of c.serve.new.service;
       ends =
-          fails_of session_of (Steps g.F.Files.lists g.F.Files.reads) _ _ _ _ _ _ _
+          fails_of folder_dialogue_of (Steps g.F.Files.lists g.F.Files.reads) _ _ _ _ _ _ _
           (opens _ _ c.new.result c.new-server.result c.new.ensures c.new-server.ensures) fault ends;
     })
     c.serve.ensures.err

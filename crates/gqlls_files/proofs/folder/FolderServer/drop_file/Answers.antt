@@ -1,5 +1,5 @@
 use Rattle.std.proofs.Common.{refl}
-use Rattle.gqlls_files.specs.Sessions.{dropped, nothing}
+use Rattle.gqlls_files.specs.FolderDialogues.{dropped, nothing}
 use Rattle.gqlls_files.proofs.folder.FolderServer.drop_file.Goals as goal
 
 pub returns : goal.returns

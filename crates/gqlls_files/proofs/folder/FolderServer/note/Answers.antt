@@ -1,4 +1,4 @@
-use Rattle.gqlls_files.specs.Sessions.{nothing}
+use Rattle.gqlls_files.specs.FolderDialogues.{nothing}
 use Rattle.gqlls_files.proofs.folder.FolderServer.note.Goals as goal
 
 pub returns-in_default : goal.returns-in_default

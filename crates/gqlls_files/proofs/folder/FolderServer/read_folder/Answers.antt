@@ -1,12 +1,12 @@
 use Rattle.std.proofs.Common.{subst}
 use Rattle.named_files.specs.Finding.{Lists}
-use Rattle.gqlls_files.specs.State.{session_of}
+use Rattle.gqlls_files.specs.State.{folder_dialogue_of}
 use Rattle.gqlls_files.proofs.Reading.{reads_lists, reads_on, within}
 use Rattle.gqlls_files.proofs.folder.FolderServer.read_folder.Goals as goal
 
 pub loop-named-init : goal.loop-named-init
 loop-named-init g c =
-    reads_lists g.F.Files.lists g.F.Files.reads (session_of c.args.self.now) _
+    reads_lists g.F.Files.lists g.F.Files.reads (folder_dialogue_of c.args.self.now) _
     (subst (λ (files : g.row.F.Denot). Lists g.F.Files.lists files c.named_files.new.files.files) c.begin.ensures
     (within g.F.Files.lists _ _ c.named_files.ensures.lists))
 

@@ -1,4 +1,4 @@
-use Rattle.gqlls_files.specs.Sessions.{nothing}
+use Rattle.gqlls_files.specs.FolderDialogues.{nothing}
 use Rattle.gqlls_files.proofs.Reading.{reads_on}
 use Rattle.gqlls_files.proofs.folder.FolderServer.read_folders.Goals as goal
 

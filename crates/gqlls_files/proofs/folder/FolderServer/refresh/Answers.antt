@@ -4,7 +4,7 @@ use Rattle.file_uris.specs.Uris.{uri_of}
 use Rattle.gqlls_run.specs.Dialogue.{Dialogue}
 use Rattle.gqlls_run.specs.State.{dialogue_of}
 use Rattle.gqlls_run.specs.Told.{Keeps}
-use Rattle.gqlls_files.specs.Sessions.{kept, nothing, passed_over}
+use Rattle.gqlls_files.specs.FolderDialogues.{kept, nothing, passed_over}
 use Rattle.gqlls_files.proofs.folder.FolderServer.refresh.Goals as goal
 
 pub returns-then-not-is_graphql : goal.returns-then-not-is_graphql
