@@ -1,5 +1,5 @@
 -- The first errors of a text.
-use Rattle.std.proofs.Common.{◌≡◌, ℕ, ◌+◌, ◌<◌, List, ◌++◌, map, take, drop, length, get_or, ap, sym, ◌∙◌, append_assoc}
+use Rattle.std.proofs.Common.{◌≡◌, ℕ, ◌+◌, ◌<◌, List, [], ◌∷◌, ◌++◌, refl, map, take, drop, length, get_or, ap, sym, ◌∙◌, append_assoc}
 use Rattle.std.proofs.lemmas.List.{take-map, drop_more}
 use Rattle.apollo_parser.specs.Diagnostics.{Diagnostic}
 use Rattle.first_errors.specs.First.{begun, first_of, first_of_each}
@@ -8,6 +8,11 @@ use Rattle.first_errors.specs.First.{begun, first_of, first_of_each}
 pub cut : {X Y : Type 0} (h : X → Y) (most : ℕ) (items kept : List X) (all : List Y) → kept ≡ take most items → map h items ≡ all
     → map h kept ≡ take most all
 cut h most items kept all cuts are = ap (map h) cuts ∙ sym (take-map h most items) ∙ ap (take most) are
+
+-- Where no part is left, no error is the first of one.
+pub none_left : (errors : List Diagnostic) → first_of_each [] errors ≡ []
+none_left [] = refl
+none_left (error ∷ errors) = none_left errors
 
 -- One error more.
 pub next : {X : Type 0} (h : X → Diagnostic) (left later : List ℕ) (errors : List X) (i : ℕ) (error : X) (found found' whole : List Diagnostic)

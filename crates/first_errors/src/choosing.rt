@@ -68,6 +68,10 @@ fn first_of_each<'i, A: Allocator>(
     let mut found = Vec::new(alloc);
     let mut left = starts;
     for error in errors {
+        // the last part has its error, and there may be millions more
+        if left.is_empty() {
+            return Ok(found);
+        }
         let count = begun(left, error.index());
         let (_, later) = left.split_at(count);
         push_first(&mut found, count, *error)?;

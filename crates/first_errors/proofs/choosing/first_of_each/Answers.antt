@@ -1,7 +1,9 @@
-use Rattle.std.proofs.Common.{◌≡◌, ℕ, sym, ◌∙◌, ap, map, ◌++◌, drop}
+use Rattle.std.proofs.Common.{◌≡◌, ℕ, List, [], sym, ◌∙◌, ap, map, ◌++◌, drop, append-nil, arith}
+use Rattle.std.proofs.lemmas.Bool.Decides.{nat_tests}
+use Rattle.std.proofs.lemmas.List.{nil_from_length}
 use Rattle.apollo_parser.specs.Errors.{error_of}
-use Rattle.first_errors.specs.First.{begun, first_of}
-use Rattle.first_errors.proofs.Firsts.{next}
+use Rattle.first_errors.specs.First.{begun, first_of, first_of_each}
+use Rattle.first_errors.proofs.Firsts.{next, none_left}
 use Rattle.first_errors.proofs.choosing.first_of_each.Goals as goal
 
 pub loop-error-preserved : goal.loop-error-preserved
@@ -14,3 +16,12 @@ loop-error-preserved g c =
     (c.split_at.ensures.back ∙ ap (λ (n : ℕ). drop n c.loop-error.left.now) count)
     (c.in_ok-push_first.ensures ∙ ap (λ (n : ℕ). map error_of c.loop-error.found.items ++ first_of n error) count)
     (sym c.error-item.is) c.loop-error.invariant
+
+-- no part is left
+pub returns-then-is_empty : goal.returns-then-is_empty
+returns-then-is_empty g c =
+    let found = map error_of c.loop-error.found.items in
+    let rest = map error_of (drop c.loop-error.error-index c.args.errors.now) in
+    let none : c.loop-error.left.now ≡ [] = nil_from_length c.loop-error.left.now (grind (arith, nat_tests)) in
+    sym (ap (λ (left : List ℕ). found ++ first_of_each left rest) none ∙ ap (λ l. found ++ l) (none_left rest) ∙ append-nil found)
+    ∙ c.loop-error.invariant
