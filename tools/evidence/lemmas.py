@@ -14,7 +14,8 @@ def answers(call):
     found = []
     for path in sorted((CRATES / call.crate / "proofs").rglob(f"{call.name}/*.antt")):
         above = path.relative_to(CRATES / call.crate / "proofs").parts[:-2]
-        owners = [part for part in above if part.split("+")[0] == call.owner or call.owner in part.split("+")]
+        # an impl of a trait is called by its type and the trait
+        owners = [part for part in above if part.split("+")[0].endswith(call.owner) or call.owner in part.split("+")]
         if path.stem in ("Answers", "Invariants") and set(place) <= set(above) and (owners or not call.owner):
             found.append(path)
     return found

@@ -4,8 +4,9 @@ use Rattle.gqlfmt_files.specs.declared.settling.Mode.{Mode}
 use Rattle.gqlfmt_files.specs.declared.settling.Mode.TheVariants.{Write, Check, Diff, Print}
 use Rattle.gqlfmt_files.specs.declared.settling.Settled.TheVariants.{Done, Found}
 use Rattle.gqlfmt_run.specs.declared.formatting.Refusal.{Refusal}
+use Rattle.gqlfmt_run.specs.declared.formatting.Refusal.TheVariants.{Errors, Outgrown, TooLong}
 use Rattle.gqlfmt_run.specs.declared.job.Bounds.{Bounds}
-use Rattle.gqlfmt_run.specs.Formatting.{IsLaidOut, IsRefusedFor, IsChanged, IsShown}
+use Rattle.gqlfmt_run.specs.Formatting.{IsLaidOut, IsRefused, IsRefusedFor, IsChanged, IsShown}
 use Rattle.gqlfmt_run.specs.Input.{IsOutput, kept, settled_of}
 
 pub of_same : (mode : Mode) (bounds : Bounds) (name source output : List ℕ) → IsLaidOut bounds source source → output ≡ kept mode source
@@ -26,10 +27,14 @@ of_changed Check bounds name source text output changed shown =
 of_changed Diff bounds name source text output changed shown =
     inr (record { looks = λ e. (cc); text = text; changed = changed; shown = shown changed.other })
 
-pub of_refused : (mode : Mode) (bounds : Bounds) (name source output : List ℕ) (refusal : Refusal) → IsRefusedFor bounds source refusal
-    → output ≡ []
+pub is-refused : {A : Type 0} (bounds : Bounds) (source : List ℕ) (refusal : Refusal A) → IsRefusedFor bounds source refusal → IsRefused bounds source
+is-refused bounds source (Errors first) h = inl h.0
+is-refused bounds source Outgrown h = inr (inl h)
+is-refused bounds source TooLong h = inr (inr h)
+
+pub of_refused : (mode : Mode) (bounds : Bounds) (name source output : List ℕ) → IsRefused bounds source → output ≡ []
     → IsOutput mode bounds name source Found output
-of_refused Write bounds name source output refusal h empty = inl ((refusal, h), empty)
-of_refused Print bounds name source output refusal h empty = inl ((refusal, h), empty)
-of_refused Check bounds name source output refusal h empty = inl ((refusal, h), empty)
-of_refused Diff bounds name source output refusal h empty = inl ((refusal, h), empty)
+of_refused Write bounds name source output h empty = inl (h, empty)
+of_refused Print bounds name source output h empty = inl (h, empty)
+of_refused Check bounds name source output h empty = inl (h, empty)
+of_refused Diff bounds name source output h empty = inl (h, empty)

@@ -23,12 +23,13 @@ use Rattle.gqlfmt_run.specs.Formatting.{IsRevised}
 use Rattle.gqlfmt_run.specs.Status.{status_of}
 use Rattle.gqlfmt_run.specs.Paths.{Desk, FollowsText, Handles, HandlesAll, HandlesFound}
 use Rattle.gqlfmt_run.specs.Showing.{Shows}
+use Rattle.gqlfmt_run.proofs.Outputs.{is-refused}
 
 pub ord_max-nat : (a b : ℕ) → ord_max nat_cmp a b ≡ max a b
 ord_max-nat a b = grind (arith, nat_tests)
 
 module _ {S : Type 0} (reads : S → List ℕ → Result (List ℕ) Error → S → Type 0) (replaces : S → List ℕ → List ℕ → Bool → S → Type 0) where
-  found : {A : Type 0} (X : Type 0) (mode : Mode) (bounds : Bounds) (path source : List ℕ) (revised : Revised A Refusal) (old new : S)
+  found : {A : Type 0} (X : Type 0) (mode : Mode) (bounds : Bounds) (path source : List ℕ) (revised : Revised A (Refusal A)) (old new : S)
       (out out' : Account) → IsUtf8 source
       → IsRevised bounds source revised → Settles replaces {X = X} mode path revised (Ok Found) old new → Shows mode path source revised (Ok tt) out out'
       → FollowsText reads replaces mode bounds path source (Ok Found) old out new out'
@@ -36,10 +37,10 @@ module _ {S : Type 0} (reads : S → List ℕ → Result (List ℕ) Error → S 
   found X mode bounds path source (Changed text) old new out out' utf8 made settled shown =
       (utf8, settled.1, inr (shown.0, record { looks = settled.0; text = _; changed = made; shown = shown.1 made.other }, shown.2))
   found X mode bounds path source (Refused refusal) old new out out' utf8 made settled shown =
-      (utf8, settled, inl ((refusal, made), shown))
+      (utf8, settled, inl (is-refused bounds source refusal made, shown))
 
   -- A file whose text is refused or shown. The text is known as it was read, as a slice and as a text.
-  pub found-handled : {A : Type 0} (X : Type 0) (mode : Mode) (bounds : Bounds) (path bytes slice source : List ℕ) (revised : Revised A Refusal)
+  pub found-handled : {A : Type 0} (X : Type 0) (mode : Mode) (bounds : Bounds) (path bytes slice source : List ℕ) (revised : Revised A (Refusal A))
       (old middle new : S) (out out' : Account)
       → reads old path (Ok bytes) middle → slice ≡ bytes → (source ≡ slice) × IsUtf8 slice → IsRevised bounds source revised
       → Settles replaces {X = X} mode path revised (Ok Found) middle new → Shows mode path source revised (Ok tt) out out'

@@ -1,5 +1,7 @@
 -- What formatting makes of a text, and what is shown of that.
-use Rattle.std.specs.Prelude.{◌≡◌, ◌≢◌, ◌<◌, ◌≤◌, ◌⊎◌, ◌*◌, ◌-◌, ◌^◌, ℕ, min, max, List, [], ◌∷◌, ◌++◌, length, codes, string_bytes, Option, Some, None}
+use Rattle.std.specs.Prelude.{◌≡◌, ◌≢◌, ◌<◌, ◌≤◌, ◌⊎◌, ◌*◌, ◌-◌, ◌^◌, ℕ, min, max, List, [], ◌∷◌, ◌++◌, length, map, codes, string_bytes, Option, Some, None}
+use Rattle.apollo_parser.specs.Errors.{error_of}
+use Rattle.formatter.specs.Finding.{AreFirstOf}
 use Rattle.formatter.specs.Formatted as format
 use Rattle.formatter.specs.Lengths.{longest_layout}
 use Rattle.formatter.specs.Within.{IsFormattedWithin, IsOutgrown, HasCommentsAlone, AreCommentsWithin, AreCommentsOutgrown}
@@ -50,15 +52,20 @@ pub record IsTooLong (bounds : Bounds) (source : List ℕ) : Type 0 where
   pub text : format.IsDocument source bounds.limits.recursion bounds.limits.tokens ⊎ HasCommentsAlone bounds.limits source
   pub few : most_of bounds.most_output source < 2 * longest_layout bounds.limits.recursion (length source)
 
+-- how many errors of a source are shown at most
+abbrev pub most_shown : ℕ
+most_shown = 20
+
 -- why a source is left as it is
-abbrev pub IsRefusedFor : Bounds → List ℕ → Refusal → Type 0
-IsRefusedFor bounds source Errors = HasErrors bounds.limits source
+abbrev pub IsRefusedFor : {A : Type 0} → Bounds → List ℕ → Refusal A → Type 0
+IsRefusedFor bounds source (Errors first) =
+    HasErrors bounds.limits source × AreFirstOf bounds.limits source most_shown (map error_of first.errors.items) first.more
 IsRefusedFor bounds source Outgrown = HasOutgrown bounds.limits source
 IsRefusedFor bounds source TooLong = IsTooLong bounds source
 
 -- the source is left as it is
 abbrev pub IsRefused : Bounds → List ℕ → Type 0
-IsRefused bounds source = (refusal : Refusal) × IsRefusedFor bounds source refusal
+IsRefused bounds source = HasErrors bounds.limits source ⊎ HasOutgrown bounds.limits source ⊎ IsTooLong bounds source
 
 -- this is its formatted text, and another text than the source
 pub record IsChanged (bounds : Bounds) (source text : List ℕ) : Type 0 where
@@ -66,7 +73,7 @@ pub record IsChanged (bounds : Bounds) (source text : List ℕ) : Type 0 where
   pub other : text ≢ source
 
 -- what formatting makes of a source
-abbrev pub IsRevised : {A : Type 0} → Bounds → List ℕ → Revised A Refusal → Type 0
+abbrev pub IsRevised : {A : Type 0} → Bounds → List ℕ → Revised A (Refusal A) → Type 0
 IsRevised bounds source Same = IsLaidOut bounds source source
 IsRevised bounds source (Changed text) = IsChanged bounds source (string_bytes text)
 IsRevised bounds source (Refused refusal) = IsRefusedFor bounds source refusal

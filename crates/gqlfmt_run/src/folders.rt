@@ -8,13 +8,13 @@ use crate::ignoring::{OTHER_RULES, OWN_RULES};
 use crate::job::Job;
 use crate::report::tell;
 use byte_devices::{Fault, Sink};
-use formatter::{DocumentFormatter, ErrorFinder};
+use formatter::DocumentFormatter;
 use gqlfmt_files::Files;
 use ignore_rules::Rules;
 use named_files::named_files;
 use std::alloc::Allocator;
 
-impl<A: Allocator + Copy, L: DocumentFormatter + ErrorFinder> Job<'_, A, L> {
+impl<A: Allocator + Copy, L: DocumentFormatter> Job<'_, A, L> {
     // Formats the files that a path names, but for those left out, and gives the greatest of their statuses.
     fn format_path<F: Files, W: Sink, E: Sink>(
         &self,

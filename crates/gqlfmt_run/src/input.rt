@@ -9,7 +9,7 @@ ghost use Rattle.gqlfmt_run.specs.Input.{IsOutput, kept, settled_of};
 use crate::job::Job;
 use crate::showing::shown;
 use byte_devices::{Fault, Sink, Source, read_to_end, write_all};
-use formatter::{DocumentFormatter, ErrorFinder};
+use formatter::DocumentFormatter;
 use gqlfmt_files::{Mode, Revised, Settled};
 use std::alloc::{AllocError, Allocator};
 
@@ -33,7 +33,7 @@ fn settled_of(mode: Mode) -> Settled
     }
 }
 
-impl<A: Allocator + Copy, L: DocumentFormatter + ErrorFinder> Job<'_, A, L> {
+impl<A: Allocator + Copy, L: DocumentFormatter> Job<'_, A, L> {
     // What is written of a text of this name, and what came of it: nothing where it is refused, and `complaints` have why.
     #[tactic(auto, using(crate::proofs::Outputs::of_same, crate::proofs::Outputs::of_changed, crate::proofs::Outputs::of_refused))]
     fn output_of<E: Sink>(
@@ -54,7 +54,7 @@ impl<A: Allocator + Copy, L: DocumentFormatter + ErrorFinder> Job<'_, A, L> {
                 Ok((settled_of(self.mode), output))
             }
             Revised::Refused(refusal) => {
-                self.complain(complaints, name, source, refusal)?;
+                self.complain(complaints, name, source, &refusal)?;
                 Ok((Settled::Found, String::new(self.alloc)))
             }
         }

@@ -13,12 +13,12 @@ use crate::report::tell_of_file;
 use crate::showing::shown;
 use crate::status::status_of;
 use byte_devices::{Fault, Sink, write_all};
-use formatter::{DocumentFormatter, ErrorFinder};
+use formatter::DocumentFormatter;
 use gqlfmt_files::{Files, Mode, Revised, Settled, settle};
 use named_files::Named;
 use std::alloc::Allocator;
 
-impl<A: Allocator + Copy, L: DocumentFormatter + ErrorFinder> Job<'_, A, L> {
+impl<A: Allocator + Copy, L: DocumentFormatter> Job<'_, A, L> {
     // Tells why a text is refused, or writes what a mode that changes nothing shows of another one.
     fn show<W: Sink, E: Sink>(
         &self,
@@ -26,15 +26,15 @@ impl<A: Allocator + Copy, L: DocumentFormatter + ErrorFinder> Job<'_, A, L> {
         complaints: &mut E,
         path: &str,
         source: &str,
-        revised: Revised<A, Refusal>,
+        revised: Revised<A, Refusal<'_, A>>,
     ) -> Result<(), Fault>
-        ensures output { Shows self.now.mode path.now source.now revised result (W.account writer.old) (W.account writer.new) }
+        ensures output { Shows self.now.mode path.now source.now revised.entry result (W.account writer.old) (W.account writer.new) }
         ensures silent { OnErr result (E.account complaints.new ≡ E.account complaints.old) }
     {
         match revised {
             Revised::Same => Ok(()),
             Revised::Refused(refusal) => {
-                self.complain(complaints, path, source, refusal)?;
+                self.complain(complaints, path, source, &refusal)?;
                 Ok(())
             }
             Revised::Changed(text) => {

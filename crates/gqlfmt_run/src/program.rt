@@ -11,7 +11,7 @@ use crate::misuse::explain;
 use crate::report::{say, tell};
 use crate::status::status_of;
 use byte_devices::{Fault, Sink, Source, write_all};
-use formatter::{DocumentFormatter, ErrorFinder};
+use formatter::DocumentFormatter;
 use gqlfmt_files::Files;
 use program_words::gqlfmt::{Request, options};
 use program_words::information::Information;
@@ -41,7 +41,7 @@ fn print<W: Sink>(writer: &mut W, page: Information) -> u8
     }
 }
 
-impl<A: Allocator + Copy, L: DocumentFormatter + ErrorFinder> Job<'_, A, L> {
+impl<A: Allocator + Copy, L: DocumentFormatter> Job<'_, A, L> {
     // Formats standard input, and gives the status.
     fn format_standard_input<R: Source, W: Sink, E: Sink>(
         &self,
@@ -84,14 +84,7 @@ impl<A: Allocator + Copy, L: DocumentFormatter + ErrorFinder> Job<'_, A, L> {
 
 /// Carries out the request in the words after the program's name, and gives the status: 0 when all is done, 1 when a text has errors or a mode that
 /// changes nothing found a change, 2 when something could not be done or the program is not called so.
-pub fn run<
-    A: Allocator + Copy,
-    L: DocumentFormatter + ErrorFinder,
-    R: Source,
-    W: Sink,
-    E: Sink,
-    F: Files,
->(
+pub fn run<A: Allocator + Copy, L: DocumentFormatter, R: Source, W: Sink, E: Sink, F: Files>(
     alloc: A,
     formatter: &L,
     reader: &mut R,

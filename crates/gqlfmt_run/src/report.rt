@@ -9,15 +9,11 @@ use crate::formatting::Refusal;
 use crate::job::Job;
 use byte_devices::{Fault, Sink, write_all};
 use first_errors::{FirstErrors, for_people, shown_at};
-use formatter::ErrorFinder;
 use gqlfmt_files::{Files, Settled};
 use line_index::LineIndex;
 use marked_lines::{Remark, complaint, push_message, push_more};
 use std::alloc::{AllocError, Allocator};
 use std::io;
-
-// How many errors of a text are shown at most.
-const SHOWN: usize = 20;
 
 /// A line `NAME:LINE:COLUMN: MESSAGE` for each error, and below it the line of the text with the position marked; then how many more errors there are.
 /// Lines and columns count from 1, columns in characters.
@@ -50,16 +46,16 @@ pub fn say<E: Sink>(complaints: &mut E, text: &str)
     let _ = write_all(complaints, text.as_bytes());
 }
 
-impl<A: Allocator + Copy, L: ErrorFinder> Job<'_, A, L> {
+impl<A: Allocator + Copy, L> Job<'_, A, L> {
     // Why a text is left as it is.
-    fn reasons(&self, name: &str, source: &str, refusal: Refusal) -> Result<String<A>, AllocError> {
+    fn reasons(
+        &self,
+        name: &str,
+        source: &str,
+        refusal: &Refusal<'_, A>,
+    ) -> Result<String<A>, AllocError> {
         match refusal {
-            Refusal::Errors => {
-                let first = self
-                    .formatter
-                    .first_errors(self.alloc, source, self.bounds.limits, SHOWN)?;
-                render_report(self.alloc, name, source, &first)
-            }
+            Refusal::Errors(first) => render_report(self.alloc, name, source, first),
             Refusal::Outgrown => {
                 let reason = "it would have more tokens than allowed when formatted";
                 complaint(self.alloc, "gqlfmt", name, reason)
@@ -77,7 +73,7 @@ impl<A: Allocator + Copy, L: ErrorFinder> Job<'_, A, L> {
         complaints: &mut E,
         name: &str,
         source: &str,
-        refusal: Refusal,
+        refusal: &Refusal<'_, A>,
     ) -> Result<(), AllocError>
         ensures { OnErr result (E.account complaints.new ≡ E.account complaints.old) }
     {

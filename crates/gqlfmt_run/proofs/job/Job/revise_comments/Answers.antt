@@ -4,7 +4,7 @@ use Rattle.gqlfmt_run.proofs.job.Job.revise_comments.Goals as goal
 
 -- comments alone, whose formatted text is too long
 pub returns-in-Err-TooLong : goal.returns-in-Err-TooLong
-returns-in-Err-TooLong g c = λ _.
+returns-in-Err-TooLong g c = λ _ _.
     let small = c.in-Err-TooLong.ensures.small c.in-Err-TooLong.field-0-is in
     let most = c.most_of-most.ensures in
     comments-too-long c.args.self.now.bounds c.args.source.now
