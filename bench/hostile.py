@@ -7,6 +7,9 @@ There are `--sizes` sizes from `--bytes` on, and `--rounds` runs of each in turn
 A size that would take more than `--gigabytes`, by the memory of the size before, is left out. `--text` is the only text that is run. Ends with status 1 where twice
 a text takes more than 2.2 times the program's own seconds, if the text takes a hundredth of a second or more.
 
+With `--within` it prints another table, of texts of `--bytes` alone: the shortest, the middle and the longest of `--rounds` runs by the clock, and the memory.
+Every run counts. Ends with status 1 where one takes more than that many seconds.
+
 What a run takes in all is exact. Which part of it is the program's own the kernel finds out by samples, so a single short run says little of that: the
 seconds are those of the shortest run, divided as the sums of all runs are."""
 
@@ -87,9 +90,27 @@ def written(folder, make, sizes):
     return texts
 
 
+def within(command, most, size, rounds, only):
+    """Prints the seconds by the clock and the memory of each text of some bytes. Whether no run took more seconds than `most`."""
+    slow = False
+    print("| | shortest | middle | longest | memory |\n|" + "---|" * 5)
+    with tempfile.TemporaryDirectory() as folder:
+        for name, make in TEXTS.items():
+            if only not in (None, name):
+                continue
+            (path,) = written(folder, make, [size])
+            runs = sorted((Run(command, path) for _ in range(rounds)), key=lambda made: made.seconds)
+            slow |= runs[-1].seconds > most
+            cells = " | ".join(f"{made.seconds:.2f}" for made in (runs[0], runs[rounds // 2], runs[-1]))
+            print(f"| {name} | {cells} | {max(made.memory for made in runs) / 1e9:.2f} GB |", flush=True)
+    return not slow
+
+
 def main():
-    given = arguments(__doc__, bytes=6_250_000, sizes=4, rounds=5, gigabytes=10, text=None, program="gqlcst")
+    given = arguments(__doc__, bytes=6_250_000, sizes=4, rounds=5, gigabytes=10, text=None, program="gqlcst", within=0.0)
     program = [built(given.program), *PROGRAMS[given.program]]
+    if given.within:
+        sys.exit(0 if within(program, given.within, given.bytes, given.rounds, given.text) else 1)
     sizes = [given.bytes * 2**i for i in range(given.sizes)]
     print("| | " + " | ".join(f"{size / 1e6:g} MB" for size in sizes) + " | times | memory |\n|" + "---|" * (len(sizes) + 3))
     slow, processors = False, Processors()
