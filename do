@@ -38,6 +38,7 @@ quick() {
     tools/format_texts --check
     tools/promises --check
     tools/words
+    tools/lint
 }
 
 tests() {

@@ -2,7 +2,6 @@
 the message that names the file and the kind."""
 
 import importlib
-import re
 import shutil
 import subprocess
 import sys

@@ -1,11 +1,9 @@
 """Tests the packages where they are made: what needs no bare system."""
 
 import json
-import os
 import re
 import shutil
 import subprocess
-import sys
 import tempfile
 import zipfile
 from pathlib import Path

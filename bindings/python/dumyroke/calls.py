@@ -9,7 +9,7 @@ import struct
 from typing import Any
 
 from . import library, nodes
-from .errors import Error, Errors
+from .errors import Errors
 from .items import Item
 from .kinds import NAMES
 from .library import NO_LIMIT
