@@ -13,6 +13,8 @@ usage: ./do COMMAND
   edits [CRATE..]    tries all edits that must fail, those that the gate leaves out as well (rt must-fail)
   quick-bindings     makes the library for C without a proof, in a minute, and runs its tests and those of Rust and Python
   gate               what a merge has to pass: quick, rt ci, and test
+  fresh              the gate in a bare Debian that has the kit, Python, gcc and git alone, with a network and without one: before a commit that
+                     touches tools/, do or .ci/
   test               the tests of the output of rt ci: formatted texts, figures, C and Python, the page, editors, README, the release
   release [trial]    makes build/release/ after the gate, or tries it in a bare Debian: programs, libraries, the page, packages for Debian,
                      Python, Rust, npm and VS Code
@@ -94,6 +96,7 @@ case $command in
     try) enter "$@"; shift; exec rt try "$@" ;;
     test) tests ;;
     release) exec tools/release "$@" ;;
+    fresh) exec tools/fresh ;;
     gate)
         quick
         RT_JOBS="${RT_JOBS:-$(jobs_here)}" rt ci

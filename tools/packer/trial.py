@@ -1,21 +1,18 @@
-"""Tries the packages where the kit is not: in a bare Debian, which debootstrap makes from the network. It needs root."""
+"""Tries the packages where the kit is not: in a bare Debian."""
 
-import os
 import re
 import shutil
 import subprocess
 import tempfile
-import urllib.request
 from importlib.machinery import SourceFileLoader
 from pathlib import Path
 
 from binder.shared import RUST, TOP, run, stop
 
+from . import debian
 from .here import NPM, npm_example, package
 from .packages import PROGRAMS
 
-SUITE = "trixie"
-REGISTRY = "http://deb.debian.org/debian"
 # What the packages need beside themselves: a C compiler and pkg-config, pip, cargo, node. npm would bring four hundred packages more.
 NEEDED = ["gcc", "libc6-dev", "pkgconf", "python3-pip", "cargo", "nodejs"]
 # The folder of a package's trial in the bare system.
@@ -41,20 +38,6 @@ class Bare:
 
     def __init__(self, root):
         self.root, self.place = root, root / PLACE
-
-    def make(self):
-        """Makes it from the network, and answers whether that was there to the end."""
-        settings = self.root / "etc/dpkg/dpkg.cfg.d"
-        settings.mkdir(parents=True)
-        # it need not survive a crash, so dpkg does not wait for the disk
-        (settings / "unsafe-io").write_text("force-unsafe-io\n")
-        install = ["apt-get", "install", "--quiet", "--yes", "--no-install-recommends", *NEEDED]
-        commands = [
-            ["debootstrap", "--variant=minbase", SUITE, self.root, REGISTRY],
-            ["chroot", self.root, "env", "DEBIAN_FRONTEND=noninteractive", *install],
-        ]
-        silent = {"stdout": subprocess.DEVNULL, "stderr": subprocess.DEVNULL}
-        return all(subprocess.run(command, **silent).returncode == 0 for command in commands)
 
     def run(self, command, folder=".", **how):
         """What a command writes, in a folder of the trial's."""
@@ -156,24 +139,14 @@ TRIALS = [
 ]
 
 
-def why_not():
-    """Why no bare system can be made here, or None."""
-    if os.geteuid() or not shutil.which("debootstrap") or not shutil.which("chroot"):
-        return "there is no debootstrap or no root"
-    try:
-        urllib.request.urlopen(f"{REGISTRY}/dists/{SUITE}/Release", timeout=20).close()
-    except OSError as error:
-        return f"{REGISTRY} is not reached ({error})"
-
-
 def trial():
-    why = why_not()
+    why = debian.why_not()
     if why:
         print(f"{why}: the packages were not tried in a bare Debian")
         return
     with tempfile.TemporaryDirectory() as folder:
         bare = Bare(Path(folder))
-        if not bare.make():
+        if not debian.make(bare.root, NEEDED):
             print("no bare Debian could be made from the network: the packages were not tried in it")
             return
         for trial_of, ending in TRIALS:
