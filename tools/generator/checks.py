@@ -8,7 +8,7 @@ child comes next in lookahead.py.
 import re
 from collections import Counter
 
-from . import nodes, typed_docs
+from . import locations, nodes, typed_docs
 from .accessors import accessors
 from .automata import automaton
 from .grammar import Grammar, type_case
@@ -32,6 +32,8 @@ def checked_grammar():
     check_braces(grammar)
     check_places(grammar)
     check_words(grammar)
+    for fault in locations.faults(grammar):
+        refuse(fault)
     made = Symbols(grammar)
     check_constants(made)
     check_rules(made)
@@ -101,7 +103,8 @@ def check_rows(grammar):
             refuse(f"Rows.antt: no row has the kind {kind}")
     for kind in grammar.leaves:
         if kind not in used and kind not in IN_NO_ROW:
-            refuse(f"Rows.antt: no row has the leaf {kind}")
+            where = f". A directive location is in the list {locations.LISTED} of Choices.antt" if locations.is_one(kind) else ""
+            refuse(f"Rows.antt: no row has the leaf {kind}{where}")
     definitions = ("any_of", tuple(grammar.lists["Definitions"]))
     if grammar.rows["DOCUMENT"] != ("then", definitions, ("many", definitions)):
         refuse("Rows.antt: the row of DOCUMENT is not `some (any_of Definitions)`, for which the brace rule is made")

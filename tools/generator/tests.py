@@ -17,13 +17,17 @@ ROWS = "crates/document_grammar/specs/Rows.antt"
 CHOICES = "crates/document_grammar/specs/Choices.antt"
 DERIVATION = "crates/document_grammar/specs/Derivation.antt"
 RULES = "crates/parser_rules/specs/Rules.antt"
+LOCATIONS = "crates/apollo_grammar/src/grammar/directive.rt"
+LOCATION_TEXT = "crates/apollo_cst_type_system/src/location.rt"
+STANDARD = "crates/schema_members/src/standard.rt"
+LOCATION_PLACES = "crates/schema_members/src/locations.rt"
 SYMBOLS = "tools/generator/symbols.py"
 PLACES = "tools/generator/places.py"
 WORDS = "tools/generator/typed_docs.py"
 # The crates that have generated files.
 WRITTEN = (
     *("document_grammar", "grammar_machine", "parser_rules", "apollo_grammar", "apollo_document", "apollo_parser", "gqlcst_run", "gqlfmt_run", "gqlcheck_run"),
-    *("apollo_tree", "definition_rules", "dumyroke_flat", "dumyroke_validation", "gqlcst", "gqlls", "gqlls_run", *(path.name for path in CRATES.glob("apollo_cst_*"))),
+    *("apollo_tree", "definition_rules", "dumyroke_flat", "dumyroke_validation", "gqlcst", "gqlls", "gqlls_run", "schema_members", *(path.name for path in CRATES.glob("apollo_cst_*"))),
 )
 
 # The file with the mistake, a text that is in it once, what is there in its place, and the message.
@@ -197,6 +201,54 @@ MISTAKES = [
         '"OBJECT_FIELD_CONST", "OBJECT_FIELD"',
         '"OBJECT_FIELD_CONST", "OBJECT_ITEM"',
         "symbols.py: the symbol OBJECT_FIELD_CONST is shown as OBJECT_ITEM",
+    ),
+    (
+        KINDS,
+        "    INPUT_FIELD_DEFINITION_KW,\n",
+        "    INPUT_FIELD_DEFINITION_KW,\n    DIRECTIVE_DEFINITION_KW,\n",
+        "Rows.antt: no row has the leaf DIRECTIVE_DEFINITION_KW. A directive location is in the list DirectiveLocations of Choices.antt",
+    ),
+    (
+        CHOICES,
+        "    ∷ UNION_KW\n    ∷ ENUM_KW\n",
+        "    ∷ ENUM_KW\n    ∷ UNION_KW\n",
+        "document_grammar/src/kind.rt: the enum of kinds has UNION_KW where ENUM_KW should be",
+    ),
+    (
+        RULES,
+        "    ∷ kind.INPUT_FIELD_DEFINITION_KW\n",
+        "",
+        "parser_rules/specs/Rules.antt: executable_locations with type_system_locations lacks INPUT_FIELD_DEFINITION_KW",
+    ),
+    (
+        LOCATIONS,
+        "    SyntaxKind::SCALAR_KW,\n    SyntaxKind::OBJECT_KW,\n",
+        "    SyntaxKind::OBJECT_KW,\n    SyntaxKind::SCALAR_KW,\n",
+        "apollo_grammar/src/grammar/directive.rt: LOCATIONS has OBJECT_KW where SCALAR_KW should be",
+    ),
+    (
+        LOCATIONS,
+        "[SyntaxKind; 19]",
+        "[SyntaxKind; 20]",
+        "apollo_grammar/src/grammar/directive.rt: LOCATIONS has the length 20, and the list DirectiveLocations of Choices.antt has 19 words",
+    ),
+    (
+        LOCATION_TEXT,
+        "number <= SyntaxKind::INPUT_FIELD_DEFINITION_KW",
+        "number <= SyntaxKind::INPUT_OBJECT_KW",
+        "apollo_cst_type_system/src/location.rt: is_location goes from QUERY_KW to INPUT_OBJECT_KW",
+    ),
+    (
+        STANDARD,
+        "ENUM_VALUE INPUT_OBJECT INPUT_FIELD_DEFINITION\n",
+        "ENUM_VALUE INPUT_OBJECT INPUT_FIELD_DEFINITION DIRECTIVE_DEFINITION\n",
+        "schema_members/src/standard.rt: __DirectiveLocation has DIRECTIVE_DEFINITION, which is not in the list",
+    ),
+    (
+        LOCATION_PLACES,
+        '(SyntaxKind::ENUM_VALUE_DEFINITION, "ENUM_VALUE")',
+        '(SyntaxKind::ENUM_VALUE_DEFINITION, "ENUM_VALUES")',
+        "schema_members/src/locations.rt: no place has the directive location ENUM_VALUE",
     ),
     (PLACES, '"fragments": ["2.8"]', '"fragments": ["2.8", "2.4"]', "places.py: CRATES has 2.4 twice"),
     (
