@@ -102,7 +102,8 @@ def try_archive(bare, name):
 def try_wheel(bare, name):
     pip = "python3 -m pip --quiet --disable-pip-version-check"
     bare.run(f"{pip} install --no-index --break-system-packages --root-user-action=ignore {name}")
-    bare.show("README.md", "python3")
+    shutil.copy(TOP / "README.md", bare.place)
+    bare.run("python3 -m doctest README.md")
     bare.show("docs/BINDINGS.md", "python3")
     bare.run(f"{pip} uninstall --yes --break-system-packages --root-user-action=ignore dumyroke")
 
