@@ -225,6 +225,22 @@ def edits_wrong():
             yield from (f"tools/evidence/edits: {call.title} has no clause {clause}" for clause in clauses if clause not in known)
 
 
+def wrong_bodies():
+    """The wrong bodies of tools/evidence/wrong_bodies: each its place among the edits."""
+    for line in (CRATES.parent / "tools/evidence/wrong_bodies").read_text().splitlines():
+        if line and not line.startswith("#"):
+            yield line.rpartition(": ")[2]
+
+
+def wrong_bodies_missing():
+    """Wrong bodies that are no edit any more. One is refused by a test, since each clause of a call lets it say that memory is refused."""
+    there = edit_files()
+    for body in wrong_bodies():
+        crate, is_edit, _ = body.partition("/")
+        if body not in there if is_edit else not (CRATES / crate.split(",")[0]).is_dir():
+            yield f"tools/evidence/wrong_bodies: nothing tries {body} any more"
+
+
 # ---- the definitions
 
 
