@@ -1,7 +1,8 @@
 // What the rules of an ignore file leave out.
-ghost use Rattle.std.specs.Prelude.{◌≡◌, [], IfOk, false};
+ghost use Rattle.std.specs.Prelude.{◌≡◌, ◌<◌, [], IfOk, false, length};
 ghost use Rattle.ignore_rules.specs.Lines.{as_rule, rules_of};
 ghost use Rattle.ignore_rules.specs.Ignored.{as_rules, decided, ignores, is_about, is_below};
+ghost use Rattle.ignore_rules.specs.Tables.{IsClear};
 
 use crate::lines::{Rule, rule_of};
 use crate::matching::fit;
@@ -14,6 +15,19 @@ use std::alloc::{AllocError, Allocator};
 pub struct Rules<A: Allocator> {
     alloc: A,
     rules: Vec<Rule<A>, A>,
+}
+
+// Whether a rule is about this path, of a folder or not.
+fn is_about<A: Allocator>(table: &mut [bool], rule: &Rule<A>, path: &[u8], is_folder: bool) -> bool
+    requires room { length path.now < length table.old }
+    requires clear { IsClear table.old }
+    ensures value { result ≡ is_about is_folder path.now (as_rule rule.now) }
+    ensures clear { IsClear table.new }
+{
+    if rule.folders_only && !is_folder {
+        return false;
+    }
+    fit(table, rule.signs.as_slice(), path)
 }
 
 impl<A: Allocator + Copy> Rules<A> {
@@ -33,39 +47,35 @@ impl<A: Allocator + Copy> Rules<A> {
         Ok(Rules { alloc, rules })
     }
 
-    // Whether a rule is about this path, of a folder or not.
-    fn is_about(&self, rule: &Rule<A>, path: &[u8], is_folder: bool) -> Result<bool, AllocError>
-        ensures { IfOk result (λ it. it ≡ is_about is_folder path.now (as_rule rule.now)) }
-    {
-        if rule.folders_only && !is_folder {
-            return Ok(false);
-        }
-        fit(self.alloc, rule.signs.as_slice(), path)
-    }
-
-    // The last rule about a path decides.
-    fn decide(&self, path: &[u8], is_folder: bool) -> Result<bool, AllocError>
-        ensures { IfOk result (λ it. it ≡ decided is_folder path.now false (as_rules self.now)) }
+    // The last rule about a path decides. The table is a clear one with more places than the path.
+    fn decide(&self, table: &mut [bool], path: &[u8], is_folder: bool) -> bool
+        requires room { length path.now < length table.old }
+        requires clear { IsClear table.old }
+        ensures value { result ≡ decided is_folder path.now false (as_rules self.now) }
+        ensures clear { IsClear table.new }
     {
         let mut ignored = false;
         for rule in &self.rules {
-            if self.is_about(rule, path, is_folder)? {
+            if is_about(table, rule, path, is_folder) {
                 ignored = !rule.keeps;
             }
         }
-        Ok(ignored)
+        ignored
     }
 
     // Whether one of the folders above a path is left out.
-    fn is_below(&self, path: &[u8]) -> Result<bool, AllocError>
-        ensures { IfOk result (λ it. it ≡ is_below (as_rules self.now) [] path.now) }
+    fn is_below(&self, table: &mut [bool], path: &[u8]) -> bool
+        requires room { length path.now < length table.old }
+        requires clear { IsClear table.old }
+        ensures value { result ≡ is_below (as_rules self.now) [] path.now }
+        ensures clear { IsClear table.new }
     {
         for (index, byte) in path.iter().enumerate() {
-            if *byte == SLASH && self.decide(&path[..index], true)? {
-                return Ok(true);
+            if *byte == SLASH && self.decide(table, &path[..index], true) {
+                return true;
             }
         }
-        Ok(false)
+        false
     }
 
     /// Whether the rules leave out the file or the folder at a path, or a folder above it. The path is one from the folder of the ignore file on: one from
@@ -76,9 +86,10 @@ impl<A: Allocator + Copy> Rules<A> {
         let Some(inner) = inner_path(self.alloc, path.as_bytes())? else {
             return Ok(false);
         };
-        if self.is_below(inner.as_slice())? {
-            return Ok(true);
-        }
-        self.decide(inner.as_slice(), is_folder)
+        let mut table = vec![in self.alloc; false; inner.len()]?;
+        table.push(false)?;
+        let is_left_out = self.is_below(table.as_mut_slice(), inner.as_slice())
+            || self.decide(table.as_mut_slice(), inner.as_slice(), is_folder);
+        Ok(is_left_out)
     }
 }

@@ -1,7 +1,11 @@
+use Rattle.std.proofs.Common.{arith}
 use Rattle.ignore_rules.proofs.TableLemmas.{first_table}
 use Rattle.ignore_rules.proofs.matching.fit.Goals as goal
 
-pub returns : goal.returns
-returns g c =
-    let none = c.in_ok-table.ensures.items_if_clones_equal (λ y same. same) in
-    c.fit_in.ensures (rw (c.as_mut_slice.ensures.value, c.in_ok-push.ensures.items, none) (first_table c.args.path.now))
+pub returns-clause-value : goal.returns-clause-value
+returns-clause-value g c =
+    (c.fit_in-window.ensures.places (first_table c.args.path.now c.args.table.now c.requires.room c.requires.clear)).answers 0 (omega arith)
+
+pub returns-clause-clear : goal.returns-clause-clear
+returns-clause-clear g c =
+    c.clear.ensures (c.fit_in-window.ensures.places (first_table c.args.path.now c.args.table.now c.requires.room c.requires.clear)).within
