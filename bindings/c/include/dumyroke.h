@@ -36,12 +36,13 @@ enum dumyroke_status {
     DUMYROKE_NO_ROOM = 9
 };
 
-/* The limits of a parse. */
+/* The limits of a parse. Any number is allowed, and SIZE_MAX is no limit. C makes a number near SIZE_MAX of one below 0, so also no limit: a program that
+ * computes a limit, or reads it as a signed number, has to look whether it is below 0. The same holds for the other limits of this file. */
 typedef struct dumyroke_limits {
     /* How deep selection sets, types and values may nest. Parsing takes 80 to 192 bytes of stack for each level. If the limit is higher than
      * the stack of the thread allows, a deep text ends the program. 500 is the usual limit, and safe. */
     size_t recursion;
-    /* How many tokens are read at most. Ignored tokens count, and so does the end of the text. SIZE_MAX is no limit. */
+    /* How many tokens are read at most. Ignored tokens count, and so does the end of the text. */
     size_t tokens;
 } dumyroke_limits;
 
@@ -229,7 +230,7 @@ typedef struct dumyroke_violation_counts {
  * second call needs just the counted room is tested, not proved.
  *
  *   text       `text_length` bytes of UTF-8.
- *   most       how many violations are looked for.
+ *   most       how many violations are looked for at most: SIZE_MAX for all. With 0 nothing is looked for.
  *   violations room for `violation_room` violations.
  *   messages   room for `message_room` bytes.
  *   counts     what there is. Never NULL.

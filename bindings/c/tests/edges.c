@@ -1,5 +1,5 @@
 /* Calls at the edges: no text, no room, too little room, texts that are not UTF-8, strings that are none, parts of documents, items, both limits,
- * violations of rules, figures of operations.
+ * violations of rules, figures of operations, large numbers.
  * Ends with status 1 at the first check that fails, and says which. */
 #include <stdio.h>
 
@@ -73,6 +73,33 @@ static uint32_t part(part_call *call, const char *text, size_t recursion, size_t
     memset(root, UNTOUCHED, sizeof *root);
     memset(counts, UNTOUCHED, sizeof *counts);
     return call(bytes_of(text), strlen(text), limits, root, 1, NULL, 0, NULL, 0, counts);
+}
+
+/* The borders at which a limit may become another number, and their neighbours. What C makes of -1 is the last one. */
+static const size_t large[] = {
+    0x7fffffff, 0x80000000, 0x80000001, 0xffffffff, 0x100000000, 0x100000001, 0x1fffffffffffff, 0x20000000000000, 0x20000000000001,
+    0x7fffffffffffffff, 0x8000000000000000, 0x8000000000000001, SIZE_MAX - 1, SIZE_MAX, (size_t)-1};
+
+/* A limit of 31 to 64 bits is itself in each call, so nothing meets it. */
+static void large_limits(void)
+{
+    const uint8_t *text = bytes_of("{ a { b } ...F ...G }");
+    dumyroke_counts counts, usual;
+    dumyroke_violation_counts found;
+    dumyroke_element root;
+    size_t i;
+    CHECK(check("{ a { b } }", 11, 500, SIZE_MAX, &usual) == DUMYROKE_OK && usual.errors == 0);
+    for (i = 0; i < sizeof large / sizeof *large; i++) {
+        dumyroke_limits limits = {large[i], large[i]};
+        size_t bytes;
+        CHECK(check("{ a { b } }", 11, large[i], large[i], &counts) == DUMYROKE_OK);
+        CHECK(!memcmp(&counts, &usual, offsetof(dumyroke_counts, status)));
+        CHECK(part(dumyroke_parse_type, "[A]", large[i], large[i], &root, &counts) == DUMYROKE_OK && counts.errors == 0 && counts.text_bytes == 3);
+        CHECK(part(dumyroke_parse_selection_set, "{a}", large[i], large[i], &root, &counts) == DUMYROKE_OK && counts.errors == 0);
+        CHECK(dumyroke_lex(text, 21, large[i], NULL, 0, NULL, 0, NULL, 0, &counts) == DUMYROKE_OK && counts.elements == 18 && counts.errors == 0);
+        CHECK(dumyroke_validate(text, 21, limits, large[i], NULL, 0, NULL, 0, &found) == DUMYROKE_OK && found.violations == 2);
+        CHECK(dumyroke_format(text, 21, limits, NULL, 0, &bytes) == DUMYROKE_NO_ROOM);
+    }
 }
 
 static void not_utf8(void)
@@ -444,6 +471,7 @@ int main(void)
     CHECK(sizeof(dumyroke_violation) == 56 && sizeof(dumyroke_operation) == 88);
     counts_of_texts();
     counts_at_limits();
+    large_limits();
     deeper_than_the_limit();
     not_utf8();
     too_little_room();

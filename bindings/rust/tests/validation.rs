@@ -47,6 +47,24 @@ fn more_than_the_first_room() {
     assert_eq!(measure(Parser::new(&operations)).unwrap()[99].name.as_deref(), Some("Q99"));
 }
 
+/// The borders at which a limit may become another number, and their neighbours.
+fn large() -> impl Iterator<Item = usize> {
+    [31, 32, 53, 63].into_iter().flat_map(|power| [(1 << power) - 1, 1 << power, (1 << power) + 1]).chain([usize::MAX - 1, usize::MAX])
+}
+
+#[test]
+fn large_limits() {
+    let parser = |text, limit| Parser::new(text).recursion_limit(limit).token_limit(limit);
+    for limit in large() {
+        assert_eq!(validate(parser("{...F ...G a { b }}", limit), limit).unwrap().len(), 2);
+        assert_eq!(measure(parser("{a {b}}", limit)).unwrap()[0].figures.depth, 2);
+        assert_eq!(parser("{a {b}}", limit).parse().errors().len(), 0);
+        assert_eq!(parser("{a {b}}", limit).parse_selection_set().errors().len(), 0);
+        assert_eq!(parser("[A]", limit).parse_type().errors().len(), 0);
+        assert_eq!(dumyroke::Lexer::new("{a}").with_limit(limit).lex().1.len(), 0);
+    }
+}
+
 #[test]
 fn figures() {
     let found = measure(Parser::new("{ a a } query Q { b: a @d { b ...F } } fragment F on T { c d }")).unwrap();
