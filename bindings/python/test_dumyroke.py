@@ -1,8 +1,12 @@
 """The tests of the Python package: python3 test_dumyroke.py. They import the package that Python finds."""
 
 import ast
+import concurrent.futures
+import copy
 import doctest
+import multiprocessing
 import os
+import pickle
 import random
 import subprocess
 import sys
@@ -72,6 +76,13 @@ class Trees(unittest.TestCase):
         self.assertEqual(tree.document.definitions[0].find(nodes.FieldDefinition), tree.find(nodes.FieldDefinition))
         self.assertEqual(tree.document.definitions[1].find(nodes.FieldDefinition), [])
 
+    def test_unchanged(self):
+        """An element stays the one that it is."""
+        field = dumyroke.parse("{a}").find(nodes.Field)[0]
+        for name, value in (("index", 5), ("tree", dumyroke.parse("{b}")), ("kind", "NAME"), ("other", 1)):
+            self.assertRaises(AttributeError, setattr, field, name, value)
+        self.assertEqual((field.kind, field.text), ("FIELD", "a"))
+
     def test_equality(self):
         tree, other = dumyroke.parse("{a}"), dumyroke.parse("{a}")
         self.assertEqual(len({tree.root, tree.root, other.root}), 2)
@@ -101,6 +112,7 @@ class Parts(unittest.TestCase):
     def test_types(self):
         tree = dumyroke.parse_type("[Int!]! = 3")
         self.assertEqual((tree.errors, type(tree.root), tree.root.list_type.text), ([], nodes.NonNullType, "[Int!]"))
+        self.assertEqual((type(tree.root.type), tree.root.type, tree.root.type.type.type.name.text), (nodes.ListType, tree.root.list_type, "Int"))
         self.assertEqual([str(error) for error in dumyroke.parse_type("[Int").errors], ["1:5: expected R_BRACK, got EOF"])
         self.assertTrue(dumyroke.parse_type("[[A]]", token_limit=2).errors[0].is_limit)
 
@@ -206,13 +218,13 @@ class Errors(unittest.TestCase):
         self.assertTrue(tree.errors[0].is_limit and tree.token_high == 4 and tree.text == "{a{")
         self.assertEqual(len(dumyroke.check("{a{b}}", recursion_limit=2, token_limit=7)), 0)
         self.assertEqual(dumyroke.check("{a}", recursion_limit=10**30, token_limit=10**30), [])
-        self.assertRaises(ValueError, dumyroke.parse, "{a}", token_limit=-1)
 
     def test_not_unicode(self):
         for call in (dumyroke.parse, dumyroke.check, dumyroke.format, dumyroke.lex, dumyroke.parse_selection_set, dumyroke.parse_type):
             self.assertRaises(UnicodeDecodeError, call, b"{\xff}")
             self.assertRaises(UnicodeEncodeError, call, '{a(b:"\ud800")}')
-            self.assertRaises(TypeError, call, 5)
+            for wrong in (5, None, ["{a}"]):
+                self.assertRaisesRegex(TypeError, "a text is a str or a bytes-like object", call, wrong)
 
     def test_many(self):
         self.assertEqual(dumyroke.check("!" * 5000), dumyroke.parse("!" * 5000).errors)
@@ -243,6 +255,17 @@ class Errors(unittest.TestCase):
                 return b"{"
 
         self.assertEqual([dumyroke.parse(Longer(b"{a}")).text, dumyroke.parse(Other("{a}")).text], ["{a}", "{a}"])
+
+    def test_bytes_likes(self):
+        """What has a buffer of bytes is a text. It may change later."""
+        source = bytearray('{ a(b: "é") }'.encode())
+        for text in (source, memoryview(source), memoryview(bytes(source))[:], memoryview(bytes(reversed(source)))[::-1]):
+            tree = dumyroke.parse(text)
+            self.assertEqual((tree.text, tree.errors, dumyroke.check(text), len(dumyroke.measure(text))), ('{ a(b: "é") }', [], [], 1))
+            self.assertEqual(dumyroke.format(text), '{\n  a(b: "é")\n}\n')
+        tree = dumyroke.parse(source)
+        source[:] = b"changed"
+        self.assertEqual(tree.text, '{ a(b: "é") }')
 
 
 class Validation(unittest.TestCase):
@@ -325,13 +348,131 @@ class Validation(unittest.TestCase):
             self.assertRaises(UnicodeDecodeError, call, b"\xff")
 
 
+# The borders at which a number of C may become another one, and their neighbours.
+LARGE = [2**power + step for power in (31, 32, 53, 63, 64) for step in (-1, 0, 1)] + [10**30, None]
+# What is no count.
+WRONG = [(-1, ValueError), (-(2**64), ValueError), (1.5, TypeError), (1.0, TypeError), (float("nan"), TypeError), (float("inf"), TypeError), ("1", TypeError)]
+
+
+class Numbers(unittest.TestCase):
+    """Each number that a call takes is itself, or no limit, or an error."""
+
+    TWO = "{ ...F ...G a { b } }"
+    CALLS = {
+        "recursion_limit": (dumyroke.parse, dumyroke.parse_selection_set, dumyroke.parse_type, dumyroke.check, dumyroke.format),
+        "token_limit": (dumyroke.parse, dumyroke.parse_selection_set, dumyroke.parse_type, dumyroke.lex, dumyroke.check, dumyroke.format),
+        "max_output": (dumyroke.format,),
+    }
+
+    def test_large(self):
+        for number in LARGE:
+            self.assertEqual(len(dumyroke.validate(self.TWO, most=number)), 2)
+            for name, calls in self.CALLS.items():
+                for call in calls:
+                    self.assertEqual(str(call("{a{b}}", **{name: number})), str(call("{a{b}}")), (call, name, number))
+            for call in (dumyroke.validate, dumyroke.measure):
+                self.assertEqual(str(call("{a{b}}", recursion_limit=number, token_limit=number)), str(call("{a{b}}")))
+            for figure in dumyroke.Figures._fields:
+                self.assertIsNone(dumyroke.check_limits("{a{b}}", **{f"max_{figure}": number}))
+
+    def test_small(self):
+        self.assertEqual([len(dumyroke.validate(self.TWO, most)) for most in (0, 1, 2, True)], [0, 1, 2, 1])
+        self.assertEqual([len(dumyroke.check("{a{b}}", recursion_limit=limit)) > 0 for limit in (0, 1, 2)], [True, True, False])
+        self.assertEqual([len(dumyroke.lex("{a}", token_limit=limit)) for limit in (0, 1, 2, 3, 4)], [1, 2, 3, 4, 3])
+
+    def test_wrong(self):
+        """Also after a call with an equal number that is right, since limits are kept from call to call."""
+        dumyroke.parse("{a}", 1, 1)
+        for number, error in WRONG:
+            self.assertRaises(error, dumyroke.validate, self.TWO, most=number)
+            for name, calls in self.CALLS.items():
+                for call in calls:
+                    self.assertRaises(error, call, "{a}", **{name: number})
+            for call in (dumyroke.validate, dumyroke.measure, dumyroke.check_limits):
+                self.assertRaises(error, call, "{a}", recursion_limit=number)
+                self.assertRaises(error, call, "{a}", token_limit=number)
+            for figure in dumyroke.Figures._fields:
+                self.assertRaises(error, dumyroke.check_limits, "{a}", **{f"max_{figure}": number})
+        self.assertRaisesRegex(ValueError, "^most is below 0: -1$", dumyroke.validate, "{a}", most=-1)
+        self.assertRaisesRegex(TypeError, "^max_depth is an int or None, and not float$", dumyroke.check_limits, "{a}", max_depth=1.5)
+
+    def test_offsets(self):
+        tree = dumyroke.parse("{a}")
+        self.assertEqual(tree.position(3), dumyroke.Position(1, 4, 4))
+        for offset in (-1, 4, 2**64):
+            self.assertRaises(ValueError, tree.position, offset)
+
+
+def no_document(call, text):
+    """The exception that a call raises."""
+    try:
+        call(text)
+    except ValueError as error:
+        return error
+    raise AssertionError(f"{call} raises nothing")
+
+
+class Copies(unittest.TestCase):
+    """What a call gives or raises is the same in a copy, and in another process."""
+
+    CYCLE = "{...F}\nfragment F on T {...F}"
+    SAME = "{a} fragment F on T {a} fragment F on T {b}"
+    WAYS = [copy.copy, copy.deepcopy, *(lambda it, version=version: pickle.loads(pickle.dumps(it, version)) for version in range(2, pickle.HIGHEST_PROTOCOL + 1))]
+
+    def test_not_a_document(self):
+        for call in (dumyroke.format, dumyroke.measure, dumyroke.validate):
+            error = no_document(call, "{ é( } !")
+            error.request = 7
+            for way in self.WAYS:
+                same = way(error)
+                self.assertEqual((type(same), str(same), same.args, same.errors, same.request), (dumyroke.NotADocument, str(error), error.args, error.errors, 7))
+                self.assertEqual([str(one) for one in same.errors], [str(one) for one in error.errors])
+
+    def test_no_figures(self):
+        for text in (self.CYCLE, self.SAME, "{...F}"):
+            error = no_document(dumyroke.measure, text)
+            for way in self.WAYS:
+                same = way(error)
+                self.assertEqual((type(same), str(same), same.reason, same.place.span), (dumyroke.NoFigures, str(error), error.reason, error.place.span))
+                self.assertEqual(same.other and same.other.position, error.other and error.other.position)
+
+    def test_process_pool(self):
+        """An exception of a process is raised here, and the pool goes on."""
+        with concurrent.futures.ProcessPoolExecutor(1, multiprocessing.get_context("spawn")) as pool:
+            with self.assertRaises(dumyroke.NoFigures) as caught:
+                pool.submit(dumyroke.measure, self.CYCLE).result()
+            self.assertEqual(str(caught.exception), "2:18: a cycle of fragments")
+            with self.assertRaises(dumyroke.NotADocument) as refused:
+                pool.submit(dumyroke.format, "{").result()
+            self.assertEqual(refused.exception.errors, dumyroke.check("{"))
+            self.assertEqual(pool.submit(dumyroke.check, "{a}").result(), [])
+            self.assertEqual(names(pool.submit(dumyroke.parse, "query Q {a}").result().document.definitions), ["Q"])
+
+    def test_results(self):
+        results = [dumyroke.check(HERO)[0], dumyroke.lex("é")[0], dumyroke.validate("{...F}")[0], dumyroke.measure("{a}")[0]]
+        for result in results:
+            for way in self.WAYS:
+                same = way(result)
+                self.assertEqual((type(same), str(same), same.position, same.span), (type(result), str(result), result.position, result.span))
+
+    def test_trees(self):
+        for call, text in ((dumyroke.parse, HERO + " é"), (dumyroke.parse, "{a}" * 20_000), (dumyroke.parse_type, ")"), (dumyroke.parse_selection_set, "a {b} }")):
+            tree = call(text)
+            for way in self.WAYS:
+                same = way(tree)
+                self.assertEqual((same.text, same.errors, len(same), same.token_high), (tree.text, tree.errors, len(tree), tree.token_high))
+                self.assertEqual(list(map(repr, same.root.descendants_with_tokens)), list(map(repr, tree.root.descendants_with_tokens)))
+                last = list(tree.root.descendants_with_tokens)[-1]
+                self.assertEqual((repr(way(last)), way(last).parent.kind), (repr(last), last.parent.kind))
+
+
 class Calls(unittest.TestCase):
     def test_format(self):
         self.assertEqual(dumyroke.format("{a,c:b}"), "{\n  a\n  c: b\n}\n")
         self.assertEqual(dumyroke.format(b"{a}"), "{\n  a\n}\n")
         self.assertEqual(dumyroke.format("{a{b{c{d{e}}}}}").count("\n"), 11)
         self.assertEqual(dumyroke.format("{a}", max_output=8), "{\n  a\n}\n")
-        for most in (-1, 0, 7):
+        for most in (0, 7):
             self.assertRaisesRegex(ValueError, "the formatted text has more than", dumyroke.format, "{a}", max_output=most)
         # 270 times its length, so the first calls have too little room
         opened = "".join("  " * depth + "a {\n" for depth in range(1, 400))
@@ -401,6 +542,9 @@ class Calls(unittest.TestCase):
                 status, printed = checked("check", escapes)
                 self.assertEqual((status, f"\\x1b[31m\\u202e\\u2028{shown}" in printed), (1, True))
             self.assertEqual([checked("check", binary)[0], checked("check", f"{folder}/none")[0], checked("check")[0], checked()[0]], [2, 2, 2, 2])
+
+    def test_version(self):
+        self.assertRegex(dumyroke.__version__, r"^\d+\.\d+\.\d+$")
 
     def test_documentation(self):
         found = doctest.testmod(dumyroke)

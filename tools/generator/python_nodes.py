@@ -110,6 +110,16 @@ def name_text(kind, grammar):
     return ""
 
 
+def type_text(kind, grammar):
+    """The property `type` of a node that has one of several types, each of which has an accessor of its own."""
+    parts = [accessor for accessor in accessors(grammar, kind) if accessor.kinds[0] in grammar.lists[ENUMS["Ty"].listed]]
+    if len(parts) < 2:
+        return ""
+    kinds = ", ".join(accessor.kinds[0] for accessor in parts)
+    answer = " | ".join(type_of(accessor) for accessor in parts)
+    return property_text("type", f"{answer} | None", "The type. None only if the parse reported errors.", f"self._first(({kinds}))")
+
+
 def class_text(kind, grammar):
     """The class of a kind."""
     what, *production = grammar.documentation[kind]
@@ -118,7 +128,7 @@ def class_text(kind, grammar):
     doc = doc.replace("\\", "\\\\").replace('"""', '\\"\\"\\"')
     end = "\n    " if len(lines) > 1 else ""
     body = "".join(accessor_text(kind, one, grammar) for one in accessors(grammar, kind) if one.target is not None)
-    body += name_text(kind, grammar)
+    body += name_text(kind, grammar) + type_text(kind, grammar)
     if kind in VALUES:
         answer, function = VALUES[kind]
         body += property_text("value", f"{answer} | None", "Its value. None only if the parse reported errors.", f"values.{function}(self)")

@@ -12,6 +12,7 @@ PLACES = {
     CRATES / "gqlls/src/command.rt": ('pub const VERSION: &str = "gqlls ', '\\n";'),
     CRATES / "gqlls_run/src/capabilities.rt": ('const VERSION: &str = "', '";'),
     TOP / "bindings/python/pyproject.toml": ('version = "', '"'),
+    TOP / "bindings/python/dumyroke/__init__.py": ('__version__ = "', '"'),
     TOP / "bindings/npm/package.json": ('"version": "', '"'),
     TOP / "bindings/rust/Cargo.toml": ('version = "', '"'),
     TOP / "editors/vscode/package.json": ('"version": "', '"'),

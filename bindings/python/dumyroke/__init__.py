@@ -24,5 +24,7 @@ from .positions import Position
 from .tree import Element, Node, Token, Tree
 from .validation import Exceeded, Figures, NoFigures, Operation, Violation, check_limits, measure, validate
 
+__version__ = "0.1.0"
+
 __all__ = ["Element", "Error", "Errors", "Item", "Node", "NotADocument", "Position", "Token", "Tree", "check", "format", "lex", "nodes", "parse"]
 __all__ += ["parse_selection_set", "parse_type", "Exceeded", "Figures", "NoFigures", "Operation", "Violation", "check_limits", "measure", "validate"]

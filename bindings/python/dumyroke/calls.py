@@ -6,16 +6,20 @@ import ctypes
 import functools
 import mmap
 import struct
-from typing import Any
+from typing import Any, Union
 
 from . import library, nodes
 from .errors import Errors
 from .items import Item
 from .kinds import NAMES
-from .library import NO_LIMIT
+from .library import number
 from .positions import Positions
 from .rows import ELEMENT_SIZE, ITEM_SIZE, NOT_A_DOCUMENT, OK, Counts, ErrorRow, ItemRow, Limits
 from .tree import Node, Tree
+
+
+Text = Union[str, bytes, bytearray, memoryview]
+"""A text: a str, or UTF-8 in bytes or in another object that has a buffer of bytes."""
 
 
 class NotADocument(ValueError):
@@ -27,6 +31,10 @@ class NotADocument(ValueError):
             words.append(f"and {len(errors) - _SAID_ERRORS} more")
         super().__init__("\n".join(words))
         self.errors = errors
+
+    def __reduce__(self) -> tuple[Any, ...]:
+        """An exception is made again of its words unless it says of what else, so copies and other processes would have no errors."""
+        return type(self), (self.errors,), self.__dict__
 
 
 _SAID_ERRORS = 20
@@ -127,24 +135,30 @@ def _filled(call: Any, source: bytes, limit: Limits | int, row_size: int) -> _Bu
     return buffers
 
 
-@functools.lru_cache
-def _limits(recursion_limit: int, token_limit: int | None) -> Limits:
-    for limit in (recursion_limit, token_limit):
-        if limit is not None and limit < 0:
-            raise ValueError("a limit is below 0")
-    return Limits(min(recursion_limit, NO_LIMIT), NO_LIMIT if token_limit is None else min(token_limit, NO_LIMIT))
+# typed, since 1.0 equals 1 and is refused
+@functools.lru_cache(typed=True)
+def _limits(recursion_limit: int | None, token_limit: int | None) -> Limits:
+    return Limits(number("recursion_limit", recursion_limit), number("token_limit", token_limit))
 
 
-def given(text: str | bytes, recursion_limit: int, token_limit: int | None) -> tuple[bytes, Limits]:
+def _bytes_of(text: Text) -> bytes:
+    """The UTF-8 of a text. Of a subclass, which may say another length, it is the text itself; of what can change, a copy."""
+    if isinstance(text, str):
+        return str.encode(text)
+    if isinstance(text, bytes):
+        return bytes.__getitem__(text, slice(None))
+    try:
+        return memoryview(text).tobytes()
+    except TypeError:
+        raise TypeError(f"a text is a str or a bytes-like object, and not {type(text).__name__}") from None
+
+
+def given(text: Text, recursion_limit: int | None, token_limit: int | None) -> tuple[bytes, Limits]:
     """A text and limits as the library takes them."""
-    if not isinstance(text, (str, bytes)):
-        raise TypeError(f"a text is a str or bytes, and not {type(text).__name__}")
-    # of a subclass, which may say another length, the text itself
-    source = str.encode(text) if isinstance(text, str) else bytes.__getitem__(text, slice(None))
-    return source, _limits(recursion_limit, token_limit)
+    return _bytes_of(text), _limits(recursion_limit, token_limit)
 
 
-def _parsed(call: Any, text: str | bytes, recursion_limit: int, token_limit: int | None) -> Tree[Any]:
+def _parsed(call: Any, text: Text, recursion_limit: int | None, token_limit: int | None) -> Tree[Any]:
     """The tree that one of the library's calls gives for a text."""
     source, limits = given(text, recursion_limit, token_limit)
     buffers, positions = _filled(call, source, limits, ELEMENT_SIZE), Positions(source)
@@ -154,29 +168,31 @@ def _parsed(call: Any, text: str | bytes, recursion_limit: int, token_limit: int
     return tree
 
 
-def parse(text: str | bytes, recursion_limit: int = 500, token_limit: int | None = None) -> Tree[nodes.Document]:
+def parse(text: Text, recursion_limit: int | None = 500, token_limit: int | None = None) -> Tree[nodes.Document]:
     """The tree of a text, which there is for any text, and its errors.
 
     `recursion_limit` is how deep selection sets, types and values may nest; parsing takes 80 to 192 bytes of the thread's stack for each level.
-    `token_limit` is how many tokens are read at most, ignored ones and the end among them.
+    `token_limit` is how many tokens are read at most, ignored ones and the end among them. None is no limit for either. Without a limit on nesting, a text
+    that nests deeper than the stack holds ends the process.
 
-    Raises `UnicodeDecodeError` or `UnicodeEncodeError` for a text that is not Unicode, `MemoryError`, and `ValueError` for one of 2**31 bytes.
+    Raises `UnicodeDecodeError` or `UnicodeEncodeError` for a text that is not Unicode, `MemoryError`, and `ValueError` for one of 2**31 bytes, or for a limit
+    below 0.
     """
     return _parsed(library.parse, text, recursion_limit, token_limit)
 
 
-def parse_selection_set(text: str | bytes, recursion_limit: int = 500, token_limit: int | None = None) -> Tree[nodes.SelectionSet]:
+def parse_selection_set(text: Text, recursion_limit: int | None = 500, token_limit: int | None = None) -> Tree[nodes.SelectionSet]:
     """The tree of a selection set, with its outer braces or with both left away. What follows it is not in the tree. Else as `parse`."""
     return _parsed(library.parse_selection_set, text, recursion_limit, token_limit)
 
 
-def parse_type(text: str | bytes, recursion_limit: int = 500, token_limit: int | None = None) -> Tree[Node]:
+def parse_type(text: Text, recursion_limit: int | None = 500, token_limit: int | None = None) -> Tree[Node]:
     """The tree of a type: a NAMED_TYPE, a LIST_TYPE or a NON_NULL_TYPE; or a node of kind "ERROR", where the text begins neither with a name nor with
     `[`. What follows it is not in the tree. Else as `parse`."""
     return _parsed(library.parse_type, text, recursion_limit, token_limit)
 
 
-def lex(text: str | bytes, token_limit: int | None = None) -> list[Item]:
+def lex(text: Text, token_limit: int | None = None) -> list[Item]:
     """The items of a text in order, tokens and bad text, which join to it. If there are more than the limit allows, the end of the text counted,
     the limit is the last item. Exceptions are those of `parse`."""
     source, limits = given(text, 0, token_limit)
@@ -192,7 +208,7 @@ def lex(text: str | bytes, token_limit: int | None = None) -> list[Item]:
     return found
 
 
-def check(text: str | bytes, recursion_limit: int = 500, token_limit: int | None = None) -> Errors:
+def check(text: Text, recursion_limit: int | None = 500, token_limit: int | None = None) -> Errors:
     """The errors of a text. There are none exactly if it is a document within both limits. Limits and exceptions are those of `parse`."""
     source, limits = given(text, recursion_limit, token_limit)
     buffers = _filled(library.parse, source, limits, 0)
@@ -201,7 +217,7 @@ def check(text: str | bytes, recursion_limit: int = 500, token_limit: int | None
     return errors
 
 
-def format(text: str | bytes, recursion_limit: int = 500, token_limit: int | None = None, max_output: int | None = None) -> str:
+def format(text: Text, recursion_limit: int | None = 500, token_limit: int | None = None, max_output: int | None = None) -> str:
     """A document in the layout of the program gqlfmt.
 
     `max_output` is how many bytes the formatted text may have, if not given 64 MiB, or 16 for each byte of the text, if that is more: lists that nest
@@ -209,7 +225,7 @@ def format(text: str | bytes, recursion_limit: int = 500, token_limit: int | Non
 
     Raises `NotADocument` with the errors if it is none, `ValueError` if the formatted text has more bytes, and else as `parse` does."""
     source, limits = given(text, recursion_limit, token_limit)
-    most = max(1 << 26, 16 * len(source)) if max_output is None else max(max_output, 0)
+    most = max(1 << 26, 16 * len(source)) if max_output is None else number("max_output", max_output)
     room = min(2 * len(source) + 64, most)
     while True:
         formatted, size = bytearray(max(room, 1)), ctypes.c_size_t()

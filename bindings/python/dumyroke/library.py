@@ -3,10 +3,11 @@
 from __future__ import annotations
 
 import ctypes
+import operator
 import os
 from ctypes import POINTER, c_char, c_char_p, c_size_t, c_uint32, c_void_p
 from mmap import mmap
-from typing import Any
+from typing import Any, SupportsIndex
 
 from .rows import NO_MEMORY, NOT_A_STRING, NOT_UTF8, TOO_LONG, Counts, Limits, MeasureCounts, ViolationCounts
 
@@ -40,6 +41,21 @@ validate.argtypes = [c_char_p, c_size_t, Limits, c_size_t, c_void_p, c_size_t, c
 measure = _library.dumyroke_measure
 measure.restype = c_uint32
 measure.argtypes = [c_char_p, c_size_t, Limits, c_void_p, c_size_t, POINTER(MeasureCounts)]
+
+
+def number(name: str, value: SupportsIndex | None) -> int:
+    """A number that a caller gives as an argument of this name. None is no limit, and so is one that needs more than 64 bits, which ctypes would cut off.
+
+    Raises `TypeError` if it is no int, and `ValueError` if it is below 0."""
+    if value is None:
+        return NO_LIMIT
+    try:
+        whole = operator.index(value)
+    except TypeError:
+        raise TypeError(f"{name} is an int or None, and not {type(value).__name__}") from None
+    if whole < 0:
+        raise ValueError(f"{name} is below 0: {whole}")
+    return min(whole, NO_LIMIT)
 
 
 def place(buffer: bytearray | mmap) -> Any:

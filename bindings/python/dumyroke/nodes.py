@@ -655,6 +655,11 @@ class NonNullType(Node, kind="NON_NULL_TYPE"):
         """The list type, or None when it is a named type."""
         return self._first((LIST_TYPE,))
 
+    @property
+    def type(self) -> NamedType | ListType | None:
+        """The type. None only if the parse reported errors."""
+        return self._first((NAMED_TYPE, LIST_TYPE))
+
 
 class Description(Node, kind="DESCRIPTION"):
     """A description (GraphQL October 2021, section 3, "Descriptions").

@@ -15,6 +15,7 @@ from .positions import Position, Positions
 from .rows import ELEMENT_SIZE, KIND_AT
 
 if TYPE_CHECKING:
+    from .calls import Text
     from .nodes import Document
 
 N = TypeVar("N", bound="Node")
@@ -24,54 +25,60 @@ R = TypeVar("R", bound="Node")
 class Element:
     """A node or a token of a tree."""
 
-    __slots__ = ("tree", "index")
-
-    tree: Tree[Any]
-    index: int
-    """Its number in document order. The root has 0."""
+    __slots__ = ("_tree", "_index")
 
     def __init__(self, tree: Tree[Any], index: int):
-        self.tree = tree
-        self.index = index
+        self._tree = tree
+        self._index = index
+
+    @property
+    def tree(self) -> Tree[Any]:
+        """The tree that it is an element of."""
+        return self._tree
+
+    @property
+    def index(self) -> int:
+        """Its number in document order. The root has 0."""
+        return self._index
 
     @property
     def kind(self) -> str:
         """Its kind, as "FIELD" or "L_CURLY"."""
-        return _NAMES[self.tree._kinds[self.index]]
+        return _NAMES[self._tree._kinds[self._index]]
 
     @property
     def text(self) -> str:
         """Its text."""
-        tree, index = self.tree, self.index
+        tree, index = self._tree, self._index
         return tree._text_of(tree._starts[index], tree._starts[index + (tree._sizes[index] >> 4)])
 
     @property
     def range(self) -> tuple[int, int]:
         """The bytes of its text in UTF-8: the first, and the one after the last."""
-        starts, index = self.tree._starts, self.index
-        return starts[index], starts[index + (self.tree._sizes[index] >> 4)]
+        starts, index = self._tree._starts, self._index
+        return starts[index], starts[index + (self._tree._sizes[index] >> 4)]
 
     @property
     def span(self) -> tuple[int, int]:
         """The same in indices of the `str`, so that `tree.text[slice(*element.span)] == element.text`."""
         start, end = self.range
-        return self.tree._positions.character(start), self.tree._positions.character(end)
+        return self._tree._positions.character(start), self._tree._positions.character(end)
 
     @property
     def position(self) -> Position:
         """Where it begins: its line and its columns."""
-        return self.tree._positions.position(self.tree._starts[self.index])
+        return self._tree._positions.position(self._tree._starts[self._index])
 
     @property
     def parent(self) -> Node | None:
         """The node that it is a child of. The root has none."""
-        return self.tree._node(self.index - self.tree._parent_distance(self.index)) if self.index else None
+        return self._tree._node(self._index - self._tree._parent_distance(self._index)) if self._index else None
 
     def __eq__(self, other: object) -> bool:
-        return isinstance(other, Element) and self.tree is other.tree and self.index == other.index
+        return isinstance(other, Element) and self._tree is other._tree and self._index == other._index
 
     def __hash__(self) -> int:
-        return hash((id(self.tree), self.index))
+        return hash((id(self._tree), self._index))
 
     def __str__(self) -> str:
         return self.text
@@ -88,7 +95,7 @@ class Token(Element):
     @property
     def text(self) -> str:
         """Its text."""
-        tree, index = self.tree, self.index
+        tree, index = self._tree, self._index
         return tree._text_of(tree._starts[index], tree._starts[index + 1])
 
 
@@ -108,9 +115,9 @@ class Node(Element):
     @property
     def children(self) -> list[Node]:
         """Its children that are nodes, in document order."""
-        tree = self.tree
+        tree = self._tree
         sizes, kinds, classes = tree._sizes, tree._kinds, _CLASSES
-        index, end, found = self.index + 1, self._end(), []
+        index, end, found = self._index + 1, self._end(), []
         while index < end:
             kind = kinds[index]
             if kind < FIRST_NODE:
@@ -123,21 +130,21 @@ class Node(Element):
     @property
     def children_with_tokens(self) -> list[Element]:
         """All of its children, in document order."""
-        return [self.tree._node(index) for index in self._child_indices()]
+        return [self._tree._node(index) for index in self._child_indices()]
 
     @property
     def descendants(self) -> Iterator[Node]:
         """The node itself and all nodes below it, in document order."""
-        tree, classes = self.tree, _CLASSES
-        for index, kind in enumerate(tree._kinds[self.index : self._end()], self.index):
+        tree, classes = self._tree, _CLASSES
+        for index, kind in enumerate(tree._kinds[self._index : self._end()], self._index):
             if kind >= FIRST_NODE:
                 yield classes[kind](tree, index)
 
     @property
     def descendants_with_tokens(self) -> Iterator[Element]:
         """The node itself and all elements below it, in document order."""
-        tree, classes = self.tree, _CLASSES
-        for index, kind in enumerate(tree._kinds[self.index : self._end()], self.index):
+        tree, classes = self._tree, _CLASSES
+        for index, kind in enumerate(tree._kinds[self._index : self._end()], self._index):
             yield classes[kind](tree, index)
 
     @overload
@@ -146,9 +153,9 @@ class Node(Element):
     def find(self, kind: str) -> list[Element]: ...
     def find(self, kind: type[Node] | str) -> Any:
         """All elements of a kind, the node itself and those below it, in document order. A kind is a class of `nodes`, or a name as "IDENT"."""
-        tree, number = self.tree, _number_of(kind)
+        tree, number = self._tree, _number_of(kind)
         made, kinds, end = _CLASSES[number], tree._kinds, self._end()
-        index, found = kinds.find(number, self.index, end), []
+        index, found = kinds.find(number, self._index, end), []
         while index != -1:
             found.append(made(tree, index))
             index = kinds.find(number, index + 1, end)
@@ -164,18 +171,18 @@ class Node(Element):
 
     def _end(self) -> int:
         """The index after the node and all below it."""
-        return self.index + (self.tree._sizes[self.index] >> 4)
+        return self._index + (self._tree._sizes[self._index] >> 4)
 
     def _child_indices(self) -> Iterator[int]:
-        kinds, sizes = self.tree._kinds, self.tree._sizes
-        index, end = self.index + 1, self._end()
+        kinds, sizes = self._tree._kinds, self._tree._sizes
+        index, end = self._index + 1, self._end()
         while index < end:
             yield index
             index += 1 if kinds[index] < FIRST_NODE else sizes[index] >> 4
 
     def _first(self, kinds: tuple[int, ...]) -> Any:
         """The first child whose kind is one of these, or None."""
-        tree, index, end = self.tree, self.index + 1, self._end()
+        tree, index, end = self._tree, self._index + 1, self._end()
         all_kinds, sizes = tree._kinds, tree._sizes
         while index < end:
             kind = all_kinds[index]
@@ -186,7 +193,7 @@ class Node(Element):
 
     def _all(self, kinds: tuple[int, ...]) -> list[Any]:
         """The children whose kind is one of these."""
-        tree = self.tree
+        tree = self._tree
         return [tree._node(index) for index in self._child_indices() if tree._kinds[index] in kinds]
 
     def _first_in(self, kind: int, kinds: tuple[int, ...]) -> Any:
@@ -227,7 +234,7 @@ class Tree(Generic[R]):
     """How many tokens were counted, the end of the text among them: one above the limit where that was met."""
 
     def __init__(
-        self, text: str | bytes, source: bytes, elements: bytes | memoryview, errors: Errors, recursion_high: int, token_high: int, positions: Positions
+        self, text: Text, source: bytes, elements: bytes | memoryview, errors: Errors, recursion_high: int, token_high: int, positions: Positions
     ):
         self.errors, self.recursion_high, self.token_high = errors, recursion_high, token_high
         self._source, self._positions = source, positions
@@ -240,6 +247,11 @@ class Tree(Generic[R]):
         self._kinds = bytes(elements[KIND_AT::ELEMENT_SIZE])
         if self._kinds[0] < FIRST_NODE:
             self._kinds = bytes([_ERROR_NODE]) + self._kinds[1:]
+
+    def __reduce__(self) -> tuple[Any, ...]:
+        """The rows are views, which have no copies, so they are handed on as bytes: those of the elements, and the start after them."""
+        rows = memoryview(self._starts.obj)[: len(self) * ELEMENT_SIZE + self._starts.itemsize].tobytes()
+        return type(self), (self._source, self._source, rows, self.errors, self.recursion_high, self.token_high, self._positions)
 
     @property
     def text(self) -> str:
@@ -265,7 +277,9 @@ class Tree(Generic[R]):
         return self.root.find(kind)
 
     def position(self, offset: int) -> Position:
-        """The line and the columns of a byte offset."""
+        """The line and the columns of a byte offset. Raises `ValueError` for one outside the text."""
+        if not 0 <= offset <= len(self._source):
+            raise ValueError(f"the offset {offset} is outside the text")
         return self._positions.position(offset)
 
     def __len__(self) -> int:

@@ -3,12 +3,13 @@
 from __future__ import annotations
 
 import ctypes
-from typing import NamedTuple, Sequence
+from typing import Any, NamedTuple, Sequence
 
 from . import library
-from .calls import NotADocument, check, given
+from .calls import NotADocument, Text, check, given
+from .library import number
 from .positions import Placed, Positions
-from .rows import NOT_A_DOCUMENT, OK, RULES, MeasureCounts, OperationRow, ViolationCounts, ViolationRow
+from .rows import CYCLE, NOT_A_DOCUMENT, OK, RULES, SAME_NAME, UNDEFINED, MeasureCounts, OperationRow, ViolationCounts, ViolationRow
 
 # Room for a first call, which is enough for most texts.
 _FEW_ROWS = 16
@@ -39,17 +40,18 @@ class Violation(Placed):
         return f"<{self.rule} {self.range[0]}..{self.range[1]}>"
 
 
-def validate(text: str | bytes, most: int = 1000, recursion_limit: int = 500, token_limit: int | None = None) -> list[Violation]:
-    """The places at which a document breaks a rule of the standard's section 5 that needs no schema, at most so many. If there are fewer, they are all,
-    and there are none exactly if it keeps all these rules.
+def validate(text: Text, most: int | None = 1000, recursion_limit: int | None = 500, token_limit: int | None = None) -> list[Violation]:
+    """The places at which a document breaks a rule of the standard's section 5 that needs no schema, at most so many, or all with None. If there are
+    fewer, they are all, and unless `most` is 0 there are none exactly if it keeps all these rules.
 
     Raises `NotADocument` with the errors if the text is none within both limits, and else as `parse` does."""
     source, limits = given(text, recursion_limit, token_limit)
+    at_most = number("most", most)
     rows, room = _FEW_ROWS, _FEW_MESSAGE_BYTES
     while True:
         found, messages, counts = (ViolationRow * rows)(), bytearray(room), ViolationCounts()
         words = library.place(messages), room, ctypes.byref(counts)
-        status = library.validate(source, len(source), limits, max(most, 0), ctypes.byref(found), rows, *words)
+        status = library.validate(source, len(source), limits, at_most, ctypes.byref(found), rows, *words)
         _raise_for(status, source, recursion_limit, token_limit)
         if counts.violations <= rows and counts.message_bytes <= room:
             break
@@ -106,17 +108,24 @@ class NoFigures(ValueError):
     other: Placed | None
     """The first fragment of the name."""
 
-    def __init__(self, counts: MeasureCounts, positions: Positions):
-        self.reason = _REASONS[counts.status]
-        self.place = Placed((counts.start, counts.end), positions)
-        self.other = Placed((counts.other_start, counts.other_end), positions) if counts.other_end else None
-        super().__init__(f"{self.place.position.line}:{self.place.position.column}: {self.reason}")
+    def __init__(self, reason: str, place: Placed, other: Placed | None):
+        super().__init__(f"{place.position.line}:{place.position.column}: {reason}")
+        self.reason, self.place, self.other = reason, place, other
+
+    def __reduce__(self) -> tuple[Any, ...]:
+        """As that of `NotADocument`."""
+        return type(self), (self.reason, self.place, self.other), self.__dict__
 
 
-_REASONS = {6: "two fragments have one name", 7: "a cycle of fragments", 8: "a spread of no fragment"}
+_REASONS = {SAME_NAME: "two fragments have one name", CYCLE: "a cycle of fragments", UNDEFINED: "a spread of no fragment"}
 
 
-def measure(text: str | bytes, recursion_limit: int = 500, token_limit: int | None = None) -> list[Operation]:
+def _no_figures(counts: MeasureCounts, positions: Positions) -> NoFigures:
+    other = Placed((counts.other_start, counts.other_end), positions) if counts.other_end else None
+    return NoFigures(_REASONS[counts.status], Placed((counts.start, counts.end), positions), other)
+
+
+def measure(text: Text, recursion_limit: int | None = 500, token_limit: int | None = None) -> list[Operation]:
     """The operations of a document, in order, with their figures. It takes no longer for a document that expands to very many fields.
 
     Raises `NotADocument` with the errors if the text is none within both limits; `NoFigures` if two fragments have one name, or if an operation leads to
@@ -128,7 +137,7 @@ def measure(text: str | bytes, recursion_limit: int = 500, token_limit: int | No
         status = library.measure(source, len(source), limits, ctypes.byref(found), rows, ctypes.byref(counts))
         _raise_for(status, source, recursion_limit, token_limit)
         if status != OK:
-            raise NoFigures(counts, positions)
+            raise _no_figures(counts, positions)
         if counts.operations <= rows:
             return [Operation(row, source, positions) for row in found[: counts.operations]]
         rows = counts.operations
@@ -151,7 +160,7 @@ class Exceeded(NamedTuple):
 
 
 def check_limits(
-    text: str | bytes,
+    text: Text,
     *,
     operation: str | None = None,
     max_depth: int | None = None,
@@ -161,27 +170,29 @@ def check_limits(
     max_directives: int | None = None,
     max_height: int | None = None,
     max_distinct_root_fields: int | None = None,
-    recursion_limit: int = 500,
+    recursion_limit: int | None = 500,
     token_limit: int | None = None,
 ) -> Exceeded | None:
     """The first operation that exceeds a limit, and the first limit that it exceeds, in the order of `Figures`; None if all are within the limits.
 
-    With `operation` only the operations of that name count, since a gateway executes one of several. Exceptions are those of `measure`."""
-    most = (max_depth, max_fields, max_root_fields, max_aliases, max_directives, max_height, max_distinct_root_fields)
+    With `operation` only the operations of that name count, since a gateway executes one of several. A limit of 2**64 - 1 or more is none, as None is,
+    since a figure stops there. Exceptions are those of `measure`, and `ValueError` for a limit below 0."""
+    given_limits = (max_depth, max_fields, max_root_fields, max_aliases, max_directives, max_height, max_distinct_root_fields)
+    most = [number(f"max_{figure}", limit) for figure, limit in zip(Figures._fields, given_limits)]
     measured = measure(text, recursion_limit, token_limit)
     return first_exceeded([found for found in measured if operation in (None, found.name)], most)
 
 
-def first_exceeded(operations: Sequence[Operation], most: Sequence[int | None]) -> Exceeded | None:
+def first_exceeded(operations: Sequence[Operation], most: Sequence[int]) -> Exceeded | None:
     """The first of the operations that exceeds a limit, and the first limit that it exceeds. The limits are in the order of `Figures`."""
     for operation in operations:
         for limit, allowed, found in zip(Figures._fields, most, operation.figures):
-            if allowed is not None and found > allowed:
+            if found > allowed:
                 return Exceeded(operation, limit, allowed, found)
     return None
 
 
-def _raise_for(status: int, source: bytes, recursion_limit: int, token_limit: int | None) -> None:
+def _raise_for(status: int, source: bytes, recursion_limit: int | None, token_limit: int | None) -> None:
     library.raise_for(status, source)
     if status == NOT_A_DOCUMENT:
         raise NotADocument(check(source, recursion_limit, token_limit))
