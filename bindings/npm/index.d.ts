@@ -2,8 +2,9 @@
 import type { Kind } from "./kinds.js";
 export type { Kind };
 
-/** Loads the parser. It fails where the engine has no 64-bit memory for WebAssembly. */
-export function load(): Promise<Parser>;
+/** Loads the parser from `dumyroke.wasm` beside the package's files, or from a source: the URL of that file, its bytes, or the compiled module. It fails where
+ * the engine has no 64-bit memory for WebAssembly. */
+export function load(source?: URL | string | BufferSource | WebAssembly.Module): Promise<Parser>;
 
 /** Whether the engine has 64-bit memory for WebAssembly. */
 export function isSupported(): boolean;
@@ -14,6 +15,7 @@ export const KINDS: readonly Kind[];
 /** How a call ended. */
 export const STATUS: {
   readonly OK: number;
+  /** The text has half of a surrogate pair. */
   readonly NOT_UTF8: number;
   readonly TOO_LONG: number;
   readonly NO_MEMORY: number;
@@ -29,11 +31,14 @@ export const STATUS: {
   readonly UNDEFINED: number;
 };
 
+/** A whole number from 0 on, or null or Infinity for no limit. Another one is a RangeError, and what is no number a TypeError. */
+export type Count = number | bigint | null;
+
 export interface Limits {
   /** How deep a document may nest: 500 if not given. */
-  recursion?: number;
+  recursion?: Count;
   /** How many tokens it may have, ignored ones too: no limit if not given. */
-  tokens?: number | null;
+  tokens?: Count;
 }
 
 export interface ParseError {
@@ -47,13 +52,13 @@ export interface ParseError {
 }
 
 export interface Parsed {
-  /** One of STATUS. */
+  /** One of STATUS. Unless it is OK, nothing was parsed: there are no rows and no errors. */
   status: number;
   /** The elements of the tree, for Tree. */
   rows: Uint32Array;
   /** Where the text of the tree ends: before the text's own end only where the token limit is met. */
   textEnd: number;
-  /** The first errors. */
+  /** The first errors: 1,000 if not said otherwise. */
   errors: ParseError[];
   /** How many errors there are. */
   errorCount: number;
@@ -109,15 +114,16 @@ export interface Measured {
 }
 
 export class Parser {
+  /** A parser without a wait, as `new Parser(new WebAssembly.Module(bytes))`. */
   constructor(module: WebAssembly.Module);
   /** Parses any text. RangeError or WebAssembly.RuntimeError is thrown where the engine's stack or memory is too small. */
-  parse(text: string, limits?: Limits, mostErrors?: number): Parsed;
+  parse(text: string, limits?: Limits, mostErrors?: Count): Parsed;
   /** Formats a document. One with errors has the status NOT_A_DOCUMENT, and one whose formatted text has more than `mostBytes` bytes NO_ROOM: if not given,
    * 64 MiB, or 16 for each character of the text, if that is more. */
-  format(text: string, limits?: Limits, mostBytes?: number): Written;
+  format(text: string, limits?: Limits, mostBytes?: Count): Written;
   /** Measures the operations of a document, all of them or the first `mostOperations`. One with errors has the status NOT_A_DOCUMENT. It takes no longer for a
    * document that expands to very many fields. */
-  measure(text: string, limits?: Limits, mostOperations?: number): Measured;
+  measure(text: string, limits?: Limits, mostOperations?: Count): Measured;
   /** The value of a string literal with its quotes. */
   stringValue(literal: string): Written;
 }

@@ -6,12 +6,13 @@ import { movedTo, Tree } from "./tree.js";
 import { TreeView } from "./tree_view.js";
 
 const MOST_LISTED = 200;
-// Longer texts have no link, and no undo once they are formatted: Chromium takes minutes to type a long text.
+// Longer texts have no link, as those with half of a surrogate pair, and no undo once they are formatted: Chromium takes minutes to type a long text.
 const [LONGEST_LINK, LONGEST_UNDONE] = [20000, 100000];
 const NO_FIGURES = { [STATUS.SAME_NAME]: "two fragments have one name", [STATUS.CYCLE]: "a cycle of fragments", [STATUS.UNDEFINED]: "a spread of no fragment" };
 // Figures that count a response name once in its selection set, and the figures that count each. They are left out where they are the same.
 const COUNTED_ONCE = { height: "fields", distinctRootFields: "rootFields" };
 const REFUSED = "The parser was refused memory, or the text is too long for it.";
+const HALF = "The text has half of a surrogate pair, which is no character.";
 const NO_MEMORY64 = "This browser has no 64-bit memory for WebAssembly, which the parser needs: Chrome and Edge have it from version 133 on, Firefox from 134 on.";
 
 const at = (id) => document.getElementById(id);
@@ -45,7 +46,7 @@ function answered({ data }) {
   else if (data.failed !== undefined) say(data.failed, "failed");
   else if (task === "format") showFormatted(text, data);
   else if (data.status === STATUS.OK) showParsed(text, data);
-  else say(REFUSED, "failed");
+  else say(data.status === STATUS.NOT_UTF8 ? HALF : REFUSED, "failed");
 }
 
 const limit = (id, otherwise) => (at(id).value === "" ? otherwise : Math.max(0, Math.trunc(at(id).valueAsNumber)));
@@ -79,7 +80,7 @@ function showParsed(text, found) {
   if (document.activeElement === editor.area && text === editor.text) follow(editor.area.selectionStart, editor.area.selectionEnd);
   else editor.render();
   clearTimeout(linking);
-  linking = setTimeout(() => history.replaceState(null, "", text.length <= LONGEST_LINK ? `#${encodeURIComponent(text)}` : location.pathname), 300);
+  linking = setTimeout(() => history.replaceState(null, "", text.length <= LONGEST_LINK && text.isWellFormed() ? `#${encodeURIComponent(text)}` : location.pathname), 300);
 }
 
 // Lists the first places, with their messages, and how many more there are.

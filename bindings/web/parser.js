@@ -15,6 +15,35 @@ export function isSupported() {
   return WebAssembly.validate(Uint8Array.of(0, 0x61, 0x73, 0x6d, 1, 0, 0, 0, 5, 3, 1, 4, 0));
 }
 
+// A number that a caller gives under this name, as a BigInt for the module. Null and Infinity are no limit, and so is a number that needs more than 64 bits.
+// Throws TypeError for what is no number, and RangeError for one that counts nothing: below 0, a fraction, NaN.
+function counted(name, value) {
+  if (value === null || value === Infinity) return NO_LIMIT;
+  if (typeof value !== "number" && typeof value !== "bigint") throw new TypeError(`${name} is a number, a BigInt or null, and not ${typeof value}`);
+  if (value < 0 || (typeof value === "number" && !Number.isInteger(value))) throw new RangeError(`${name} is no whole number from 0 on: ${value}`);
+  const whole = BigInt(value);
+  return whole < NO_LIMIT ? whole : NO_LIMIT;
+}
+
+// The same as a number of JavaScript, for how much a call gives at most: the larger ones are more than a memory holds, so that it need not be exact.
+const most = (name, value) => Number(counted(name, value));
+
+// The limits that a caller gives, as the module takes them.
+function limitsOf(limits) {
+  if (typeof limits !== "object" || limits === null) throw new TypeError(`limits are an object as { recursion: 500, tokens: null }, and not ${limits}`);
+  const { recursion = 500, tokens = null } = limits;
+  return [counted("recursion", recursion), counted("tokens", tokens)];
+}
+
+// How many units of 16 bits a text has. Throws TypeError for what is no text.
+function lengthOf(text) {
+  if (typeof text !== "string") throw new TypeError(`a text is a string, and not ${text === null ? null : typeof text}`);
+  return text.length;
+}
+
+// Whether each half of a surrogate pair has the other one, so that UTF-8 has the text. Engines from before 2023 have no call for it.
+const isWellFormed = (text) => text.isWellFormed?.() ?? !/\p{Surrogate}/u.test(text);
+
 // For each byte of a text in UTF-8 and for its end, how many units of 16 bits, which JavaScript counts, are before it. It holds where a character begins.
 function unitsBefore(bytes) {
   const units = new Uint32Array(bytes.length + 1);
@@ -90,16 +119,19 @@ export class Parser {
 
   // Writes a text to memory of which all was taken back: its address and its length in bytes.
   #write(text) {
+    const room = 3 * lengthOf(text);
     this.#clear();
-    const start = this.#place(text.length * 3);
-    const { written } = new TextEncoder().encodeInto(text, this.#bytes(start, text.length * 3));
+    const start = this.#place(room);
+    const { written } = new TextEncoder().encodeInto(text, this.#bytes(start, room));
+    // the encoder puts another character in place of half a pair: with a byte that UTF-8 does not have, the module refuses the text
+    if (!isWellFormed(text)) this.#bytes(start, 1)[0] = 0xff;
     this.top = start + written;
     return [start, written];
   }
 
-  #writeLimits({ recursion = 500, tokens = null }) {
+  #writeLimits(limits) {
     const start = this.#place(16);
-    new BigUint64Array(this.memory.buffer, start, 2).set([BigInt(recursion), tokens === null ? NO_LIMIT : BigInt(tokens)]);
+    new BigUint64Array(this.memory.buffer, start, 2).set(limitsOf(limits));
     return start;
   }
 
@@ -114,24 +146,26 @@ export class Parser {
   }
 
   // Parses a text: the rows of its elements, where the text of the tree ends, its first errors, and how many there are. Offsets are those of the JavaScript string.
-  // Throws RangeError or WebAssembly.RuntimeError where the browser's stack or memory is too small.
+  // Throws RangeError or WebAssembly.RuntimeError where the browser's stack or memory is too small. Each call throws TypeError or RangeError for a wrong argument.
   parse(text, limits = {}, mostErrors = 1000) {
-    const room = { elements: (text.length >> 1) + 64, messages: text.length + 65536 };
+    const wanted = most("mostErrors", mostErrors);
+    const room = { elements: (lengthOf(text) >> 1) + 64, errors: Math.min(wanted, 1000), messages: text.length + 65536 };
     for (;;) {
       const [source, length] = this.#write(text);
       const [given, counts] = [this.#writeLimits(limits), this.#place(COUNTS_BYTES)];
-      const [elements, errors, messages] = [room.elements * WORDS * 4, mostErrors * ERROR_BYTES, room.messages].map((bytes) => this.#place(bytes));
-      const status = this.#call("dumyroke_parse", source, length, given, elements, room.elements, errors, mostErrors, messages, room.messages, counts);
+      const [elements, errors, messages] = [room.elements * WORDS * 4, room.errors * ERROR_BYTES, room.messages].map((bytes) => this.#place(bytes));
+      const status = this.#call("dumyroke_parse", source, length, given, elements, room.elements, errors, room.errors, messages, room.messages, counts);
       const fields = ["elements", "text_bytes", "errors", "message_bytes", "recursion_high", "token_high"];
       const [elementCount, textBytes, errorCount, messageBytes, depth, items] = numbers(this.#row(counts, COUNTS_BYTES), COUNTS, fields);
-      if (elementCount <= room.elements && messageBytes <= room.messages) {
+      const errorsGiven = Math.min(errorCount, wanted);
+      if (elementCount <= room.elements && errorsGiven <= room.errors && messageBytes <= room.messages) {
         const units = length === text.length ? null : unitsBefore(this.#bytes(source, length));
         const rows = new Uint32Array(this.memory.buffer, elements, elementCount * WORDS).slice();
         if (units !== null) for (let i = WORD.start_and_node; i < rows.length; i += WORDS) rows[i] += units[rows[i] % NODE] - (rows[i] % NODE);
-        const found = this.#errors(errors, Math.min(errorCount, mostErrors), this.#bytes(messages, messageBytes), units);
+        const found = this.#errors(errors, errorsGiven, this.#bytes(messages, messageBytes), units);
         return { status, rows, textEnd: units?.[textBytes] ?? textBytes, errors: found, errorCount, depth, items };
       }
-      Object.assign(room, { elements: elementCount, messages: messageBytes });
+      Object.assign(room, { elements: elementCount, errors: errorsGiven, messages: messageBytes });
     }
   }
 
@@ -149,13 +183,14 @@ export class Parser {
   // Measures the operations of a document: the first ones with their figures, which are BigInts, and how many there are. Where they have no figures, the status
   // says why, `place` where, and `other` where the first fragment of the name is.
   measure(text, limits = {}, mostOperations = Infinity) {
-    for (let room = Math.min(mostOperations, 1000); ; ) {
+    const wanted = most("mostOperations", mostOperations);
+    for (let room = Math.min(wanted, 1000); ; ) {
       const [source, length] = this.#write(text);
       const [given, counts, rows] = [this.#writeLimits(limits), this.#place(MEASURE_COUNTS_BYTES), this.#place(room * OPERATION_BYTES)];
       const status = this.#call("dumyroke_measure", source, length, given, rows, room, counts);
       const there = this.#row(counts, MEASURE_COUNTS_BYTES);
       const [operationCount] = numbers(there, MEASURE_COUNTS, ["operations"]);
-      const count = Math.min(operationCount, mostOperations);
+      const count = Math.min(operationCount, wanted);
       if (count <= room) {
         const units = length === text.length ? null : unitsBefore(this.#bytes(source, length));
         const [start, end, otherStart, otherEnd] = places(there, MEASURE_COUNTS, ["start", "end", "other_start", "other_end"], units);
@@ -178,7 +213,7 @@ export class Parser {
   // A call that writes one text, of at most as many bytes as there is room for: its status and the text.
   #text(name, text, limits, room) {
     const given = this.#write(text);
-    if (limits !== null) given.push(this.#writeLimits(limits));
+    if (limits !== undefined) given.push(this.#writeLimits(limits));
     const [bytes, start] = [this.#place(8), this.#place(room)];
     const status = this.#call(name, ...given, start, room, bytes);
     const length = Number(new BigUint64Array(this.memory.buffer, bytes, 1)[0]);
@@ -186,13 +221,14 @@ export class Parser {
   }
 
   // Formats a document. A formatted text of more bytes than `mostBytes` has the status NO_ROOM.
-  format(text, limits = {}, mostBytes = Math.max(MOST_FORMATTED, 16 * text.length)) {
-    for (let room = Math.min(4 * text.length + 64, mostBytes); ; room = Math.min(4 * room, mostBytes)) {
+  format(text, limits = {}, mostBytes = Math.max(MOST_FORMATTED, 16 * lengthOf(text))) {
+    const wanted = most("mostBytes", mostBytes);
+    for (let room = Math.min(4 * lengthOf(text) + 64, wanted); ; room = Math.min(4 * room, wanted)) {
       const formatted = this.#text("dumyroke_format", text, limits, room);
-      if (formatted.status !== STATUS.NO_ROOM || room === mostBytes) return formatted;
+      if (formatted.status !== STATUS.NO_ROOM || room === wanted) return formatted;
     }
   }
 
   // The value of a string literal with its quotes, which has no more bytes than the literal.
-  stringValue = (literal) => this.#text("dumyroke_string_value", literal, null, 3 * literal.length);
+  stringValue = (literal) => this.#text("dumyroke_string_value", literal, undefined, 3 * lengthOf(literal));
 }

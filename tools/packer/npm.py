@@ -7,7 +7,7 @@ from binder.shared import SITE, TOP, WEB, version
 from .archives import File, packed, read, tar, under
 
 NPM = TOP / "bindings/npm"
-OWN = ["package.json", "README.md", "browser.js", "calls.js", "index.d.ts", "node.js"]
+OWN = ["package.json", "README.md", "browser.js", "calls.js", "index.d.ts", "node.js", "source.js"]
 READER = ["kinds.js", "parser.js", "rows.js", "tree.js"]
 
 

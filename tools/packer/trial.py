@@ -125,10 +125,9 @@ def try_npm(bare, name):
     program, shown = npm_example()
     (bare.place / "example.mjs").write_text(program)
     shutil.copy(NPM / "tests/package_test.mjs", bare.place)
-    node = "node --experimental-wasm-memory64"
-    if bare.run(f"{node} example.mjs") != shown:
+    if bare.run("node example.mjs") != shown:
         stop("in a bare Debian the example of bindings/npm/README.md prints something else")
-    bare.run(f"{node} package_test.mjs")
+    bare.run("node package_test.mjs")
 
 
 TRIALS = [

@@ -1,9 +1,10 @@
 // Tests the package where it is installed: node package_test.mjs, beside node_modules.
 import assert from "node:assert/strict";
 import { readFileSync } from "node:fs";
+import { createServer } from "node:http";
 import * as dumyroke from "dumyroke";
 
-const { KINDS, load, STATUS, Tree } = dumyroke;
+const { KINDS, load, Parser, STATUS, Tree } = dumyroke;
 const types = readFileSync("node_modules/dumyroke/index.d.ts", "utf8");
 const parser = await load();
 const text = 'query Q($id:ID!){hero(id:$id,of:"é"){name}}"';
@@ -38,6 +39,20 @@ assert.equal(tree.kind(tree.parent(tree.parent(name))), "FIELD");
 assert.deepEqual(parser.format("query Q($id:ID!){hero(id:$id){name}}"), { status: STATUS.OK, text: "query Q($id: ID!) {\n  hero(id: $id) {\n    name\n  }\n}\n" });
 assert.deepEqual(parser.stringValue('"a\\u00e9\\n"'), { status: STATUS.OK, text: "aé\n" });
 assert.equal(parser.parse("{ a { b } }", { recursion: 1 }).errors[0].isLimit, true);
+assert.throws(() => parser.parse("{ a }", { recursion: -1 }), RangeError);
+assert.equal(parser.format('{ a(b: "\ud800") }').status, STATUS.NOT_UTF8);
+// every source of the module; a server need not know the MIME type of WebAssembly
+const file = new URL(import.meta.resolve("dumyroke/dumyroke.wasm"));
+const bytes = readFileSync(file);
+const module = new WebAssembly.Module(bytes);
+const server = createServer((request, response) => (request.url === "/dumyroke.wasm" ? response.end(bytes) : response.writeHead(404).end())).listen(0);
+const there = `http://localhost:${server.address().port}`;
+const sources = [file, String(file), bytes, bytes.buffer.slice(bytes.byteOffset, bytes.byteOffset + bytes.length), module, `${there}/dumyroke.wasm`];
+for (const one of [...(await Promise.all(sources.map((source) => load(source)))), new Parser(module)]) assert.equal(one.parse("{ a }").errorCount, 0);
+await assert.rejects(load(new URL(`${there}/none`)), /none has no module: status 404/);
+await assert.rejects(load(null), TypeError);
+server.close();
+server.closeAllConnections();
 // counted by hand: the operation is `{ a { b b c } }` with its fragment expanded
 const figures = { depth: 2n, fields: 4n, rootFields: 1n, aliases: 0n, directives: 0n, height: 3n, distinctRootFields: 1n };
 assert.deepEqual(measured, { status: STATUS.OK, operations: [{ name: "Q", start: 0, end: 26, ...figures }], operationCount: 1, place: null, other: null });

@@ -13,5 +13,8 @@ export const all: [boolean, string[], readonly Kind[], number] = [kind === "DOCU
 export const wrong: boolean = kind === "DOCUMENTS";
 // @ts-expect-error: a figure is a bigint
 export const fields: number[] = measured.operations.map((operation) => operation.fields);
+parser.parse("", { recursion: null, tokens: 10n }, Infinity);
+await load(new URL("file:///dumyroke.wasm"));
+await load(new Uint8Array());
 // @ts-expect-error: a limit is a number
 parser.parse("", { recursion: "500" });

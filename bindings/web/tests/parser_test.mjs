@@ -40,6 +40,60 @@ const tests = {
     assert.equal(parser.stringValue("a").status, STATUS.NOT_A_STRING);
   },
 
+  // the borders at which a number may become another one, and their neighbours
+  "large numbers are themselves, or no limit"() {
+    const around = (border) => [border - 1n, border, border + 1n];
+    const whole = [31n, 32n, 53n, 63n, 64n].flatMap((power) => around(2n ** power));
+    const parsed = parser.parse("{a{b}}");
+    for (const number of [...whole, ...whole.map(Number), 10n ** 30n, 1e300, Infinity, null]) {
+      const limits = { recursion: number, tokens: number };
+      assert.deepEqual(parser.parse("{a{b}}", limits, number), parsed, number);
+      assert.deepEqual(parser.format("{a{b}}", limits, number).text, "{\n  a {\n    b\n  }\n}\n", number);
+      assert.equal(parser.measure("{a{b}}", limits, number).operations[0].depth, 2n, number);
+    }
+    for (const most of [3000, 3000n, Infinity, null]) assert.equal(parser.parse("}".repeat(2000), {}, most).errors.length, 2000);
+  },
+
+  "small numbers are themselves"() {
+    assert.deepEqual([0, 1, 2].map((recursion) => parser.parse("{a{b}}", { recursion }).errorCount > 0), [true, true, false]);
+    assert.deepEqual([0, 6, 7n].map((tokens) => parser.parse("{a{b}}", { tokens }).errorCount > 0), [true, true, false]);
+    assert.deepEqual([0, 1, 2n].map((most) => parser.parse("}}}", {}, most).errors.length), [0, 1, 2]);
+    assert.deepEqual([0, 1n].map((most) => parser.measure("{a}", {}, most).operations.length), [0, 1]);
+    assert.deepEqual([0, 7, 8n].map((most) => parser.format("{a}", {}, most).status), [STATUS.NO_ROOM, STATUS.NO_ROOM, STATUS.OK]);
+  },
+
+  "what counts nothing is an error"() {
+    for (const number of [-1, -1n, -(2 ** 64), 1.5, NaN, -Infinity]) {
+      const named = (name) => ({ name: "RangeError", message: `${name} is no whole number from 0 on: ${number}` });
+      for (const call of [parser.parse, parser.format, parser.measure].map((call) => call.bind(parser))) {
+        assert.throws(() => call("{a}", { recursion: number }), named("recursion"));
+        assert.throws(() => call("{a}", { tokens: number }), named("tokens"));
+      }
+      assert.throws(() => parser.parse("{a}", {}, number), named("mostErrors"));
+      assert.throws(() => parser.format("{a}", {}, number), named("mostBytes"));
+      assert.throws(() => parser.measure("{a}", {}, number), named("mostOperations"));
+    }
+    for (const call of [parser.parse, parser.format, parser.measure].map((call) => call.bind(parser))) {
+      assert.throws(() => call("{a}", { tokens: "5" }), { name: "TypeError", message: "tokens is a number, a BigInt or null, and not string" });
+      for (const limits of [null, 5]) assert.throws(() => call("{a}", limits), { name: "TypeError", message: /^limits are an object/ });
+      for (const text of [null, undefined, 5, ["{a}"]]) assert.throws(() => call(text), { name: "TypeError", message: /^a text is a string, and not / });
+    }
+    assert.throws(() => parser.stringValue(null), TypeError);
+    assert.equal(parser.parse("{a}").errorCount, 0);
+  },
+
+  // UTF-8 has no such text, and no other text is taken for it
+  "half of a surrogate pair is not UTF-8"() {
+    for (const half of ["\ud800", "\udc00", "\udc00\ud800", "\ud83d \ude00"]) {
+      const text = `{a(b:"${half}") # ${half}\n}`;
+      for (const call of [parser.parse, parser.format, parser.measure]) assert.equal(call.call(parser, text).status, STATUS.NOT_UTF8);
+      assert.deepEqual(parser.format(text), { status: STATUS.NOT_UTF8, text: "" });
+      assert.deepEqual(parser.stringValue(`"${half}"`), { status: STATUS.NOT_UTF8, text: "" });
+      assert.equal(parser.parse(half).status, STATUS.NOT_UTF8);
+    }
+    assert.equal(parser.format('{a(b:"\ud83d\ude00")}').text, '{\n  a(b: "\ud83d\ude00")\n}\n');
+  },
+
   // the layout is that of docs/FORMAT.md
   "formatting"() {
     assert.deepEqual(parser.format("query Q($id:ID!){hero(id:$id){name}}"), { status: STATUS.OK, text: "query Q($id: ID!) {\n  hero(id: $id) {\n    name\n  }\n}\n" });

@@ -1,0 +1,14 @@
+// Where the module of the parser comes from.
+
+// The bytes at a URL. `WebAssembly.compileStreaming` would refuse them from servers that do not send the MIME type of WebAssembly.
+export async function fetched(url) {
+  const response = await fetch(url);
+  if (!response.ok) throw new Error(`${url} has no module: status ${response.status}`);
+  return response.arrayBuffer();
+}
+
+// The compiled module of a source: the module itself, its bytes, or a URL, whose bytes a function reads.
+export async function compiled(source, read) {
+  if (source instanceof WebAssembly.Module) return source;
+  return WebAssembly.compile(source instanceof URL || typeof source === "string" ? await read(source) : source);
+}
