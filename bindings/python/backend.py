@@ -2,6 +2,7 @@
 
 import base64
 import hashlib
+import json
 import re
 import sysconfig
 import zipfile
@@ -9,11 +10,17 @@ from pathlib import Path
 
 FOLDER = Path(__file__).resolve().parent
 PACKAGE = FOLDER / "dumyroke"
+TOP = FOLDER.parent.parent
 
 
 def project(field):
-    """A field of pyproject.toml."""
-    return re.search(rf'^{field} = "(.*)"$', (FOLDER / "pyproject.toml").read_text(), re.MULTILINE)[1]
+    """A field of pyproject.toml: a text or a list of texts, which are written as in JSON."""
+    return json.loads(re.search(rf"^{field} = (.*)$", (FOLDER / "pyproject.toml").read_text(), re.MULTILINE)[1])
+
+
+def author():
+    """The name and the address of the author."""
+    return re.search(r'^authors = \[\{ name = "(.*)", email = "(.*)" \}\]$', (FOLDER / "pyproject.toml").read_text(), re.MULTILINE).groups()
 
 
 def tag():
@@ -21,14 +28,34 @@ def tag():
     return f"py3-none-{re.sub('[-.]', '_', sysconfig.get_platform())}"
 
 
+def licences():
+    """The files of the licences. They are at the top of the repository."""
+    missing = [name for name in project("license-files") if not (TOP / name).exists()]
+    if missing:
+        raise SystemExit(f"bindings/python is not in its repository: there is no {' and no '.join(missing)} two folders above it")
+    return [TOP / name for name in project("license-files")]
+
+
 def metadata():
-    return f"""Metadata-Version: 2.1
-Name: {project("name")}
-Version: {project("version")}
-Summary: {project("description")}
-License: MIT OR Apache-2.0
-Requires-Python: {project("requires-python")}
-"""
+    """The form of Metadata 2.1 (Python Packaging User Guide, "Core metadata specifications"), with the README as the text."""
+    name, address = author()
+    addresses = [f"{label}, {project(label)}" for label in ("Homepage", "Repository", "Issues", "Documentation")]
+    fields = [
+        ("Metadata-Version", "2.1"),
+        ("Name", project("name")),
+        ("Version", project("version")),
+        ("Summary", project("description")),
+        ("Author", name),
+        ("Author-email", f"{name} <{address}>"),
+        ("License", project("license")),
+        *(("License-File", path.name) for path in licences()),
+        *(("Project-URL", line) for line in addresses),
+        ("Keywords", ",".join(project("keywords"))),
+        *(("Classifier", line) for line in project("classifiers")),
+        ("Requires-Python", project("requires-python")),
+        ("Description-Content-Type", "text/markdown; charset=UTF-8; variant=GFM"),
+    ]
+    return "".join(f"{field}: {value}\n" for field, value in fields) + "\n" + (FOLDER / "README.md").read_text()
 
 
 def files():
@@ -51,9 +78,7 @@ def build_wheel(wheel_directory, config_settings=None, metadata_directory=None):
     content = files()
     content[f"{name}.dist-info/METADATA"] = metadata().encode()
     content[f"{name}.dist-info/WHEEL"] = f"Wheel-Version: 1.0\nGenerator: dumyroke\nRoot-Is-Purelib: false\nTag: {tag()}\n".encode()
-    # they lie at the top of the repository, which a copy of this folder does not have
-    about = [path for path in (FOLDER.parent.parent / "LICENSE", FOLDER.parent.parent / "CHANGELOG.md") if path.exists()]
-    content |= {f"{name}.dist-info/{path.name}": path.read_bytes() for path in about}
+    content |= {f"{name}.dist-info/{path.name}": path.read_bytes() for path in [*licences(), TOP / "CHANGELOG.md"]}
     record = f"{name}.dist-info/RECORD"
     lines = "".join(recorded(*item) for item in content.items())
     content[record] = f"{lines}{record},,\n".encode()

@@ -48,7 +48,7 @@ def build(given=None):
     shared, exports = BUILD / f"libdumyroke.so.{version()}", BUILD / "exports.map"
     soname = f"libdumyroke.so.{version().partition('.')[0]}"
     exports.write_text(f"{{ global: {' '.join(f'{call};' for call in CALLS)} local: *; }};\n")
-    words = ["-Wl,--whole-archive", archive, "-Wl,--no-whole-archive", f"-Wl,--version-script={exports}", f"-Wl,-soname,{soname}", "-Wl,-z,defs"]
+    words = ["-Wl,--whole-archive", archive, "-Wl,--no-whole-archive", f"-Wl,--version-script={exports}", f"-Wl,-soname,{soname}", "-Wl,-z,defs,-z,relro,-z,now"]
     run("gcc", "-shared", "-s", "-o", shared, *words)
     exports.unlink()
     # copies, since `rt ci` takes no link within the repository

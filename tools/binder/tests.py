@@ -2,6 +2,7 @@
 
 import json
 import os
+import re
 import shutil
 import subprocess
 import sys
@@ -101,6 +102,16 @@ def test_python(folder):
     run(sys.executable, folder / tests.name, "-q", env={**os.environ, "PYTHONPATH": str(folder / "installed")})
 
 
+def test_python_readme(_folder):
+    """The program of the package's README prints what the README says."""
+    text = (PYTHON / "README.md").read_text()
+    program = re.search(r"```python\n(.*?)```", text, re.DOTALL)[1]
+    shown = re.sub(r"^    ", "", re.search(r"It prints\n\n((?:    .*\n)+)", text)[1], flags=re.MULTILINE)
+    printed = run(sys.executable, "-c", program, stdout=subprocess.PIPE, env={**os.environ, "PYTHONPATH": str(PYTHON)}).stdout.decode()
+    if printed != shown:
+        stop(f"the program of bindings/python/README.md prints\n{printed}")
+
+
 # Prints how many texts on standard input, which a zero ends, are parsed twice, as they are or without what a document may lack.
 COUNTING = r"""
 import re, sys
@@ -175,7 +186,7 @@ def test_install(folder):
         stop(f"fields.c writes {ended.stdout.decode()}")
 
 
-PARTS = (test_c, test_trees, test_install, test_rust, test_rust_trees, test_python, test_query_log, test_room)
+PARTS = (test_c, test_trees, test_install, test_rust, test_rust_trees, test_python, test_python_readme, test_query_log, test_room)
 # The parts that compare with the program gqlcst, which `rt ci` builds.
 COMPARING = (test_trees, test_rust_trees)
 

@@ -10,6 +10,7 @@ from pathlib import Path
 
 from .grammar import Grammar, type_case
 from .layout import CRATES, TOP
+from .about import LINES as MANIFESTS
 from .version import PLACES as VERSION_PLACES
 
 KINDS = "crates/document_grammar/src/kind.rt"
@@ -294,7 +295,8 @@ class Copy:
         shutil.copytree(TOP / "bindings", folder / "bindings", ignore=shutil.ignore_patterns("target"))
         shutil.copytree(TOP / "editors", folder / "editors")
         shutil.copytree(TOP / "bench", folder / "bench", ignore=shutil.ignore_patterns("out", "target"))
-        shutil.copy(TOP / "VERSION", folder)
+        for name in ("VERSION", "about.json"):
+            shutil.copy(TOP / name, folder)
         sys.path.insert(0, str(folder / "tools"))
         self.unchanged, self.mistakes = self.package("unchanged"), 0
 
@@ -360,6 +362,16 @@ def a_new_version_goes_everywhere(made):
     return None if status == 1 and wanted <= set(said.splitlines()) else f"VERSION was changed: {status}, {said}"
 
 
+def what_about_says_goes_everywhere(made):
+    """Each manifest differs when about.json has another keyword."""
+    said = (TOP / "about.json").read_text()
+    (made.folder / "about.json").write_text(said.replace('"parser"', '"lexer"'))
+    status, differing = run(made.folder)
+    (made.folder / "about.json").write_text(said)
+    wanted = {f"differs: {path.relative_to(TOP)}" for path in MANIFESTS}
+    return None if status == 1 and wanted <= set(differing.splitlines()) else f"about.json was changed: {status}, {differing}"
+
+
 def the_header_has_the_rows(made):
     """A header that lacks a field of a row, or a status, is refused."""
     for file, old, new, message in HEADERS:
@@ -414,7 +426,7 @@ def main():
         made = Copy(Path(name))
         found = [mistake_is_refused(made, *mistake) for mistake in MISTAKES]
         found += [a_wrong_production_differs(made, *production) for production in PRODUCTIONS]
-        found += [only_the_changed_file_differs(made), a_new_version_goes_everywhere(made), the_header_has_the_rows(made)]
+        found += [only_the_changed_file_differs(made), a_new_version_goes_everywhere(made), what_about_says_goes_everywhere(made), the_header_has_the_rows(made)]
         found += [a_mistake_ends_with_status_1(made), each_struct_is_cast()]
     wrong = [what for what in found if what]
     print(*wrong, f"generator: {len(found)} tests, {len(wrong)} failed", sep="\n")

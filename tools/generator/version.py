@@ -1,8 +1,9 @@
-"""The version, which the file VERSION says, in the files that cannot read it."""
+"""The version, which the file VERSION says, in the files that cannot read it, and the header of C that has it."""
 
 import re
 
-from .layout import CRATES, TOP
+from .about import with_about
+from .layout import CRATES, TOP, mark
 
 # Each file with the text before its version and the text after it.
 PLACES = {
@@ -26,6 +27,30 @@ def version():
     return text.strip()
 
 
+def header():
+    """dumyroke_version.h."""
+    major, minor, patch = map(int, version().split("."))
+    return f"""/*{mark("", "VERSION").rstrip()} */
+#ifndef DUMYROKE_VERSION_H
+#define DUMYROKE_VERSION_H
+
+/* The version of these headers, also as numbers: DUMYROKE_VERSION_NUMBER grows from each version to the next. */
+#define DUMYROKE_VERSION "{version()}"
+#define DUMYROKE_VERSION_MAJOR {major}
+#define DUMYROKE_VERSION_MINOR {minor}
+#define DUMYROKE_VERSION_PATCH {patch}
+#define DUMYROKE_VERSION_NUMBER (DUMYROKE_VERSION_MAJOR * 1000000 + DUMYROKE_VERSION_MINOR * 1000 + DUMYROKE_VERSION_PATCH)
+
+/* The same for languages that call functions alone. The library has the calls of its soname, libdumyroke.so.{major}, and says no version itself. */
+static inline const char *dumyroke_version(void)
+{{
+    return DUMYROKE_VERSION;
+}}
+
+#endif
+"""
+
+
 def with_version(path, before, after, number):
     """The file's text with this version."""
     text, count = re.subn(
@@ -38,4 +63,5 @@ def with_version(path, before, after, number):
 
 def outputs(_grammar):
     """The text of each file, by its path."""
-    return {path: with_version(path, before, after, version()) for path, (before, after) in PLACES.items()}
+    files = {path: with_about(path, with_version(path, before, after, version())) for path, (before, after) in PLACES.items()}
+    return {**files, TOP / "bindings/c/include/dumyroke_version.h": header()}

@@ -49,7 +49,9 @@ def tar(files, has_folders=True):
         for folder in folders_above(files) if has_folders else []:
             archive.addfile(entry(folder, tarfile.DIRTYPE, 0o755))
         for name, file in sorted(files.items()):
-            info = entry(name, tarfile.SYMTYPE if file.link else tarfile.REGTYPE, 0o755 if file.is_program else 0o644)
+            # a link has all rights, as the system gives it
+            mode = 0o777 if file.link else 0o755 if file.is_program else 0o644
+            info = entry(name, tarfile.SYMTYPE if file.link else tarfile.REGTYPE, mode)
             info.linkname, info.size = file.link, len(file.content)
             archive.addfile(info, io.BytesIO(file.content))
     return written.getvalue()

@@ -4,6 +4,7 @@ import json
 import re
 import shutil
 import subprocess
+import tarfile
 import tempfile
 import zipfile
 from pathlib import Path
@@ -12,6 +13,7 @@ from xml.etree import ElementTree
 from binder.page import node_words
 from binder.shared import BUILD, TOP, run, stop
 
+from .about import LICENCES
 from .manuals import bash, fish, words, zsh
 from .npm import NPM
 from .packages import PROGRAMS, release
@@ -83,6 +85,45 @@ def test_completions(_folder):
             stop(f"{shell} does not offer the modes of gqlcst")
 
 
+def contents(file):
+    """The files of a package, by the last part of their names."""
+    if file.suffix in (".whl", ".vsix"):
+        with zipfile.ZipFile(file) as archive:
+            return {Path(name).name: archive.read(name) for name in archive.namelist()}
+    with tarfile.open(file) as archive:
+        return {Path(one.name).name: archive.extractfile(one).read() for one in archive.getmembers() if one.isfile()}
+
+
+def test_licences(_folder):
+    """Each package has the notice and the texts of both licences. That of Debian has them in one file, and names Debian's own copy of the Apache License."""
+    for file in RELEASE.iterdir():
+        if file.suffix not in (".txt", ".deb") and file.name != "SHA256SUMS":
+            held = contents(file)
+            for name in LICENCES:
+                if (TOP / name).read_bytes() not in (held.get(name), held.get(f"{name}.txt")):
+                    stop(f"{file.name} has no {name}")
+
+
+def test_debian(folder):
+    """Debian's own check finds no error."""
+    if without("lintian", "the package for Debian"):
+        return
+    shutil.copy(package(".deb"), folder)
+    run("lintian", "--allow-root", "--fail-on", "error", *folder.glob("*.deb"), stdout=subprocess.DEVNULL, timeout=300)
+    unpacked = run("dpkg-deb", "--fsys-tarfile", *folder.glob("*.deb"), stdout=subprocess.PIPE).stdout
+    (folder / "files.tar").write_bytes(unpacked)
+    said = " ".join(contents(folder / "files.tar")["copyright"].decode().split())
+    for part in ("Permission is hereby granted, free of charge", "/usr/share/common-licenses/Apache-2.0", "port of the Rust crate apollo-parser"):
+        if part not in said:
+            stop(f"the copyright file of the package for Debian lacks: {part}")
+
+
+def test_wheel(_folder):
+    """The page of the wheel is one that the index of Python shows."""
+    if not without("twine", "the wheel"):
+        run("twine", "check", "--strict", package(".whl"), stdout=subprocess.DEVNULL, timeout=300)
+
+
 def npm_example():
     """The program that the package's README shows, and what it says that it prints."""
     text = (NPM / "README.md").read_text()
@@ -100,6 +141,9 @@ def test_npm(folder):
     (folder / "example.mjs").write_text(program)
     for test in (NPM / "tests").iterdir():
         shutil.copy(test, folder)
+    packed = run("npm", "pack", "--dry-run", "--offline", package(".tgz"), cwd=folder, stdout=subprocess.DEVNULL, stderr=subprocess.PIPE).stderr.decode()
+    if "warn" in packed.lower():
+        stop(f"npm warns of the package:\n{packed}")
     run("npm", "install", "--offline", "--no-audit", "--no-fund", "--silent", package(".tgz"), cwd=folder)
     # without a flag, which the package sets where it needs one
     run("node", "package_test.mjs", cwd=folder)
@@ -126,7 +170,7 @@ def test_vsix(folder):
 
 
 def test_here():
-    for test in (test_manuals, test_completions, test_npm, test_vsix):
+    for test in (test_manuals, test_completions, test_licences, test_debian, test_wheel, test_npm, test_vsix):
         with tempfile.TemporaryDirectory() as folder:
             test(Path(folder))
     test_same()

@@ -4,6 +4,7 @@ import re
 
 from binder.shared import SITE, TOP, WEB, version
 
+from .about import licences
 from .archives import File, packed, read, tar, under
 
 NPM = TOP / "bindings/npm"
@@ -21,6 +22,6 @@ def kinds():
 def npm():
     """For node and browsers, as npm packs it."""
     files = {name: read(NPM / name) for name in OWN} | {name: read(WEB / name) for name in READER}
-    files |= {name: read(TOP / name) for name in ("LICENSE", "CHANGELOG.md")}
+    files |= licences() | {"CHANGELOG.md": read(TOP / "CHANGELOG.md")}
     files |= {"kinds.d.ts": File(kinds().encode()), "dumyroke.wasm": read(SITE / "dumyroke.wasm", made_by="tools/bindings pages")}
     return f"dumyroke-{version()}.tgz", packed(tar(under("package", files), has_folders=False))

@@ -5,6 +5,7 @@ from xml.sax.saxutils import escape, quoteattr
 
 from binder.shared import TOP, version
 
+from .about import about, licences
 from .archives import File, read, under, zipped
 
 VSCODE = TOP / "editors/vscode"
@@ -26,19 +27,23 @@ def content_types():
 
 def manifest():
     """What the editor reads of the package before it opens the extension."""
-    about = json.loads((VSCODE / "package.json").read_text())
-    identity = f"Id={quoteattr(about['name'])} Version={quoteattr(about['version'])} Publisher={quoteattr(about['publisher'])}"
+    package, said = json.loads((VSCODE / "package.json").read_text()), about()
+    identity = f"Id={quoteattr(package['name'])} Version={quoteattr(package['version'])} Publisher={quoteattr(package['publisher'])}"
+    links = {"Source": said["repository"], "Getstarted": said["homepage"], "Learn": said["documentation"], "Support": said["issues"]}
     assets = "\n".join(f'    <Asset Type="{kind}" Path="extension/{name}" Addressable="true"/>' for kind, name in ASSETS.items())
+    properties = "\n".join(f'      <Property Id="Microsoft.VisualStudio.Services.Links.{kind}" Value={quoteattr(link)}/>' for kind, link in links.items())
     return f"""<?xml version="1.0" encoding="utf-8"?>
 <PackageManifest Version="2.0.0" xmlns="http://schemas.microsoft.com/developer/vsx-schema/2011">
   <Metadata>
     <Identity Language="en-US" {identity}/>
-    <DisplayName>{escape(about["displayName"])}</DisplayName>
-    <Description xml:space="preserve">{escape(about["description"])}</Description>
-    <Categories>{escape(",".join(about["categories"]))}</Categories>
+    <DisplayName>{escape(package["displayName"])}</DisplayName>
+    <Description xml:space="preserve">{escape(package["description"])}</Description>
+    <Tags>{escape(",".join(package["keywords"]))}</Tags>
+    <Categories>{escape(",".join(package["categories"]))}</Categories>
     <Properties>
-      <Property Id="Microsoft.VisualStudio.Code.Engine" Value={quoteattr(about["engines"]["vscode"])}/>
+      <Property Id="Microsoft.VisualStudio.Code.Engine" Value={quoteattr(package["engines"]["vscode"])}/>
       <Property Id="Microsoft.VisualStudio.Code.ExtensionKind" Value="workspace"/>
+{properties}
     </Properties>
     <License>extension/LICENSE.txt</License>
   </Metadata>
@@ -56,6 +61,6 @@ def manifest():
 def vsix():
     """For VS Code and what comes from it."""
     files = {name: read(VSCODE / name) for name in FILES}
-    files |= {"CHANGELOG.md": read(TOP / "CHANGELOG.md"), "LICENSE.txt": read(TOP / "LICENSE")}
-    about = {"extension.vsixmanifest": File(manifest().encode()), "[Content_Types].xml": File(content_types().encode())}
-    return f"gqlls-{version()}.vsix", zipped(about | under("extension", files))
+    files |= licences(".txt") | {"CHANGELOG.md": read(TOP / "CHANGELOG.md")}
+    parts = {"extension.vsixmanifest": File(manifest().encode()), "[Content_Types].xml": File(content_types().encode())}
+    return f"gqlls-{version()}.vsix", zipped(parts | under("extension", files))
