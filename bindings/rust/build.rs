@@ -1,8 +1,12 @@
-//! Links the library, and says where it is: the folder in `DUMYROKE_LIB_DIR`; else `lib/TARGET` of this crate, where a package has it; else `build` of the
-//! repository that this crate lies in; else where pkg-config says. With `DUMYROKE_LINK=dylib` it is the shared library.
+//! Links the library, and says where it is: the folder in `DUMYROKE_LIB_DIR`; else `lib/TARGET` of this crate, where a package has it; else, on the platform
+//! that the library is made for, `build` of the repository that this crate lies in, or where pkg-config says. With `DUMYROKE_LINK=dylib` it is the shared
+//! library.
 use std::path::PathBuf;
 use std::process::Command;
 use std::{env, fs};
+
+/// The platform that the library is made for.
+const MADE_FOR: &str = "x86_64-unknown-linux-gnu";
 
 fn pkg_config() -> Option<PathBuf> {
     let program = env::var_os("PKG_CONFIG").unwrap_or_else(|| "pkg-config".into());
@@ -23,10 +27,19 @@ fn main() {
         _ => ("static", "libdumyroke.a"),
     };
     let crate_folder = PathBuf::from(env::var_os("CARGO_MANIFEST_DIR").unwrap());
-    let near = [crate_folder.join("lib").join(env::var("TARGET").unwrap()), crate_folder.join("../../build")];
-    let found = env::var_os("DUMYROKE_LIB_DIR").map(PathBuf::from).or_else(|| near.into_iter().find(|folder| folder.join(file).exists())).or_else(pkg_config);
-    let Some(folder) = found.and_then(|folder| fs::canonicalize(folder).ok()) else {
-        panic!("there is no {file}: DUMYROKE_LIB_DIR names its folder, or `tools/bindings install` of the repository puts it where pkg-config finds it");
+    let target = env::var("TARGET").unwrap();
+    let is_made_for_it = target == MADE_FOR;
+    let packed = Some(crate_folder.join("lib").join(&target));
+    let built = is_made_for_it.then(|| crate_folder.join("../../build"));
+    let near = packed.into_iter().chain(built).find(|folder| folder.join(file).exists());
+    let found = env::var_os("DUMYROKE_LIB_DIR").map(PathBuf::from).or(near).or_else(|| is_made_for_it.then(pkg_config)?);
+    let Some(folder) = found.and_then(|folder| fs::canonicalize(folder).ok()).filter(|folder| folder.join(file).exists()) else {
+        let why = if is_made_for_it {
+            "`tools/bindings install` of the repository puts it where pkg-config finds it".to_owned()
+        } else {
+            format!("the parser is a library that is made for {MADE_FOR} alone, and this is a build for {target}")
+        };
+        panic!("there is no {file}: {why}. DUMYROKE_LIB_DIR names the folder of another one");
     };
     println!("cargo:rerun-if-changed={}", folder.join(file).display());
     println!("cargo:rustc-link-search=native={}", folder.display());

@@ -2,11 +2,10 @@
 
 import os
 import shutil
-import subprocess
 import tempfile
 from pathlib import Path
 
-from .shared import BUILD, INCLUDE, PACKAGE, TOP, kit, need, rattle, run, static_library, stop, version
+from .shared import BUILD, C, INCLUDE, PACKAGE, TOP, kit, need, rattle, run, static_library, stop, version
 
 CALLS = ["dumyroke_format", "dumyroke_lex", "dumyroke_measure", "dumyroke_parse", "dumyroke_parse_selection_set", "dumyroke_parse_type"]
 CALLS += ["dumyroke_string_value", "dumyroke_validate"]
@@ -32,9 +31,39 @@ Libs: -L${{libdir}} -ldumyroke
 """
 
 
+def soname():
+    """The name under which programs load the shared library."""
+    return f"libdumyroke.so.{version().partition('.')[0]}"
+
+
+def cmake_files(include):
+    """What find_package(dumyroke) of CMake reads, for a library from whose folder the headers lie at `include`, by the names of the files."""
+    major, minor, _ = version().split(".")
+    same = f"^{major}[.]" if int(major) else f"^{major}[.]{minor}[.]"
+    put = {"@VERSION@": version(), "@SONAME@": soname(), "@INCLUDE@": include, "@SAME@": same}
+    files = {}
+    for path in C.glob("*.cmake"):
+        text = path.read_text()
+        for name, value in put.items():
+            text = text.replace(name, value)
+        files[path.name] = text
+    return files
+
+
+def join(archive, *members):
+    """Makes one object of an archive and of objects, which has the calls alone as symbols: two libraries of the kit in one program would have the others
+    twice."""
+    joined = archive.with_suffix(".o")
+    run("ld", "-r", "-o", joined, "--whole-archive", archive, "--no-whole-archive", *members)
+    run("objcopy", *(f"--keep-global-symbol={call}" for call in CALLS), joined)
+    archive.unlink()
+    run("ar", "rcsD", archive, joined)
+    joined.unlink()
+
+
 def build(given=None):
     """Makes both libraries and the file for pkg-config in build/, and puts the shared library into the Python package."""
-    need("gcc", "ar")
+    need("gcc", "ar", "ld", "objcopy")
     with tempfile.TemporaryDirectory() as folder:
         made = given or make_archive(Path(folder) / "libdumyroke_c.a")
         shutil.rmtree(BUILD, ignore_errors=True)
@@ -43,16 +72,15 @@ def build(given=None):
         shutil.copyfile(made, archive)
     # the kit's object that has malloc, realloc and free under the names which the library calls
     run("ar", "x", kit() / "c/liblibc_c.a", heap.name, cwd=BUILD)
-    run("ar", "rs", archive, heap, stderr=subprocess.DEVNULL)
+    join(archive, heap)
     heap.unlink()
     shared, exports = BUILD / f"libdumyroke.so.{version()}", BUILD / "exports.map"
-    soname = f"libdumyroke.so.{version().partition('.')[0]}"
     exports.write_text(f"{{ global: {' '.join(f'{call};' for call in CALLS)} local: *; }};\n")
-    words = ["-Wl,--whole-archive", archive, "-Wl,--no-whole-archive", f"-Wl,--version-script={exports}", f"-Wl,-soname,{soname}", "-Wl,-z,defs,-z,relro,-z,now"]
+    words = ["-Wl,--whole-archive", archive, "-Wl,--no-whole-archive", f"-Wl,--version-script={exports}", f"-Wl,-soname,{soname()}", "-Wl,-z,defs,-z,relro,-z,now"]
     run("gcc", "-shared", "-s", "-o", shared, *words)
     exports.unlink()
     # copies, since `rt ci` takes no link within the repository
-    for name in (soname, "libdumyroke.so"):
+    for name in (soname(), "libdumyroke.so"):
         shutil.copy(shared, BUILD / name)
     (BUILD / "dumyroke.pc").write_text(pc_text("${pcfiledir}/..", "${prefix}/bindings/c/include", "${pcfiledir}"))
     shutil.copyfile(shared, PACKAGE / "libdumyroke.so")
@@ -72,7 +100,8 @@ def install(settings):
     if not prefix.is_absolute():
         stop("PREFIX has to begin with /")
     to = Path(given["DESTDIR"] + str(prefix))
-    (to / "lib/pkgconfig").mkdir(parents=True, exist_ok=True)
+    for folder in ("lib/pkgconfig", "lib/cmake/dumyroke"):
+        (to / folder).mkdir(parents=True, exist_ok=True)
     (to / "include").mkdir(exist_ok=True)
     for header in INCLUDE.glob("*.h"):
         shutil.copy(header, to / "include")
@@ -85,3 +114,5 @@ def install(settings):
         else:
             installed.symlink_to(shared)
     (to / "lib/pkgconfig/dumyroke.pc").write_text(pc_text(prefix, "${prefix}/include", "${prefix}/lib"))
+    for name, text in cmake_files("../include").items():
+        (to / "lib/cmake/dumyroke" / name).write_text(text)

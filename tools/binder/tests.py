@@ -11,7 +11,7 @@ import zipfile
 from pathlib import Path
 
 from .library import CALLS, install
-from .shared import BUILD, C, INCLUDE, LIMITS, PYTHON, RUST, gqlcst, need, run, stop, texts, words_of
+from .shared import BUILD, C, INCLUDE, LIMITS, PYTHON, RUST, gqlcst, need, run, stop, texts, version, words_of
 
 WARNINGS = ["-Wall", "-Wextra", "-Werror", "-pedantic"]
 
@@ -39,12 +39,13 @@ def test_c(folder):
 
 
 def test_symbols():
-    """The shared library has the calls alone, and its name."""
+    """Both libraries have the calls alone, and the shared one its name."""
     shared = BUILD / "libdumyroke.so"
-    listed = run("nm", "-D", "--defined-only", shared, stdout=subprocess.PIPE).stdout.decode()
-    found = sorted(line.split()[-1] for line in listed.splitlines())
-    if found != CALLS:
-        stop(f"libdumyroke.so has the symbols {' '.join(found)}")
+    for library, words in ((shared, ["-D"]), (BUILD / "libdumyroke.a", ["-g"])):
+        listed = run("nm", *words, "--defined-only", library, stdout=subprocess.PIPE).stdout.decode()
+        found = sorted(line.split()[-1] for line in listed.splitlines() if len(line.split()) == 3)
+        if found != CALLS:
+            stop(f"{library.name} has the symbols {' '.join(found)}")
     if b"(SONAME)" not in run("readelf", "-d", shared, stdout=subprocess.PIPE).stdout:
         stop("libdumyroke.so has no SONAME")
 
@@ -75,6 +76,17 @@ def test_rust(_folder):
     for link in ("dylib", "static"):
         there = {**os.environ, "DUMYROKE_LIB_DIR": str(BUILD), "DUMYROKE_LINK": link, "LD_LIBRARY_PATH": str(BUILD)}
         run("cargo", "test", "--offline", "--quiet", cwd=RUST, env=there, stdout=subprocess.DEVNULL)
+
+
+def test_rust_platforms(_folder):
+    """A build for another platform says which one has a library. It takes no library of this one."""
+    if not shutil.which("cargo"):
+        return
+    there = {name: value for name, value in os.environ.items() if name != "DUMYROKE_LIB_DIR"}
+    for target in ("aarch64-apple-darwin", "x86_64-pc-windows-msvc", "wasm32-unknown-unknown", "x86_64-unknown-linux-musl"):
+        built = subprocess.run(["cargo", "check", "--offline", "--target", target], cwd=RUST, env=there, capture_output=True, text=True)
+        if f"made for x86_64-unknown-linux-gnu alone, and this is a build for {target}" not in built.stderr:
+            stop(f"a build of the Rust crate for {target} says\n{built.stderr}")
 
 
 def test_rust_trees(_folder):
@@ -186,7 +198,40 @@ def test_install(folder):
         stop(f"fields.c writes {ended.stdout.decode()}")
 
 
-PARTS = (test_c, test_trees, test_install, test_rust, test_rust_trees, test_python, test_python_readme, test_query_log, test_room)
+# A program for each of the two targets.
+CMAKE = """cmake_minimum_required(VERSION 3.13)
+project(fields C)
+find_package(dumyroke {version} REQUIRED)
+add_executable(shared {source})
+target_link_libraries(shared PRIVATE dumyroke::dumyroke)
+add_executable(static {source})
+target_link_libraries(static PRIVATE dumyroke::static)
+"""
+
+
+def test_cmake(folder):
+    """find_package finds what is installed, and links both libraries. A version that is not there is not found."""
+    if not (shutil.which("cmake") and shutil.which("make")):
+        print("there is no cmake, or no make: find_package(dumyroke) was not tried")
+        return
+    install([f"PREFIX={folder}/usr", "DESTDIR="])
+    there = {**os.environ, "CMAKE_PREFIX_PATH": f"{folder}/usr"}
+    major, minor, patch = map(int, version().split("."))
+    versions = {"": True, version(): True, f"{major}.{minor}": True, f"{major}.{minor}.{patch + 1}": False, f"{major}.{minor + 1}": False, f"{major + 1}": False}
+    for number, is_there in versions.items():
+        project = folder / f"project{number}"
+        project.mkdir()
+        (project / "CMakeLists.txt").write_text(CMAKE.format(version=number, source=C / "examples/fields.c"))
+        made = subprocess.run(["cmake", "-S", project, "-B", project / "build"], env=there, capture_output=True, text=True)
+        if (made.returncode == 0) != is_there:
+            stop(f"find_package(dumyroke {number}) ends with status {made.returncode}:\n{made.stderr}")
+    run("cmake", "--build", folder / "project/build", stdout=subprocess.DEVNULL)
+    for program in ("shared", "static"):
+        if run(folder / "project/build" / program, input=b"type A { b: C }", stdout=subprocess.PIPE).stdout != b"A.b\n":
+            stop(f"fields.c, built by cmake with the {program} library, writes something else")
+
+
+PARTS = (test_c, test_trees, test_install, test_cmake, test_rust, test_rust_platforms, test_rust_trees, test_python, test_python_readme, test_query_log, test_room)
 # The parts that compare with the program gqlcst, which `rt ci` builds.
 COMPARING = (test_trees, test_rust_trees)
 

@@ -10,7 +10,7 @@ import subprocess
 import tempfile
 from pathlib import Path
 
-from binder.library import install, pc_text
+from binder.library import cmake_files, install, pc_text
 from binder.shared import BUILD, PACKAGE, PYTHON, RUST, SITE, TOP, UNPROVED, need, run, stop, version
 
 from .about import LICENCES, about, licences, maintainer
@@ -127,6 +127,7 @@ def debian_files():
     files = {in_debian(name): file for name, file in installed().items() if Path(name).name not in LICENCES}
     files |= {name: stripped(file) for name, file in files.items() if file.is_program}
     files[f"{LIBRARIES}/pkgconfig/dumyroke.pc"] = File(pc_text("/usr", "${prefix}/include", "${prefix}/lib/x86_64-linux-gnu").encode())
+    files |= {f"{LIBRARIES}/cmake/dumyroke/{name}": File(text.encode()) for name, text in cmake_files("../../include").items()}
     files["usr/share/doc/dumyroke/copyright"] = File(debian_copyright().encode())
     files["usr/share/doc/dumyroke/changelog"] = File(debian_changelog().encode())
     for name in [name for name in files if "/man/" in name or Path(name).name.lower().startswith("changelog")]:

@@ -465,10 +465,22 @@ static void no_figures(void)
     CHECK(measure("type T { a: B }", NULL, 0, &counts) == DUMYROKE_OK && counts.operations == 0);
 }
 
+/* The version is one text and three numbers. */
+static void versions(void)
+{
+    char text[32];
+    snprintf(text, sizeof text, "%d.%d.%d", DUMYROKE_VERSION_MAJOR, DUMYROKE_VERSION_MINOR, DUMYROKE_VERSION_PATCH);
+    CHECK(!strcmp(text, DUMYROKE_VERSION) && !strcmp(dumyroke_version(), DUMYROKE_VERSION));
+#if DUMYROKE_VERSION_NUMBER < 1000
+    CHECK(0);
+#endif
+}
+
 int main(void)
 {
     CHECK(sizeof(dumyroke_element) == 12 && sizeof(dumyroke_item) == 12 && sizeof(dumyroke_error) == 40 && sizeof(dumyroke_counts) == 56);
     CHECK(sizeof(dumyroke_violation) == 56 && sizeof(dumyroke_operation) == 88);
+    versions();
     counts_of_texts();
     counts_at_limits();
     large_limits();

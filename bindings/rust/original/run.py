@@ -8,6 +8,7 @@ Two of the tests read files that ORIGINAL lacks: texts, and what the original pr
 the original's own code, which bench/original/build compiles. It leaves out the texts that the original reads differently from gqlcst
 (docs/DIFFERENCES.md), and says how many; without the gqlcst that `rt ci` builds it leaves out both tests."""
 
+import os
 import re
 import shutil
 import subprocess
@@ -174,7 +175,9 @@ def main():
         make_files(original)
     for folder in (make_crate(unit_tests(found)), make_user(original, example)):
         command = ["cargo", "test", "--offline", "--quiet", "--lib", "--tests"]
-        subprocess.run(command, cwd=folder, check=True)
+        # the crate's copy is not in the repository's place, beside `build`
+        there = {"DUMYROKE_LIB_DIR": str(TOP / "build"), **os.environ}
+        subprocess.run(command, cwd=folder, check=True, env=there)
 
 
 if __name__ == "__main__":
