@@ -73,7 +73,7 @@ impl<'input> Parser<'input> {
         let errors = found.errors(text);
         SyntaxTree {
             // with the token limit the tree has only the first tokens
-            tree: Arc::new(Tree { text: text[..found.counts.text_bytes].into(), rows: found.rows }),
+            tree: Arc::new(Tree::new(text[..found.counts.text_bytes].into(), found.rows)),
             errors,
             recursion_limit: LimitTracker::used(limits.recursion, found.counts.recursion_high),
             token_limit: LimitTracker::used(limits.tokens, found.counts.token_high),

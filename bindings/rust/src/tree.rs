@@ -3,6 +3,8 @@
 //! A tree is the rows that the library wrote, of twelve bytes each, and one copy of the text. A node is a share of the tree and the index of its row, so
 //! making one allocates nothing. Rows are in document order: the first child of a node is the row after it, and the next child after a child comes after all
 //! rows of that child's subtree, whose number is the child's size. The text of an element ends where that of the row after its subtree begins.
+//!
+//! Starts never fall from a row to the next one, so a place of the text is found by halving; and the last row that starts before a place is a token.
 mod element;
 mod node;
 mod pointer;
@@ -20,7 +22,7 @@ use crate::rows::CompactElement;
 use crate::SyntaxKind;
 use std::ops::Deref;
 use std::rc::Rc;
-use std::sync::Arc;
+use std::sync::{Arc, OnceLock};
 
 /// What `start_and_node` has more for a node.
 const NODE: u32 = 1 << 31;
@@ -61,17 +63,32 @@ impl CompactElement {
 }
 
 /// The rows of a text and the text. They never change, and any number of threads may share them.
-#[derive(Debug, PartialEq, Eq)]
+#[derive(Debug)]
 pub(crate) struct Tree {
     pub(crate) text: Box<str>,
     pub(crate) rows: Vec<CompactElement>,
+    /// How many siblings come before each element, counted when one is wanted: four bytes an element.
+    places: OnceLock<Vec<u32>>,
 }
 
+/// Whether two trees have the same text and rows.
+impl PartialEq for Tree {
+    fn eq(&self, other: &Tree) -> bool {
+        self.text == other.text && self.rows == other.rows
+    }
+}
+
+impl Eq for Tree {}
+
 impl Tree {
+    pub(crate) fn new(text: Box<str>, rows: Vec<CompactElement>) -> Tree {
+        Tree { text, rows, places: OnceLock::new() }
+    }
+
     /// A root without children, of no text.
     pub(crate) fn empty(root: SyntaxKind) -> Tree {
         let row = CompactElement { start_and_node: NODE, size_and_parent: 1 << 4, parent_low: 0, parent_middle: 0, kind: root as u8 };
-        Tree { text: "".into(), rows: vec![row] }
+        Tree::new("".into(), vec![row])
     }
 
     #[inline]
@@ -132,9 +149,53 @@ impl Tree {
         (self.row(index).size() > 1).then_some(index + 1)
     }
 
+    /// The rows at or below an element that start before a place of the text: the index after them.
+    fn starting_before(&self, index: u32, place: u32) -> u32 {
+        let rows = &self.rows[index as usize..self.after(index) as usize];
+        index + rows.partition_point(|row| row.start() < place) as u32
+    }
+
+    /// The smallest element at or below one that has a range in it, which is within that one's. An empty range at the edge of two is in the left one.
+    fn covering(&self, index: u32, range: TextRange) -> u32 {
+        let (start, end) = (u32::from(range.start()), u32::from(range.end()));
+        let after = self.starting_before(index, if range.is_empty() { start } else { start + 1 });
+        if after == index {
+            // no row starts before the range: the first one below that has no children
+            return (index..).find(|&below| self.row(below).size() == 1).unwrap_or(index);
+        }
+        let mut found = after - 1;
+        while found > index && self.bounds(found).1 < end {
+            found -= self.row(found).parent_distance();
+        }
+        found
+    }
+
     /// The first child whose range has a range in it.
     fn child_with(&self, index: u32, range: TextRange) -> Option<u32> {
-        self.children(index).map(|(child, _)| child).find(|&child| self.range(child).contains_range(range))
+        if !self.range(index).contains_range(range) {
+            return None;
+        }
+        let mut found = self.covering(index, range);
+        while found > index && self.parent(found) != Some(index) {
+            found -= self.row(found).parent_distance();
+        }
+        (found > index).then_some(found)
+    }
+
+    /// The token that ends at a place within an element or has it inside; and the one that begins there.
+    fn tokens_at(&self, index: u32, place: u32) -> (Option<u32>, Option<u32>) {
+        let (before, after) = (self.starting_before(index, place), self.starting_before(index, place + 1));
+        let has_text = |&row: &u32| self.bounds(row).0 < self.bounds(row).1 && self.is_token(row);
+        let left = (before > index).then(|| before - 1).filter(has_text);
+        let right = (after > before).then(|| after - 1).filter(has_text);
+        (left, right)
+    }
+
+    /// The first node at or below an element with a kind and a range.
+    fn node_with(&self, index: u32, kind: SyntaxKind, range: TextRange) -> Option<u32> {
+        let start = u32::from(range.start());
+        let starting = (self.starting_before(index, start)..self.after(index)).take_while(|&below| self.row(below).start() == start);
+        starting.filter(|&below| !self.is_token(below) && self.kind(below) == kind).find(|&below| self.range(below) == range)
     }
 
     #[inline]
@@ -148,14 +209,45 @@ impl Tree {
         (next < self.after(parent)).then_some(next)
     }
 
+    /// The last child of an element before an index. It goes through the children and up from the last row at the same time, until one of them is there:
+    /// so it takes no more steps than the element has children, and no more than the last child is deep.
+    fn last_child_before(&self, index: u32, end: u32) -> Option<u32> {
+        let (mut forward, mut backward) = (index + 1, end - 1);
+        if end == forward {
+            return None;
+        }
+        while backward - self.row(backward).parent_distance() != index {
+            let next = self.after(forward);
+            if next == end {
+                return Some(forward);
+            }
+            forward = next;
+            backward -= self.row(backward).parent_distance();
+        }
+        Some(backward)
+    }
+
+    fn last_child(&self, index: u32) -> Option<u32> {
+        self.last_child_before(index, self.after(index))
+    }
+
     fn previous_sibling(&self, index: u32) -> Option<u32> {
-        let parent = self.parent(index)?;
-        self.siblings(parent + 1, index).last().map(|(sibling, _)| sibling)
+        self.last_child_before(self.parent(index)?, index)
     }
 
     /// How many siblings come before an element.
     fn place_among_siblings(&self, index: u32) -> usize {
-        self.parent(index).map_or(0, |parent| self.siblings(parent + 1, index).count())
+        self.places.get_or_init(|| self.counted_places())[index as usize] as usize
+    }
+
+    fn counted_places(&self) -> Vec<u32> {
+        let mut places = vec![0; self.rows.len()];
+        for index in 0..self.rows.len() as u32 {
+            for (place, (child, _)) in self.children(index).enumerate() {
+                places[child as usize] = place as u32;
+            }
+        }
+        places
     }
 }
 

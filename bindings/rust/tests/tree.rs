@@ -43,6 +43,12 @@ fn below(element: SyntaxElement, found: &mut Vec<SyntaxElement>, walk: &mut Vec<
     walk.push(WalkEvent::Leave(element));
 }
 
+/// The smallest element whose range has a range in it, down from an element: of the children that have, the first.
+fn covering(element: SyntaxElement, range: TextRange) -> SyntaxElement {
+    let below = element.as_node().and_then(|node| node.children_with_tokens().find(|it| it.text_range().contains_range(range)));
+    below.map_or(element, |child| covering(child, range))
+}
+
 fn check_node(node: &SyntaxNode, text: &str) {
     let children: Vec<SyntaxElement> = node.children_with_tokens().collect();
     let nodes: Vec<SyntaxNode> = children.iter().filter_map(|it| it.as_node().cloned()).collect();
@@ -103,9 +109,18 @@ fn check_node(node: &SyntaxNode, text: &str) {
             (TokenAtOffset::Between(left, right), [one, other]) => assert!(&left == *one && &right == *other),
             (got, wanted) => panic!("{got:?} and not {wanted:?}"),
         }
-        let covered = TextRange::new(at, at);
-        let smallest = elements.iter().filter(|it| it.text_range().contains_range(covered)).map(|it| it.text_range().len()).min().unwrap();
-        assert!(node.covering_element(covered).text_range().len() >= smallest);
+        for length in [0, 1, 2, 7, end - start] {
+            let covered = TextRange::new(at, TextSize::try_from((offset + length).min(end)).unwrap());
+            assert_eq!(node.covering_element(covered), covering(node.clone().into(), covered));
+            let child = children.iter().find(|it| it.text_range().contains_range(covered));
+            assert_eq!(node.child_or_token_at_range(covered).as_ref(), child);
+        }
+    }
+    let outside = TextRange::new(TextSize::try_from(end).unwrap(), TextSize::try_from(end + 1).unwrap());
+    assert_eq!(node.child_or_token_at_range(outside), None);
+    for below in elements.iter().filter_map(|it| it.as_node()) {
+        let is_it = |it: &&SyntaxElement| it.as_node().is_some() && it.kind() == below.kind() && it.text_range() == below.text_range();
+        assert_eq!(SyntaxNodePtr::new(below).try_to_node(node), elements.iter().find(is_it).and_then(|it| it.as_node().cloned()));
     }
     let copy = node.clone_subtree();
     assert_eq!(copy.parent(), None);

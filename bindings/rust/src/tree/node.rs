@@ -65,7 +65,7 @@ macro_rules! elements {
                 self.share.range(self.index)
             }
 
-            /// How many siblings come before it, tokens among them.
+            /// How many siblings come before it, tokens among them. The first call counts those of all elements, which takes four bytes for each of them.
             pub fn index(&self) -> usize {
                 self.share.place_among_siblings(self.index)
             }
@@ -168,8 +168,9 @@ impl SyntaxNode {
 
     /// Its last child that is a node.
     pub fn last_child(&self) -> Option<SyntaxNode> {
-        let nodes = self.share.children(self.index).filter(|(_, row)| !row.is_token());
-        nodes.last().map(|(child, _)| self.share.node(child))
+        let last = self.share.last_child(self.index);
+        let child = iter::successors(last, |&child| self.share.previous_sibling(child)).find(|&child| !self.share.is_token(child));
+        child.map(|child| self.share.node(child))
     }
 
     /// Its first child.
@@ -180,7 +181,7 @@ impl SyntaxNode {
 
     /// Its last child.
     pub fn last_child_or_token(&self) -> Option<SyntaxElement> {
-        self.share.children(self.index).last().map(|(child, _)| self.share.element(child))
+        self.share.last_child(self.index).map(|child| self.share.element(child))
     }
 
     /// The first child that is a node of a kind that passes a test, and its kind.
@@ -270,28 +271,18 @@ impl SyntaxNode {
     pub fn token_at_offset(&self, offset: TextSize) -> TokenAtOffset<SyntaxToken> {
         let range = self.text_range();
         assert!(range.contains_inclusive(offset), "the offset {offset:?} is outside the node {self:?}");
-        // down to the elements that touch the offset, past all others
-        let touches = |index: u32| !self.share.range(index).is_empty() && self.share.range(index).contains_inclusive(offset);
-        let (mut index, mut found) = (self.index, Vec::new());
-        while index < self.after() && found.len() < 2 {
-            let is_inside = touches(index);
-            if is_inside {
-                found.extend(self.share.token(index));
-            }
-            index = if is_inside { index + 1 } else { self.share.after(index) };
-        }
-        match (found.pop(), found.pop()) {
-            (Some(right), Some(left)) => TokenAtOffset::Between(left, right),
-            (Some(one), None) => TokenAtOffset::Single(one),
-            _ => TokenAtOffset::None,
+        let (left, right) = self.share.tokens_at(self.index, offset.into());
+        match (left.and_then(|left| self.share.token(left)), right.and_then(|right| self.share.token(right))) {
+            (Some(left), Some(right)) => TokenAtOffset::Between(left, right),
+            (Some(one), None) | (None, Some(one)) => TokenAtOffset::Single(one),
+            (None, None) => TokenAtOffset::None,
         }
     }
 
     /// The smallest element whose range has this range in it. Panics if the range is not within the node's.
     pub fn covering_element(&self, range: TextRange) -> SyntaxElement {
         assert!(self.text_range().contains_range(range), "the range {range:?} is not within the node {self:?}");
-        let covering = iter::successors(Some(self.index), |&index| self.share.child_with(index, range));
-        self.share.element(covering.last().unwrap_or(self.index))
+        self.share.element(self.share.covering(self.index, range))
     }
 
     /// The first child whose range has this range in it.
@@ -307,14 +298,12 @@ impl SyntaxNode {
             row.start_and_node -= start;
         }
         rows[0] = rows[0].without_parent();
-        SyntaxNode::root_of(&Arc::new(Tree { text: self.as_str().into(), rows }))
+        SyntaxNode::root_of(&Arc::new(Tree::new(self.as_str().into(), rows)))
     }
 
     /// The first node at or below it with a kind and a range.
     pub(super) fn find(&self, kind: SyntaxKind, range: TextRange) -> Option<SyntaxNode> {
-        let tree: &Tree = &self.share;
-        let is_it = |&below: &u32| !tree.is_token(below) && tree.kind(below) == kind && tree.range(below) == range;
-        (self.index..self.after()).find(is_it).map(|below| self.share.node(below))
+        self.share.node_with(self.index, kind, range).map(|below| self.share.node(below))
     }
 }
 
