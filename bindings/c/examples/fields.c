@@ -13,11 +13,12 @@ int main(void)
     static char text[1 << 20];
     size_t length = fread(text, 1, sizeof text, stdin);
     dumyroke_tree tree;
-    if (dumyroke_tree_parse(&tree, text, length, dumyroke_default_limits()) != DUMYROKE_OK)
+    dumyroke_lines lines;
+    if (dumyroke_tree_parse(&tree, text, length, dumyroke_default_limits()) != DUMYROKE_OK || !dumyroke_lines_of(&lines, &tree))
         return 2;
     for (size_t i = 0; i < tree.counts.errors; i++) {
         dumyroke_slice message = dumyroke_message_of(&tree, &tree.errors[i]);
-        dumyroke_position at = dumyroke_position_of(&tree, tree.errors[i].start);
+        dumyroke_position at = dumyroke_position_in(&lines, tree.errors[i].start);
         printf("%zu:%zu: %.*s\n", at.line, at.column, (int)message.length, message.start);
     }
     for (uint32_t i = 0; i < tree.counts.elements; i++)
@@ -26,6 +27,7 @@ int main(void)
             dumyroke_slice owner = name_of(&tree, type), field = name_of(&tree, i);
             printf("%.*s.%.*s\n", (int)owner.length, owner.start, (int)field.length, field.start);
         }
+    dumyroke_lines_free(&lines);
     dumyroke_tree_free(&tree);
     return 0;
 }

@@ -184,20 +184,72 @@ static inline dumyroke_slice dumyroke_message_of(const dumyroke_tree *tree, cons
     return slice;
 }
 
-/* The position of a byte of the text, or of its end. Lines end with LF, CR or CR LF, as GraphQL has it. This reads the text up to there. */
+/* 1 where a line ends with a byte of a text, which may be any of its bytes: lines end with LF, CR or CR LF, as GraphQL has it. */
+static inline int dumyroke_ends_line(const char *text, size_t length, size_t offset)
+{
+    int is_cr_lf = text[offset] == '\r' && offset + 1 < length && text[offset + 1] == '\n';
+    return text[offset] == '\n' || (text[offset] == '\r' && !is_cr_lf);
+}
+
+/* The position of a byte of the text, or of its end. This reads the text up to there: for many positions make dumyroke_lines once. */
 static inline dumyroke_position dumyroke_position_of(const dumyroke_tree *tree, size_t offset)
 {
     dumyroke_position position;
     size_t begins = 0, i;
     position.line = 1;
-    for (i = 0; i < offset; i++) {
-        int is_cr_lf = tree->text[i] == '\r' && i + 1 < tree->length && tree->text[i + 1] == '\n';
-        if (tree->text[i] == '\n' || (tree->text[i] == '\r' && !is_cr_lf)) {
+    for (i = 0; i < offset; i++)
+        if (dumyroke_ends_line(tree->text, tree->length, i)) {
             position.line++;
             begins = i + 1;
         }
-    }
     position.column = offset - begins + 1;
+    return position;
+}
+
+/* The lines of a text: the byte at which each begins, the first at 0. Each takes four or eight bytes, as a size_t has. */
+typedef struct dumyroke_lines {
+    size_t *starts;
+    size_t count;
+} dumyroke_lines;
+
+/* Gives back the memory of lines. They may be freed twice, and also when memory was refused to them. */
+static inline void dumyroke_lines_free(dumyroke_lines *lines)
+{
+    free(lines->starts);
+    memset(lines, 0, sizeof *lines);
+}
+
+/* Finds the lines of the text of a tree, which need not be initialised, in one reading of it. Free them, unless the result is 0: then memory was refused. */
+static inline int dumyroke_lines_of(dumyroke_lines *lines, const dumyroke_tree *tree)
+{
+    size_t i, count = 1;
+    for (i = 0; i < tree->length; i++)
+        count += (size_t)dumyroke_ends_line(tree->text, tree->length, i);
+    lines->count = 0;
+    lines->starts = (size_t *)malloc(count * sizeof(size_t));
+    if (!lines->starts)
+        return 0;
+    lines->starts[lines->count++] = 0;
+    for (i = 0; i < tree->length; i++)
+        if (dumyroke_ends_line(tree->text, tree->length, i))
+            lines->starts[lines->count++] = i + 1;
+    return 1;
+}
+
+/* The same as dumyroke_position_of, by halving the lines. */
+static inline dumyroke_position dumyroke_position_in(const dumyroke_lines *lines, size_t offset)
+{
+    dumyroke_position position;
+    size_t low = 0, high = lines->count;
+    while (high - low > 1) {
+        size_t middle = low + (high - low) / 2;
+        if (lines->starts[middle] <= offset)
+            low = middle;
+        else
+            high = middle;
+    }
+    position.line = low + 1;
+    position.column = offset - lines->starts[low] + 1;
     return position;
 }
 

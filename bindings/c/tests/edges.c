@@ -2,6 +2,7 @@
  * violations of rules, figures of operations, large numbers.
  * Ends with status 1 at the first check that fails, and says which. */
 #include <stdio.h>
+#include <time.h>
 
 #include "dumyroke_kinds.h"
 #include "dumyroke_tree.h"
@@ -175,6 +176,50 @@ static void positions(void)
     CHECK(position.line == 4 && position.column == 1);
     position = dumyroke_position_of(&tree, 2);
     CHECK(position.line == 1 && position.column == 3);
+    dumyroke_tree_free(&tree);
+}
+
+/* Each place of a text has the position by its lines that it has without them. */
+static void lines_of_texts(void)
+{
+    static const char *const texts[] = {"", "a", "\n", "\r", "\r\n", "\n\r", "\r\r\n\n", "a\r\nb\rc\nd", "a\n\n\nb\n", "\r\n\r\n{a}\r"};
+    size_t i, offset;
+    for (i = 0; i < sizeof texts / sizeof *texts; i++) {
+        dumyroke_tree tree;
+        dumyroke_lines lines;
+        CHECK(dumyroke_tree_parse(&tree, texts[i], strlen(texts[i]), dumyroke_default_limits()) == DUMYROKE_OK && dumyroke_lines_of(&lines, &tree));
+        for (offset = 0; offset <= strlen(texts[i]); offset++) {
+            dumyroke_position one = dumyroke_position_of(&tree, offset), other = dumyroke_position_in(&lines, offset);
+            CHECK(one.line == other.line && one.column == other.column);
+        }
+        CHECK(dumyroke_position_in(&lines, strlen(texts[i])).line == lines.count);
+        dumyroke_lines_free(&lines);
+        dumyroke_lines_free(&lines);
+        dumyroke_tree_free(&tree);
+    }
+}
+
+/* 100,000 errors, each in a line of its own, have their positions at once. By reading the text up to each it would take a minute. */
+static void positions_of_many_errors(void)
+{
+    static const char line[] = "{ a(x) }\n";
+    enum { LINES = 100000, BYTES = sizeof line - 1 };
+    static char text[BYTES * LINES];
+    size_t i;
+    clock_t started;
+    dumyroke_tree tree;
+    dumyroke_lines lines;
+    for (i = 0; i < LINES; i++)
+        memcpy(text + BYTES * i, line, BYTES);
+    CHECK(dumyroke_tree_parse(&tree, text, sizeof text, dumyroke_default_limits()) == DUMYROKE_OK && tree.counts.errors == LINES);
+    started = clock();
+    CHECK(dumyroke_lines_of(&lines, &tree) && lines.count == LINES + 1);
+    for (i = 0; i < LINES; i++) {
+        dumyroke_position at = dumyroke_position_in(&lines, tree.errors[i].start);
+        CHECK(at.line == i + 1 && at.column == 6);
+    }
+    CHECK(clock() - started < 5 * CLOCKS_PER_SEC);
+    dumyroke_lines_free(&lines);
     dumyroke_tree_free(&tree);
 }
 
@@ -489,6 +534,8 @@ int main(void)
     too_little_room();
     errors_of_a_text();
     positions();
+    lines_of_texts();
+    positions_of_many_errors();
     larger_than_the_first_guess();
     children();
     numbers_of_elements();
