@@ -3,7 +3,9 @@ const { languages, SemanticTokensLegend, Uri, window, workspace } = require("vsc
 const answers = require("./answers.js");
 const { Connection } = require("./connection.js");
 
-const LANGUAGE = "graphql";
+// The languages of documents that are GraphQL, and of those that have it in templates.
+const GRAPHQL = ["graphql"];
+const ALL = [...GRAPHQL, "javascript", "javascriptreact", "typescript", "typescriptreact", "python"];
 const CAPABILITIES = {
   general: { positionEncodings: ["utf-16"] },
   textDocument: {
@@ -25,10 +27,11 @@ const triggers = ({ triggerCharacters }) => triggerCharacters;
 const legend = ({ legend: { tokenTypes, tokenModifiers } }) => [new SemanticTokensLegend(tokenTypes, tokenModifiers)];
 
 // What the server may serve: its capability; VS Code's provider with its call, and further words of its registration; the request, what it says beside the
-// document, which it makes of the call's arguments, and how its answer is read.
+// document, which it makes of the call's arguments, and how its answer is read. Of layout, folds and colours a document has one provider, so that these are
+// left to the language that a template is in (`languages`).
 const SERVED = [
   { can: "documentSymbolProvider", provider: "DocumentSymbol", call: "provideDocumentSymbols", method: "documentSymbol", value: each(answers.symbol) },
-  { can: "foldingRangeProvider", provider: "FoldingRange", call: "provideFoldingRanges", method: "foldingRange", value: each(answers.fold) },
+  { can: "foldingRangeProvider", provider: "FoldingRange", languages: GRAPHQL, call: "provideFoldingRanges", method: "foldingRange", value: each(answers.fold) },
   { can: "definitionProvider", provider: "Definition", call: "provideDefinition", method: "definition", more: atPosition, value: answers.location },
   { can: "hoverProvider", provider: "Hover", call: "provideHover", method: "hover", more: atPosition, value: answers.hover },
   {
@@ -83,6 +86,7 @@ const SERVED = [
   },
   {
     can: "documentFormattingProvider",
+    languages: GRAPHQL,
     provider: "DocumentFormattingEdit",
     call: "provideDocumentFormattingEdits",
     method: "formatting",
@@ -91,6 +95,7 @@ const SERVED = [
   },
   {
     can: "documentRangeFormattingProvider",
+    languages: GRAPHQL,
     provider: "DocumentRangeFormattingEdit",
     call: "provideDocumentRangeFormattingEdits",
     method: "rangeFormatting",
@@ -99,6 +104,7 @@ const SERVED = [
   },
   {
     can: "semanticTokensProvider",
+    languages: GRAPHQL,
     provider: "DocumentSemanticTokens",
     words: legend,
     call: "provideDocumentSemanticTokens",
@@ -107,6 +113,7 @@ const SERVED = [
   },
   {
     can: "semanticTokensProvider",
+    languages: GRAPHQL,
     provider: "DocumentRangeSemanticTokens",
     words: legend,
     call: "provideDocumentRangeSemanticTokens",
@@ -123,7 +130,7 @@ class Client {
     this.disposables = [];
   }
 
-  // Starts the server and serves what it says that it can. Throws when the program cannot be started.
+  // Starts the server and serves what it says that it can. Throws when the program cannot be started, or when it is stopped meanwhile.
   async start() {
     const notified = (method, params) => method === "textDocument/publishDiagnostics" && this.#show(params);
     const ended = (how) => {
@@ -132,11 +139,13 @@ class Client {
     };
     this.connection = new Connection(this.command, this.words, { notified, ended });
     await this.connection.started;
+    this.#goOn();
     this.errors = languages.createDiagnosticCollection("gqlls");
     this.disposables.push(this.errors);
     const workspaceFolders = (workspace.workspaceFolders ?? []).map(({ uri, name }) => ({ uri: uri.toString(), name }));
     const rootUri = workspaceFolders[0]?.uri ?? null;
     const { capabilities } = await this.connection.request("initialize", { processId: process.pid, rootUri, workspaceFolders, capabilities: CAPABILITIES });
+    this.#goOn();
     this.connection.notify("initialized", {});
     this.#follow();
     this.#watch();
@@ -145,8 +154,13 @@ class Client {
   }
 
   async stop() {
+    this.isStopped = true;
     this.#dispose();
     await this.connection.close();
+  }
+
+  #goOn() {
+    if (this.isStopped) throw new Error("the server was stopped");
   }
 
   #dispose() {
@@ -159,9 +173,9 @@ class Client {
 
   // Tells the server of the documents: those that are open, and what becomes of them.
   #follow() {
-    const tell = (act) => (document) => document.languageId === LANGUAGE && act(document);
+    const tell = (act) => (document) => ALL.includes(document.languageId) && act(document);
     const opened = tell((document) => {
-      const textDocument = { ...named(document), languageId: LANGUAGE, version: document.version, text: document.getText() };
+      const textDocument = { ...named(document), languageId: document.languageId, version: document.version, text: document.getText() };
       this.connection.notify("textDocument/didOpen", { textDocument });
     });
     const closed = tell((document) => {
@@ -169,7 +183,7 @@ class Client {
       this.errors.delete(document.uri);
     });
     const changed = ({ document, contentChanges }) => {
-      if (document.languageId !== LANGUAGE || contentChanges.length === 0) return;
+      if (!ALL.includes(document.languageId) || contentChanges.length === 0) return;
       const changes = contentChanges.map(({ range: at, text }) => ({ range: range(at), text }));
       this.connection.notify("textDocument/didChange", { textDocument: { ...named(document), version: document.version }, contentChanges: changes });
     };
@@ -195,10 +209,10 @@ class Client {
   }
 
   #serve(capabilities) {
-    for (const { can, provider, words = () => [], call, method, more = () => ({}), value } of SERVED) {
+    for (const { can, provider, languages: served = ALL, words = () => [], call, method, more = () => ({}), value } of SERVED) {
       if (!capabilities[can]) continue;
       const ask = (document, ...given) => this.#ask(`textDocument/${method}`, { textDocument: named(document), ...more(...given) }, value);
-      this.disposables.push(languages[`register${provider}Provider`]({ language: LANGUAGE }, { [call]: ask }, ...words(capabilities[can])));
+      this.disposables.push(languages[`register${provider}Provider`](served.map((language) => ({ language })), { [call]: ask }, ...words(capabilities[can])));
     }
     if (!capabilities.workspaceSymbolProvider) return;
     const provideWorkspaceSymbols = (query) => this.#ask("workspace/symbol", { query }, each(answers.found));

@@ -6,7 +6,10 @@ const HEAD_END = "\r\n\r\n";
 class Connection {
   #last = 0;
   #waiting = new Map();
-  #bytes = Buffer.alloc(0);
+  // The bytes that were read and are not taken yet, in pieces; how many they are, and how many the next message needs.
+  #pieces = [];
+  #length = 0;
+  #needed = 0;
 
   // Starts the program with these words. `notified` gets the method and the parameters of each notification, `ended` a text when the program has ended by itself.
   constructor(command, words, { notified, ended }) {
@@ -22,18 +25,23 @@ class Connection {
     });
   }
 
-  #read(bytes) {
-    this.#bytes = Buffer.concat([this.#bytes, bytes]);
-    for (;;) {
-      const head = this.#bytes.indexOf(HEAD_END);
+  // The pieces are joined when they have a whole message, so that a long one is not copied for each piece of it.
+  #read(piece) {
+    this.#pieces.push(piece);
+    this.#length += piece.length;
+    while (this.#length >= this.#needed) {
+      const bytes = this.#pieces.length === 1 ? this.#pieces[0] : Buffer.concat(this.#pieces, this.#length);
+      this.#pieces = [bytes];
+      const head = bytes.indexOf(HEAD_END);
       if (head < 0) return;
       const start = head + HEAD_END.length;
-      const length = Number(/^Content-Length: *(\d+)/im.exec(this.#bytes.toString("latin1", 0, head))?.[1] ?? -1);
+      const length = Number(/^Content-Length: *(\d+)/im.exec(bytes.toString("latin1", 0, head))?.[1] ?? -1);
       if (length < 0) this.process.kill(); // no server speaks like this
-      if (length < 0 || this.#bytes.length < start + length) return;
-      const message = JSON.parse(this.#bytes.toString("utf8", start, start + length));
-      this.#bytes = this.#bytes.subarray(start + length);
-      this.#take(message);
+      if (length < 0) return;
+      this.#needed = start + length;
+      if (this.#length < this.#needed) return;
+      [this.#pieces, this.#length, this.#needed] = [[bytes.subarray(start + length)], this.#length - this.#needed, 0];
+      this.#take(JSON.parse(bytes.toString("utf8", start, start + length)));
     }
   }
 
@@ -70,7 +78,8 @@ class Connection {
   // Ends the conversation, and within two seconds the program.
   async close() {
     this.isClosing = true;
-    if (this.process.exitCode !== null || this.process.signalCode !== null) return;
+    const isStarted = await this.started.then(() => true, () => false);
+    if (!isStarted || this.process.exitCode !== null || this.process.signalCode !== null) return;
     const gone = new Promise((resolve) => this.process.once("exit", resolve));
     const timer = setTimeout(() => this.process.kill(), 2000);
     this.request("shutdown").then(() => this.notify("exit"), () => {});

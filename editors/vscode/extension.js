@@ -3,7 +3,8 @@
 const { commands, window, workspace } = require("vscode");
 const { Client } = require("./client.js");
 
-let client;
+// The client of the server; the start that is under way or was the last; the restart that has not started its server yet.
+let [client, starting, restarting, isActive] = [undefined, Promise.resolve(), undefined, true];
 
 async function stop() {
   const running = client;
@@ -20,26 +21,36 @@ function limitWords(settings) {
 async function start() {
   const settings = workspace.getConfiguration("gqlls");
   const command = settings.get("path");
-  client = new Client(command, limitWords(settings));
+  const mine = (client = new Client(command, limitWords(settings)));
   try {
-    await client.start();
+    await mine.start();
   } catch (error) {
+    if (client !== mine) return; // it was stopped while it started
     client = undefined;
     window.showErrorMessage(`gqlls cannot be started as ${command}: ${error.message}`);
   }
 }
 
-async function restart() {
-  await stop();
-  await start();
+// Ends the server, and when it is gone starts one with the settings of then. Until that one starts, further calls wait for the same: there is never a second.
+function restart() {
+  restarting ??= (async () => {
+    await Promise.all([stop(), starting]);
+    restarting = undefined;
+    if (isActive) await (starting = start());
+  })();
+  return restarting;
 }
 
 exports.activate = async (context) => {
+  isActive = true;
   context.subscriptions.push(
     commands.registerCommand("gqlls.restart", restart),
     workspace.onDidChangeConfiguration((event) => event.affectsConfiguration("gqlls") && restart()),
   );
-  await start();
+  await (starting = start());
 };
 
-exports.deactivate = stop;
+exports.deactivate = async () => {
+  isActive = false;
+  await Promise.all([stop(), starting, restarting]);
+};

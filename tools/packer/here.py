@@ -167,6 +167,7 @@ def test_vsix(folder):
             stop(f"the extension's package has no {name}")
     if not without("node", "the extension"):
         run("node", VSCODE / "tests/server.js", TOP / "crates/gqlls/out/gqlls", folder / "extension", timeout=600)
+        run("node", VSCODE / "tests/restarts.js", folder / "extension", timeout=300)
 
 
 def test_here():

@@ -135,6 +135,21 @@ const tests = {
     assert.deepEqual([signatures.length, activeSignature, activeParameter], [1, 0, 0]);
   },
 
+  async "templates"() {
+    for (const [languageId, text] of [["typescript", "const q = gql`{ pet(id: }`\n"], ["python", 'Q = gql(\"\"\"{ pet(id: }\"\"\")\n']]) {
+      const host = new Document(`/host.${languageId}`, text, languageId);
+      tell("onDidOpenTextDocument", host);
+      await until(() => errorsOf(host));
+      assert.deepEqual(errorsOf(host).map(({ range }) => [range.start.line, text[range.start.character]]), [[0, "}"]]);
+      const items = await ask("CompletionItem", "provideCompletionItems", host, at(0, text.indexOf("pet")));
+      assert.ok(items.some(({ label }) => label === "pet"));
+      host.replace(new vscode.Range(0, text.indexOf("}"), 0, text.indexOf("}")), "1) ");
+      await until(() => errorsOf(host).length === 0);
+      tell("onDidCloseTextDocument", host);
+      await until(() => !errorsOf(host));
+    }
+  },
+
   async "completion"() {
     assert.deepEqual(providers.CompletionItem.words, ["$", "@", ".", ":", "(", "{"]);
     const items = await ask("CompletionItem", "provideCompletionItems", schema, at(3, 17));

@@ -59,7 +59,9 @@ function listening(event) {
   };
 }
 
+// Each is registered once.
 const registering = (name) => (selector, provider, ...words) => {
+  assert.equal(providers[name], undefined);
   providers[name] = { selector, provider, words };
   return { dispose: () => delete providers[name] };
 };
