@@ -11,7 +11,7 @@ import zipfile
 from pathlib import Path
 
 from .library import CALLS, install
-from .shared import BUILD, C, INCLUDE, LIMITS, PYTHON, RUST, gqlcst, need, run, stop, texts, version, words_of
+from .shared import BUILD, C, INCLUDE, LIMITS, PACKAGE, PYTHON, RUST, gqlcst, need, run, stop, texts, version, words_of
 
 WARNINGS = ["-Wall", "-Wextra", "-Werror", "-pedantic"]
 
@@ -76,6 +76,23 @@ def test_rust(_folder):
     for link in ("dylib", "static"):
         there = {**os.environ, "DUMYROKE_LIB_DIR": str(BUILD), "DUMYROKE_LINK": link, "LD_LIBRARY_PATH": str(BUILD)}
         run("cargo", "test", "--offline", "--quiet", cwd=RUST, env=there, stdout=subprocess.DEVNULL)
+
+
+def test_clippy(_folder):
+    """The usual linter of Rust has nothing to say of the crate, its tests and its examples."""
+    if not shutil.which("cargo-clippy"):
+        print("there is no clippy: the Rust crate was not tried with it")
+        return
+    there = {**os.environ, "DUMYROKE_LIB_DIR": str(BUILD)}
+    run("cargo", "clippy", "--offline", "--quiet", "--all-targets", "--", "-D", "warnings", cwd=RUST, env=there)
+
+
+def test_mypy(folder):
+    """The types of the Python package hold in the strictest mode of mypy."""
+    if not shutil.which("mypy"):
+        print("there is no mypy: the types of the Python package were not tried")
+        return
+    run("mypy", "--strict", "--cache-dir", folder / "cache", PACKAGE, stdout=subprocess.DEVNULL)
 
 
 def test_rust_platforms(_folder):
@@ -231,7 +248,9 @@ def test_cmake(folder):
             stop(f"fields.c, built by cmake with the {program} library, writes something else")
 
 
-PARTS = (test_c, test_trees, test_install, test_cmake, test_rust, test_rust_platforms, test_rust_trees, test_python, test_python_readme, test_query_log, test_room)
+C_PARTS = (test_c, test_trees, test_install, test_cmake)
+RUST_PARTS = (test_rust, test_clippy, test_rust_platforms, test_rust_trees)
+PYTHON_PARTS = (test_python, test_mypy, test_python_readme, test_query_log, test_room)
 # The parts that compare with the program gqlcst, which `rt ci` builds.
 COMPARING = (test_trees, test_rust_trees)
 
@@ -242,7 +261,7 @@ def test(is_quick=False):
     if not (BUILD / "libdumyroke.so").exists():
         stop("there is nothing to test: `tools/bindings build` comes first")
     test_symbols()
-    for part in PARTS:
+    for part in (*C_PARTS, *RUST_PARTS, *PYTHON_PARTS):
         if not (is_quick and part in COMPARING):
             with tempfile.TemporaryDirectory() as folder:
                 part(Path(folder))

@@ -68,11 +68,13 @@ def kinds_of(accessor):
 
 
 def property_text(name, answer, doc, body):
+    # the calls that search for a child have no type of their own, so a name with the type has their answer
+    lines = f"node: {answer} = {body}\n        return node" if body.startswith("self._first") else f"return {body}"
     return f'''
     @property
     def {name}(self) -> {answer}:
         """{doc}"""
-        return {body}
+        {lines}
 '''
 
 

@@ -141,7 +141,7 @@ impl CstNode for {name} {{
 
     #[inline]
     fn cast_as(kind: SyntaxKind, syntax: SyntaxNode) -> Option<Self> {{
-        Self::can_cast(kind).then(|| Self {{ syntax }})
+        Self::can_cast(kind).then_some(Self {{ syntax }})
     }}
 
     #[inline]

@@ -1,6 +1,7 @@
 """python -m dumyroke check FILE..: prints the errors of GraphQL documents as FILE:LINE:COLUMN: message. Columns count characters. The file - is
 standard input. Ends with 0 if there are no errors, with 1 if there are, and with 2 if a file can't be read or is not UTF-8."""
 
+import io
 import sys
 import unicodedata
 
@@ -34,7 +35,8 @@ def main() -> None:
     if command != "check" or not files:
         print(__doc__, file=sys.stderr)
         sys.exit(2)
-    sys.stdout.reconfigure(errors="backslashreplace")  # type: ignore[union-attr]
+    if isinstance(sys.stdout, io.TextIOWrapper):
+        sys.stdout.reconfigure(errors="backslashreplace")
     sys.exit(max(map(errors_in, files)))
 
 

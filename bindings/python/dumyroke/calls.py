@@ -79,7 +79,7 @@ class _Buffers:
         counts = self.counts
         library.raise_for(counts.status, source)
         has_rows = not row_size or counts.elements <= row_room
-        return has_rows and counts.errors <= self.error_room and counts.message_bytes <= self.message_room
+        return bool(has_rows and counts.errors <= self.error_room and counts.message_bytes <= self.message_room)
 
     def elements_of(self) -> bytes | memoryview:
         """The rows of elements that were written, with starts that say no more whether it is a node, since kinds do; and after them one more start, the end

@@ -52,7 +52,9 @@ class Error(Placed):
         return self.message, self.data, self.range, self.is_limit, self.is_eof
 
     def __eq__(self, other: object) -> bool:
-        return self._key() == other._key() if isinstance(other, Error) else NotImplemented
+        if not isinstance(other, Error):
+            return NotImplemented
+        return self._key() == other._key()
 
     def __hash__(self) -> int:
         return hash(self._key())
@@ -84,7 +86,9 @@ class Errors(Sequence[Error]):
         return Error(message, data, (row.start, row.end), bool(row.is_limit), bool(row.is_eof), self._positions)
 
     def __eq__(self, other: object) -> bool:
-        return list(self) == list(other) if isinstance(other, (Errors, list)) else NotImplemented
+        if not isinstance(other, (Errors, list)):
+            return NotImplemented
+        return list(self) == list(other)
 
     __hash__ = None  # type: ignore[assignment]
 

@@ -73,7 +73,8 @@ class OperationDefinition(Node, kind="OPERATION_DEFINITION"):
     @property
     def selection_set(self) -> SelectionSet | None:
         """The selection set. None only if the parse reported errors."""
-        return self._first((SELECTION_SET,))
+        node: SelectionSet | None = self._first((SELECTION_SET,))
+        return node
 
     @property
     def selections(self) -> list[Selection]:
@@ -83,17 +84,20 @@ class OperationDefinition(Node, kind="OPERATION_DEFINITION"):
     @property
     def description(self) -> Description | None:
         """The description, or None when there is none."""
-        return self._first((DESCRIPTION,))
+        node: Description | None = self._first((DESCRIPTION,))
+        return node
 
     @property
     def operation_type(self) -> OperationType | None:
         """The operation type, or None when the query is a selection set alone."""
-        return self._first((OPERATION_TYPE,))
+        node: OperationType | None = self._first((OPERATION_TYPE,))
+        return node
 
     @property
     def name(self) -> Name | None:
         """The name, or None when there is none."""
-        return self._first((NAME,))
+        node: Name | None = self._first((NAME,))
+        return node
 
     @property
     def variable_definitions(self) -> list[VariableDefinition]:
@@ -142,12 +146,14 @@ class Field(Node, kind="FIELD"):
     @property
     def alias(self) -> Alias | None:
         """The alias, or None when there is none."""
-        return self._first((ALIAS,))
+        node: Alias | None = self._first((ALIAS,))
+        return node
 
     @property
     def name(self) -> Name | None:
         """The name. None only if the parse reported errors."""
-        return self._first((NAME,))
+        node: Name | None = self._first((NAME,))
+        return node
 
     @property
     def arguments(self) -> list[Argument]:
@@ -162,7 +168,8 @@ class Field(Node, kind="FIELD"):
     @property
     def selection_set(self) -> SelectionSet | None:
         """The selection set, or None when there is none."""
-        return self._first((SELECTION_SET,))
+        node: SelectionSet | None = self._first((SELECTION_SET,))
+        return node
 
     @property
     def selections(self) -> list[Selection]:
@@ -181,7 +188,8 @@ class Alias(Node, kind="ALIAS"):
     @property
     def name(self) -> Name | None:
         """The name. None only if the parse reported errors."""
-        return self._first((NAME,))
+        node: Name | None = self._first((NAME,))
+        return node
 
 
 class Name(Node, kind="NAME"):
@@ -204,7 +212,8 @@ class FragmentSpread(Node, kind="FRAGMENT_SPREAD"):
     @property
     def fragment_name(self) -> FragmentName | None:
         """The name of the fragment. None only if the parse reported errors."""
-        return self._first((FRAGMENT_NAME,))
+        node: FragmentName | None = self._first((FRAGMENT_NAME,))
+        return node
 
     @property
     def directives(self) -> list[Directive]:
@@ -214,7 +223,8 @@ class FragmentSpread(Node, kind="FRAGMENT_SPREAD"):
     @property
     def name(self) -> Name | None:
         """The name of the fragment. None only if the parse reported errors."""
-        return self._first_in(FRAGMENT_NAME, (NAME,))
+        node: Name | None = self._first_in(FRAGMENT_NAME, (NAME,))
+        return node
 
 
 class InlineFragment(Node, kind="INLINE_FRAGMENT"):
@@ -228,7 +238,8 @@ class InlineFragment(Node, kind="INLINE_FRAGMENT"):
     @property
     def type_condition(self) -> TypeCondition | None:
         """The type condition, or None when there is none."""
-        return self._first((TYPE_CONDITION,))
+        node: TypeCondition | None = self._first((TYPE_CONDITION,))
+        return node
 
     @property
     def directives(self) -> list[Directive]:
@@ -238,7 +249,8 @@ class InlineFragment(Node, kind="INLINE_FRAGMENT"):
     @property
     def selection_set(self) -> SelectionSet | None:
         """The selection set. None only if the parse reported errors."""
-        return self._first((SELECTION_SET,))
+        node: SelectionSet | None = self._first((SELECTION_SET,))
+        return node
 
     @property
     def selections(self) -> list[Selection]:
@@ -259,17 +271,20 @@ class FragmentDefinition(Node, kind="FRAGMENT_DEFINITION"):
     @property
     def description(self) -> Description | None:
         """The description, or None when there is none."""
-        return self._first((DESCRIPTION,))
+        node: Description | None = self._first((DESCRIPTION,))
+        return node
 
     @property
     def fragment_name(self) -> FragmentName | None:
         """The name of the fragment. None only if the parse reported errors."""
-        return self._first((FRAGMENT_NAME,))
+        node: FragmentName | None = self._first((FRAGMENT_NAME,))
+        return node
 
     @property
     def type_condition(self) -> TypeCondition | None:
         """The type condition. None only if the parse reported errors."""
-        return self._first((TYPE_CONDITION,))
+        node: TypeCondition | None = self._first((TYPE_CONDITION,))
+        return node
 
     @property
     def directives(self) -> list[Directive]:
@@ -279,7 +294,8 @@ class FragmentDefinition(Node, kind="FRAGMENT_DEFINITION"):
     @property
     def selection_set(self) -> SelectionSet | None:
         """The selection set. None only if the parse reported errors."""
-        return self._first((SELECTION_SET,))
+        node: SelectionSet | None = self._first((SELECTION_SET,))
+        return node
 
     @property
     def selections(self) -> list[Selection]:
@@ -289,7 +305,8 @@ class FragmentDefinition(Node, kind="FRAGMENT_DEFINITION"):
     @property
     def name(self) -> Name | None:
         """The name of the fragment. None only if the parse reported errors."""
-        return self._first_in(FRAGMENT_NAME, (NAME,))
+        node: Name | None = self._first_in(FRAGMENT_NAME, (NAME,))
+        return node
 
 
 class FragmentName(Node, kind="FRAGMENT_NAME"):
@@ -303,7 +320,8 @@ class FragmentName(Node, kind="FRAGMENT_NAME"):
     @property
     def name(self) -> Name | None:
         """The name. None only if the parse reported errors."""
-        return self._first((NAME,))
+        node: Name | None = self._first((NAME,))
+        return node
 
 
 class TypeCondition(Node, kind="TYPE_CONDITION"):
@@ -317,7 +335,8 @@ class TypeCondition(Node, kind="TYPE_CONDITION"):
     @property
     def named_type(self) -> NamedType | None:
         """The named type. None only if the parse reported errors."""
-        return self._first((NAMED_TYPE,))
+        node: NamedType | None = self._first((NAMED_TYPE,))
+        return node
 
 
 class Arguments(Node, kind="ARGUMENTS"):
@@ -345,12 +364,14 @@ class Argument(Node, kind="ARGUMENT"):
     @property
     def name(self) -> Name | None:
         """The name. None only if the parse reported errors."""
-        return self._first((NAME,))
+        node: Name | None = self._first((NAME,))
+        return node
 
     @property
     def value(self) -> Value | None:
         """The value. None only if the parse reported errors."""
-        return self._first(VALUES)
+        node: Value | None = self._first(VALUES)
+        return node
 
 
 class Directives(Node, kind="DIRECTIVES"):
@@ -378,7 +399,8 @@ class Directive(Node, kind="DIRECTIVE"):
     @property
     def name(self) -> Name | None:
         """The name. None only if the parse reported errors."""
-        return self._first((NAME,))
+        node: Name | None = self._first((NAME,))
+        return node
 
     @property
     def arguments(self) -> list[Argument]:
@@ -413,22 +435,26 @@ class VariableDefinition(Node, kind="VARIABLE_DEFINITION"):
     @property
     def description(self) -> Description | None:
         """The description, or None when there is none."""
-        return self._first((DESCRIPTION,))
+        node: Description | None = self._first((DESCRIPTION,))
+        return node
 
     @property
     def variable(self) -> Variable | None:
         """The variable. None only if the parse reported errors."""
-        return self._first((VARIABLE,))
+        node: Variable | None = self._first((VARIABLE,))
+        return node
 
     @property
     def type(self) -> Type | None:
         """The type. None only if the parse reported errors."""
-        return self._first(TYPES)
+        node: Type | None = self._first(TYPES)
+        return node
 
     @property
     def default_value(self) -> DefaultValue | None:
         """The default value, or None when there is none."""
-        return self._first((DEFAULT_VALUE,))
+        node: DefaultValue | None = self._first((DEFAULT_VALUE,))
+        return node
 
     @property
     def directives(self) -> list[Directive]:
@@ -447,7 +473,8 @@ class Variable(Node, kind="VARIABLE"):
     @property
     def name(self) -> Name | None:
         """The name. None only if the parse reported errors."""
-        return self._first((NAME,))
+        node: Name | None = self._first((NAME,))
+        return node
 
 
 class DefaultValue(Node, kind="DEFAULT_VALUE"):
@@ -461,7 +488,8 @@ class DefaultValue(Node, kind="DEFAULT_VALUE"):
     @property
     def value(self) -> Value | None:
         """The value. None only if the parse reported errors."""
-        return self._first(VALUES)
+        node: Value | None = self._first(VALUES)
+        return node
 
 
 class IntValue(Node, kind="INT_VALUE"):
@@ -548,7 +576,8 @@ class EnumValue(Node, kind="ENUM_VALUE"):
     @property
     def name(self) -> Name | None:
         """The name. None only if the parse reported errors."""
-        return self._first((NAME,))
+        node: Name | None = self._first((NAME,))
+        return node
 
     @property
     def value(self) -> str | None:
@@ -599,12 +628,14 @@ class ObjectField(Node, kind="OBJECT_FIELD"):
     @property
     def name(self) -> Name | None:
         """The name. None only if the parse reported errors."""
-        return self._first((NAME,))
+        node: Name | None = self._first((NAME,))
+        return node
 
     @property
     def value(self) -> Value | None:
         """The value. None only if the parse reported errors."""
-        return self._first(VALUES)
+        node: Value | None = self._first(VALUES)
+        return node
 
 
 class NamedType(Node, kind="NAMED_TYPE"):
@@ -618,7 +649,8 @@ class NamedType(Node, kind="NAMED_TYPE"):
     @property
     def name(self) -> Name | None:
         """The name. None only if the parse reported errors."""
-        return self._first((NAME,))
+        node: Name | None = self._first((NAME,))
+        return node
 
 
 class ListType(Node, kind="LIST_TYPE"):
@@ -632,7 +664,8 @@ class ListType(Node, kind="LIST_TYPE"):
     @property
     def type(self) -> Type | None:
         """The type. None only if the parse reported errors."""
-        return self._first(TYPES)
+        node: Type | None = self._first(TYPES)
+        return node
 
 
 class NonNullType(Node, kind="NON_NULL_TYPE"):
@@ -648,17 +681,20 @@ class NonNullType(Node, kind="NON_NULL_TYPE"):
     @property
     def named_type(self) -> NamedType | None:
         """The named type, or None when it is a list type."""
-        return self._first((NAMED_TYPE,))
+        node: NamedType | None = self._first((NAMED_TYPE,))
+        return node
 
     @property
     def list_type(self) -> ListType | None:
         """The list type, or None when it is a named type."""
-        return self._first((LIST_TYPE,))
+        node: ListType | None = self._first((LIST_TYPE,))
+        return node
 
     @property
     def type(self) -> NamedType | ListType | None:
         """The type. None only if the parse reported errors."""
-        return self._first((NAMED_TYPE, LIST_TYPE))
+        node: NamedType | ListType | None = self._first((NAMED_TYPE, LIST_TYPE))
+        return node
 
 
 class Description(Node, kind="DESCRIPTION"):
@@ -672,7 +708,8 @@ class Description(Node, kind="DESCRIPTION"):
     @property
     def string_value(self) -> StringValue | None:
         """The string. None only if the parse reported errors."""
-        return self._first((STRING_VALUE,))
+        node: StringValue | None = self._first((STRING_VALUE,))
+        return node
 
     @property
     def value(self) -> str | None:
@@ -691,7 +728,8 @@ class SchemaDefinition(Node, kind="SCHEMA_DEFINITION"):
     @property
     def description(self) -> Description | None:
         """The description, or None when there is none."""
-        return self._first((DESCRIPTION,))
+        node: Description | None = self._first((DESCRIPTION,))
+        return node
 
     @property
     def directives(self) -> list[Directive]:
@@ -720,12 +758,14 @@ class RootOperationTypeDefinition(Node, kind="ROOT_OPERATION_TYPE_DEFINITION"):
     @property
     def operation_type(self) -> OperationType | None:
         """The operation type. None only if the parse reported errors."""
-        return self._first((OPERATION_TYPE,))
+        node: OperationType | None = self._first((OPERATION_TYPE,))
+        return node
 
     @property
     def named_type(self) -> NamedType | None:
         """The named type. None only if the parse reported errors."""
-        return self._first((NAMED_TYPE,))
+        node: NamedType | None = self._first((NAMED_TYPE,))
+        return node
 
 
 class ScalarTypeDefinition(Node, kind="SCALAR_TYPE_DEFINITION"):
@@ -739,12 +779,14 @@ class ScalarTypeDefinition(Node, kind="SCALAR_TYPE_DEFINITION"):
     @property
     def description(self) -> Description | None:
         """The description, or None when there is none."""
-        return self._first((DESCRIPTION,))
+        node: Description | None = self._first((DESCRIPTION,))
+        return node
 
     @property
     def name(self) -> Name | None:
         """The name. None only if the parse reported errors."""
-        return self._first((NAME,))
+        node: Name | None = self._first((NAME,))
+        return node
 
     @property
     def directives(self) -> list[Directive]:
@@ -765,17 +807,20 @@ class ObjectTypeDefinition(Node, kind="OBJECT_TYPE_DEFINITION"):
     @property
     def description(self) -> Description | None:
         """The description, or None when there is none."""
-        return self._first((DESCRIPTION,))
+        node: Description | None = self._first((DESCRIPTION,))
+        return node
 
     @property
     def name(self) -> Name | None:
         """The name. None only if the parse reported errors."""
-        return self._first((NAME,))
+        node: Name | None = self._first((NAME,))
+        return node
 
     @property
     def implements_interfaces(self) -> ImplementsInterfaces | None:
         """The interfaces that it implements, or None when there are none."""
-        return self._first((IMPLEMENTS_INTERFACES,))
+        node: ImplementsInterfaces | None = self._first((IMPLEMENTS_INTERFACES,))
+        return node
 
     @property
     def interfaces(self) -> list[NamedType]:
@@ -790,7 +835,8 @@ class ObjectTypeDefinition(Node, kind="OBJECT_TYPE_DEFINITION"):
     @property
     def fields_definition(self) -> FieldsDefinition | None:
         """The definitions of its fields, or None when there are none."""
-        return self._first((FIELDS_DEFINITION,))
+        node: FieldsDefinition | None = self._first((FIELDS_DEFINITION,))
+        return node
 
     @property
     def fields(self) -> list[FieldDefinition]:
@@ -839,17 +885,20 @@ class FieldDefinition(Node, kind="FIELD_DEFINITION"):
     @property
     def description(self) -> Description | None:
         """The description, or None when there is none."""
-        return self._first((DESCRIPTION,))
+        node: Description | None = self._first((DESCRIPTION,))
+        return node
 
     @property
     def name(self) -> Name | None:
         """The name. None only if the parse reported errors."""
-        return self._first((NAME,))
+        node: Name | None = self._first((NAME,))
+        return node
 
     @property
     def arguments_definition(self) -> ArgumentsDefinition | None:
         """The definitions of its arguments, or None when there are none."""
-        return self._first((ARGUMENTS_DEFINITION,))
+        node: ArgumentsDefinition | None = self._first((ARGUMENTS_DEFINITION,))
+        return node
 
     @property
     def arguments(self) -> list[InputValueDefinition]:
@@ -859,7 +908,8 @@ class FieldDefinition(Node, kind="FIELD_DEFINITION"):
     @property
     def type(self) -> Type | None:
         """The type. None only if the parse reported errors."""
-        return self._first(TYPES)
+        node: Type | None = self._first(TYPES)
+        return node
 
     @property
     def directives(self) -> list[Directive]:
@@ -892,22 +942,26 @@ class InputValueDefinition(Node, kind="INPUT_VALUE_DEFINITION"):
     @property
     def description(self) -> Description | None:
         """The description, or None when there is none."""
-        return self._first((DESCRIPTION,))
+        node: Description | None = self._first((DESCRIPTION,))
+        return node
 
     @property
     def name(self) -> Name | None:
         """The name. None only if the parse reported errors."""
-        return self._first((NAME,))
+        node: Name | None = self._first((NAME,))
+        return node
 
     @property
     def type(self) -> Type | None:
         """The type. None only if the parse reported errors."""
-        return self._first(TYPES)
+        node: Type | None = self._first(TYPES)
+        return node
 
     @property
     def default_value(self) -> DefaultValue | None:
         """The default value, or None when there is none."""
-        return self._first((DEFAULT_VALUE,))
+        node: DefaultValue | None = self._first((DEFAULT_VALUE,))
+        return node
 
     @property
     def directives(self) -> list[Directive]:
@@ -928,17 +982,20 @@ class InterfaceTypeDefinition(Node, kind="INTERFACE_TYPE_DEFINITION"):
     @property
     def description(self) -> Description | None:
         """The description, or None when there is none."""
-        return self._first((DESCRIPTION,))
+        node: Description | None = self._first((DESCRIPTION,))
+        return node
 
     @property
     def name(self) -> Name | None:
         """The name. None only if the parse reported errors."""
-        return self._first((NAME,))
+        node: Name | None = self._first((NAME,))
+        return node
 
     @property
     def implements_interfaces(self) -> ImplementsInterfaces | None:
         """The interfaces that it implements, or None when there are none."""
-        return self._first((IMPLEMENTS_INTERFACES,))
+        node: ImplementsInterfaces | None = self._first((IMPLEMENTS_INTERFACES,))
+        return node
 
     @property
     def interfaces(self) -> list[NamedType]:
@@ -953,7 +1010,8 @@ class InterfaceTypeDefinition(Node, kind="INTERFACE_TYPE_DEFINITION"):
     @property
     def fields_definition(self) -> FieldsDefinition | None:
         """The definitions of its fields, or None when there are none."""
-        return self._first((FIELDS_DEFINITION,))
+        node: FieldsDefinition | None = self._first((FIELDS_DEFINITION,))
+        return node
 
     @property
     def fields(self) -> list[FieldDefinition]:
@@ -972,12 +1030,14 @@ class UnionTypeDefinition(Node, kind="UNION_TYPE_DEFINITION"):
     @property
     def description(self) -> Description | None:
         """The description, or None when there is none."""
-        return self._first((DESCRIPTION,))
+        node: Description | None = self._first((DESCRIPTION,))
+        return node
 
     @property
     def name(self) -> Name | None:
         """The name. None only if the parse reported errors."""
-        return self._first((NAME,))
+        node: Name | None = self._first((NAME,))
+        return node
 
     @property
     def directives(self) -> list[Directive]:
@@ -987,7 +1047,8 @@ class UnionTypeDefinition(Node, kind="UNION_TYPE_DEFINITION"):
     @property
     def union_member_types(self) -> UnionMemberTypes | None:
         """The member types, or None when there are none."""
-        return self._first((UNION_MEMBER_TYPES,))
+        node: UnionMemberTypes | None = self._first((UNION_MEMBER_TYPES,))
+        return node
 
     @property
     def types(self) -> list[NamedType]:
@@ -1024,12 +1085,14 @@ class EnumTypeDefinition(Node, kind="ENUM_TYPE_DEFINITION"):
     @property
     def description(self) -> Description | None:
         """The description, or None when there is none."""
-        return self._first((DESCRIPTION,))
+        node: Description | None = self._first((DESCRIPTION,))
+        return node
 
     @property
     def name(self) -> Name | None:
         """The name. None only if the parse reported errors."""
-        return self._first((NAME,))
+        node: Name | None = self._first((NAME,))
+        return node
 
     @property
     def directives(self) -> list[Directive]:
@@ -1039,7 +1102,8 @@ class EnumTypeDefinition(Node, kind="ENUM_TYPE_DEFINITION"):
     @property
     def enum_values_definition(self) -> EnumValuesDefinition | None:
         """The definitions of its values, or None when there are none."""
-        return self._first((ENUM_VALUES_DEFINITION,))
+        node: EnumValuesDefinition | None = self._first((ENUM_VALUES_DEFINITION,))
+        return node
 
     @property
     def values(self) -> list[EnumValueDefinition]:
@@ -1072,12 +1136,14 @@ class EnumValueDefinition(Node, kind="ENUM_VALUE_DEFINITION"):
     @property
     def description(self) -> Description | None:
         """The description, or None when there is none."""
-        return self._first((DESCRIPTION,))
+        node: Description | None = self._first((DESCRIPTION,))
+        return node
 
     @property
     def enum_value(self) -> EnumValue | None:
         """The enum value. None only if the parse reported errors."""
-        return self._first((ENUM_VALUE,))
+        node: EnumValue | None = self._first((ENUM_VALUE,))
+        return node
 
     @property
     def directives(self) -> list[Directive]:
@@ -1098,12 +1164,14 @@ class InputObjectTypeDefinition(Node, kind="INPUT_OBJECT_TYPE_DEFINITION"):
     @property
     def description(self) -> Description | None:
         """The description, or None when there is none."""
-        return self._first((DESCRIPTION,))
+        node: Description | None = self._first((DESCRIPTION,))
+        return node
 
     @property
     def name(self) -> Name | None:
         """The name. None only if the parse reported errors."""
-        return self._first((NAME,))
+        node: Name | None = self._first((NAME,))
+        return node
 
     @property
     def directives(self) -> list[Directive]:
@@ -1113,7 +1181,8 @@ class InputObjectTypeDefinition(Node, kind="INPUT_OBJECT_TYPE_DEFINITION"):
     @property
     def input_fields_definition(self) -> InputFieldsDefinition | None:
         """The definitions of its fields, or None when there are none."""
-        return self._first((INPUT_FIELDS_DEFINITION,))
+        node: InputFieldsDefinition | None = self._first((INPUT_FIELDS_DEFINITION,))
+        return node
 
     @property
     def fields(self) -> list[InputValueDefinition]:
@@ -1146,17 +1215,20 @@ class DirectiveDefinition(Node, kind="DIRECTIVE_DEFINITION"):
     @property
     def description(self) -> Description | None:
         """The description, or None when there is none."""
-        return self._first((DESCRIPTION,))
+        node: Description | None = self._first((DESCRIPTION,))
+        return node
 
     @property
     def name(self) -> Name | None:
         """The name. None only if the parse reported errors."""
-        return self._first((NAME,))
+        node: Name | None = self._first((NAME,))
+        return node
 
     @property
     def arguments_definition(self) -> ArgumentsDefinition | None:
         """The definitions of its arguments, or None when there are none."""
-        return self._first((ARGUMENTS_DEFINITION,))
+        node: ArgumentsDefinition | None = self._first((ARGUMENTS_DEFINITION,))
+        return node
 
     @property
     def arguments(self) -> list[InputValueDefinition]:
@@ -1166,7 +1238,8 @@ class DirectiveDefinition(Node, kind="DIRECTIVE_DEFINITION"):
     @property
     def directive_locations(self) -> DirectiveLocations | None:
         """The locations. None only if the parse reported errors."""
-        return self._first((DIRECTIVE_LOCATIONS,))
+        node: DirectiveLocations | None = self._first((DIRECTIVE_LOCATIONS,))
+        return node
 
     @property
     def locations(self) -> list[DirectiveLocation]:
@@ -1238,7 +1311,8 @@ class ScalarTypeExtension(Node, kind="SCALAR_TYPE_EXTENSION"):
     @property
     def name(self) -> Name | None:
         """The name. None only if the parse reported errors."""
-        return self._first((NAME,))
+        node: Name | None = self._first((NAME,))
+        return node
 
     @property
     def directives(self) -> list[Directive]:
@@ -1260,12 +1334,14 @@ class ObjectTypeExtension(Node, kind="OBJECT_TYPE_EXTENSION"):
     @property
     def name(self) -> Name | None:
         """The name. None only if the parse reported errors."""
-        return self._first((NAME,))
+        node: Name | None = self._first((NAME,))
+        return node
 
     @property
     def implements_interfaces(self) -> ImplementsInterfaces | None:
         """The interfaces that it implements, or None when there are none."""
-        return self._first((IMPLEMENTS_INTERFACES,))
+        node: ImplementsInterfaces | None = self._first((IMPLEMENTS_INTERFACES,))
+        return node
 
     @property
     def interfaces(self) -> list[NamedType]:
@@ -1280,7 +1356,8 @@ class ObjectTypeExtension(Node, kind="OBJECT_TYPE_EXTENSION"):
     @property
     def fields_definition(self) -> FieldsDefinition | None:
         """The definitions of its fields, or None when there are none."""
-        return self._first((FIELDS_DEFINITION,))
+        node: FieldsDefinition | None = self._first((FIELDS_DEFINITION,))
+        return node
 
     @property
     def fields(self) -> list[FieldDefinition]:
@@ -1302,12 +1379,14 @@ class InterfaceTypeExtension(Node, kind="INTERFACE_TYPE_EXTENSION"):
     @property
     def name(self) -> Name | None:
         """The name. None only if the parse reported errors."""
-        return self._first((NAME,))
+        node: Name | None = self._first((NAME,))
+        return node
 
     @property
     def implements_interfaces(self) -> ImplementsInterfaces | None:
         """The interfaces that it implements, or None when there are none."""
-        return self._first((IMPLEMENTS_INTERFACES,))
+        node: ImplementsInterfaces | None = self._first((IMPLEMENTS_INTERFACES,))
+        return node
 
     @property
     def interfaces(self) -> list[NamedType]:
@@ -1322,7 +1401,8 @@ class InterfaceTypeExtension(Node, kind="INTERFACE_TYPE_EXTENSION"):
     @property
     def fields_definition(self) -> FieldsDefinition | None:
         """The definitions of its fields, or None when there are none."""
-        return self._first((FIELDS_DEFINITION,))
+        node: FieldsDefinition | None = self._first((FIELDS_DEFINITION,))
+        return node
 
     @property
     def fields(self) -> list[FieldDefinition]:
@@ -1343,7 +1423,8 @@ class UnionTypeExtension(Node, kind="UNION_TYPE_EXTENSION"):
     @property
     def name(self) -> Name | None:
         """The name. None only if the parse reported errors."""
-        return self._first((NAME,))
+        node: Name | None = self._first((NAME,))
+        return node
 
     @property
     def directives(self) -> list[Directive]:
@@ -1353,7 +1434,8 @@ class UnionTypeExtension(Node, kind="UNION_TYPE_EXTENSION"):
     @property
     def union_member_types(self) -> UnionMemberTypes | None:
         """The member types, or None when there are none."""
-        return self._first((UNION_MEMBER_TYPES,))
+        node: UnionMemberTypes | None = self._first((UNION_MEMBER_TYPES,))
+        return node
 
     @property
     def types(self) -> list[NamedType]:
@@ -1374,7 +1456,8 @@ class EnumTypeExtension(Node, kind="ENUM_TYPE_EXTENSION"):
     @property
     def name(self) -> Name | None:
         """The name. None only if the parse reported errors."""
-        return self._first((NAME,))
+        node: Name | None = self._first((NAME,))
+        return node
 
     @property
     def directives(self) -> list[Directive]:
@@ -1384,7 +1467,8 @@ class EnumTypeExtension(Node, kind="ENUM_TYPE_EXTENSION"):
     @property
     def enum_values_definition(self) -> EnumValuesDefinition | None:
         """The definitions of its values, or None when there are none."""
-        return self._first((ENUM_VALUES_DEFINITION,))
+        node: EnumValuesDefinition | None = self._first((ENUM_VALUES_DEFINITION,))
+        return node
 
     @property
     def values(self) -> list[EnumValueDefinition]:
@@ -1405,7 +1489,8 @@ class InputObjectTypeExtension(Node, kind="INPUT_OBJECT_TYPE_EXTENSION"):
     @property
     def name(self) -> Name | None:
         """The name. None only if the parse reported errors."""
-        return self._first((NAME,))
+        node: Name | None = self._first((NAME,))
+        return node
 
     @property
     def directives(self) -> list[Directive]:
@@ -1415,7 +1500,8 @@ class InputObjectTypeExtension(Node, kind="INPUT_OBJECT_TYPE_EXTENSION"):
     @property
     def input_fields_definition(self) -> InputFieldsDefinition | None:
         """The definitions of its fields, or None when there are none."""
-        return self._first((INPUT_FIELDS_DEFINITION,))
+        node: InputFieldsDefinition | None = self._first((INPUT_FIELDS_DEFINITION,))
+        return node
 
     @property
     def fields(self) -> list[InputValueDefinition]:

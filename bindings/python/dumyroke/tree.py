@@ -203,7 +203,7 @@ class Node(Element):
 
     def _all_in(self, kind: int, kinds: tuple[int, ...]) -> list[Any]:
         """The children whose kind is one of these, of the first child of a kind. There are none if there is no such child."""
-        node = self._first((kind,))
+        node: Node | None = self._first((kind,))
         return node._all(kinds) if node else []
 
 
@@ -261,12 +261,14 @@ class Tree(Generic[R]):
     @property
     def root(self) -> R:
         """The root. From `parse` it is a DOCUMENT."""
-        return self._node(0)
+        root: R = self._node(0)
+        return root
 
     @property
     def document(self) -> Document:
         """The same as `root`, in a tree from `parse`."""
-        return self._node(0)
+        root: Document = self._node(0)
+        return root
 
     @overload
     def find(self, kind: type[N]) -> list[N]: ...

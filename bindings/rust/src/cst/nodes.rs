@@ -24,7 +24,7 @@ impl CstNode for Document {
 
     #[inline]
     fn cast_as(kind: SyntaxKind, syntax: SyntaxNode) -> Option<Self> {
-        Self::can_cast(kind).then(|| Self { syntax })
+        Self::can_cast(kind).then_some(Self { syntax })
     }
 
     #[inline]
@@ -72,7 +72,7 @@ impl CstNode for OperationDefinition {
 
     #[inline]
     fn cast_as(kind: SyntaxKind, syntax: SyntaxNode) -> Option<Self> {
-        Self::can_cast(kind).then(|| Self { syntax })
+        Self::can_cast(kind).then_some(Self { syntax })
     }
 
     #[inline]
@@ -146,7 +146,7 @@ impl CstNode for OperationType {
 
     #[inline]
     fn cast_as(kind: SyntaxKind, syntax: SyntaxNode) -> Option<Self> {
-        Self::can_cast(kind).then(|| Self { syntax })
+        Self::can_cast(kind).then_some(Self { syntax })
     }
 
     #[inline]
@@ -204,7 +204,7 @@ impl CstNode for SelectionSet {
 
     #[inline]
     fn cast_as(kind: SyntaxKind, syntax: SyntaxNode) -> Option<Self> {
-        Self::can_cast(kind).then(|| Self { syntax })
+        Self::can_cast(kind).then_some(Self { syntax })
     }
 
     #[inline]
@@ -260,7 +260,7 @@ impl CstNode for Field {
 
     #[inline]
     fn cast_as(kind: SyntaxKind, syntax: SyntaxNode) -> Option<Self> {
-        Self::can_cast(kind).then(|| Self { syntax })
+        Self::can_cast(kind).then_some(Self { syntax })
     }
 
     #[inline]
@@ -328,7 +328,7 @@ impl CstNode for Alias {
 
     #[inline]
     fn cast_as(kind: SyntaxKind, syntax: SyntaxNode) -> Option<Self> {
-        Self::can_cast(kind).then(|| Self { syntax })
+        Self::can_cast(kind).then_some(Self { syntax })
     }
 
     #[inline]
@@ -378,7 +378,7 @@ impl CstNode for Name {
 
     #[inline]
     fn cast_as(kind: SyntaxKind, syntax: SyntaxNode) -> Option<Self> {
-        Self::can_cast(kind).then(|| Self { syntax })
+        Self::can_cast(kind).then_some(Self { syntax })
     }
 
     #[inline]
@@ -422,7 +422,7 @@ impl CstNode for FragmentSpread {
 
     #[inline]
     fn cast_as(kind: SyntaxKind, syntax: SyntaxNode) -> Option<Self> {
-        Self::can_cast(kind).then(|| Self { syntax })
+        Self::can_cast(kind).then_some(Self { syntax })
     }
 
     #[inline]
@@ -484,7 +484,7 @@ impl CstNode for InlineFragment {
 
     #[inline]
     fn cast_as(kind: SyntaxKind, syntax: SyntaxNode) -> Option<Self> {
-        Self::can_cast(kind).then(|| Self { syntax })
+        Self::can_cast(kind).then_some(Self { syntax })
     }
 
     #[inline]
@@ -554,7 +554,7 @@ impl CstNode for FragmentDefinition {
 
     #[inline]
     fn cast_as(kind: SyntaxKind, syntax: SyntaxNode) -> Option<Self> {
-        Self::can_cast(kind).then(|| Self { syntax })
+        Self::can_cast(kind).then_some(Self { syntax })
     }
 
     #[inline]
@@ -628,7 +628,7 @@ impl CstNode for FragmentName {
 
     #[inline]
     fn cast_as(kind: SyntaxKind, syntax: SyntaxNode) -> Option<Self> {
-        Self::can_cast(kind).then(|| Self { syntax })
+        Self::can_cast(kind).then_some(Self { syntax })
     }
 
     #[inline]
@@ -672,7 +672,7 @@ impl CstNode for TypeCondition {
 
     #[inline]
     fn cast_as(kind: SyntaxKind, syntax: SyntaxNode) -> Option<Self> {
-        Self::can_cast(kind).then(|| Self { syntax })
+        Self::can_cast(kind).then_some(Self { syntax })
     }
 
     #[inline]
@@ -722,7 +722,7 @@ impl CstNode for Arguments {
 
     #[inline]
     fn cast_as(kind: SyntaxKind, syntax: SyntaxNode) -> Option<Self> {
-        Self::can_cast(kind).then(|| Self { syntax })
+        Self::can_cast(kind).then_some(Self { syntax })
     }
 
     #[inline]
@@ -778,7 +778,7 @@ impl CstNode for Argument {
 
     #[inline]
     fn cast_as(kind: SyntaxKind, syntax: SyntaxNode) -> Option<Self> {
-        Self::can_cast(kind).then(|| Self { syntax })
+        Self::can_cast(kind).then_some(Self { syntax })
     }
 
     #[inline]
@@ -834,7 +834,7 @@ impl CstNode for Directives {
 
     #[inline]
     fn cast_as(kind: SyntaxKind, syntax: SyntaxNode) -> Option<Self> {
-        Self::can_cast(kind).then(|| Self { syntax })
+        Self::can_cast(kind).then_some(Self { syntax })
     }
 
     #[inline]
@@ -878,7 +878,7 @@ impl CstNode for Directive {
 
     #[inline]
     fn cast_as(kind: SyntaxKind, syntax: SyntaxNode) -> Option<Self> {
-        Self::can_cast(kind).then(|| Self { syntax })
+        Self::can_cast(kind).then_some(Self { syntax })
     }
 
     #[inline]
@@ -934,7 +934,7 @@ impl CstNode for VariableDefinitions {
 
     #[inline]
     fn cast_as(kind: SyntaxKind, syntax: SyntaxNode) -> Option<Self> {
-        Self::can_cast(kind).then(|| Self { syntax })
+        Self::can_cast(kind).then_some(Self { syntax })
     }
 
     #[inline]
@@ -992,7 +992,7 @@ impl CstNode for VariableDefinition {
 
     #[inline]
     fn cast_as(kind: SyntaxKind, syntax: SyntaxNode) -> Option<Self> {
-        Self::can_cast(kind).then(|| Self { syntax })
+        Self::can_cast(kind).then_some(Self { syntax })
     }
 
     #[inline]
@@ -1066,7 +1066,7 @@ impl CstNode for Variable {
 
     #[inline]
     fn cast_as(kind: SyntaxKind, syntax: SyntaxNode) -> Option<Self> {
-        Self::can_cast(kind).then(|| Self { syntax })
+        Self::can_cast(kind).then_some(Self { syntax })
     }
 
     #[inline]
@@ -1116,7 +1116,7 @@ impl CstNode for DefaultValue {
 
     #[inline]
     fn cast_as(kind: SyntaxKind, syntax: SyntaxNode) -> Option<Self> {
-        Self::can_cast(kind).then(|| Self { syntax })
+        Self::can_cast(kind).then_some(Self { syntax })
     }
 
     #[inline]
@@ -1168,7 +1168,7 @@ impl CstNode for IntValue {
 
     #[inline]
     fn cast_as(kind: SyntaxKind, syntax: SyntaxNode) -> Option<Self> {
-        Self::can_cast(kind).then(|| Self { syntax })
+        Self::can_cast(kind).then_some(Self { syntax })
     }
 
     #[inline]
@@ -1215,7 +1215,7 @@ impl CstNode for FloatValue {
 
     #[inline]
     fn cast_as(kind: SyntaxKind, syntax: SyntaxNode) -> Option<Self> {
-        Self::can_cast(kind).then(|| Self { syntax })
+        Self::can_cast(kind).then_some(Self { syntax })
     }
 
     #[inline]
@@ -1266,7 +1266,7 @@ impl CstNode for StringValue {
 
     #[inline]
     fn cast_as(kind: SyntaxKind, syntax: SyntaxNode) -> Option<Self> {
-        Self::can_cast(kind).then(|| Self { syntax })
+        Self::can_cast(kind).then_some(Self { syntax })
     }
 
     #[inline]
@@ -1312,7 +1312,7 @@ impl CstNode for BooleanValue {
 
     #[inline]
     fn cast_as(kind: SyntaxKind, syntax: SyntaxNode) -> Option<Self> {
-        Self::can_cast(kind).then(|| Self { syntax })
+        Self::can_cast(kind).then_some(Self { syntax })
     }
 
     #[inline]
@@ -1362,7 +1362,7 @@ impl CstNode for NullValue {
 
     #[inline]
     fn cast_as(kind: SyntaxKind, syntax: SyntaxNode) -> Option<Self> {
-        Self::can_cast(kind).then(|| Self { syntax })
+        Self::can_cast(kind).then_some(Self { syntax })
     }
 
     #[inline]
@@ -1406,7 +1406,7 @@ impl CstNode for EnumValue {
 
     #[inline]
     fn cast_as(kind: SyntaxKind, syntax: SyntaxNode) -> Option<Self> {
-        Self::can_cast(kind).then(|| Self { syntax })
+        Self::can_cast(kind).then_some(Self { syntax })
     }
 
     #[inline]
@@ -1452,7 +1452,7 @@ impl CstNode for ListValue {
 
     #[inline]
     fn cast_as(kind: SyntaxKind, syntax: SyntaxNode) -> Option<Self> {
-        Self::can_cast(kind).then(|| Self { syntax })
+        Self::can_cast(kind).then_some(Self { syntax })
     }
 
     #[inline]
@@ -1510,7 +1510,7 @@ impl CstNode for ObjectValue {
 
     #[inline]
     fn cast_as(kind: SyntaxKind, syntax: SyntaxNode) -> Option<Self> {
-        Self::can_cast(kind).then(|| Self { syntax })
+        Self::can_cast(kind).then_some(Self { syntax })
     }
 
     #[inline]
@@ -1566,7 +1566,7 @@ impl CstNode for ObjectField {
 
     #[inline]
     fn cast_as(kind: SyntaxKind, syntax: SyntaxNode) -> Option<Self> {
-        Self::can_cast(kind).then(|| Self { syntax })
+        Self::can_cast(kind).then_some(Self { syntax })
     }
 
     #[inline]
@@ -1622,7 +1622,7 @@ impl CstNode for NamedType {
 
     #[inline]
     fn cast_as(kind: SyntaxKind, syntax: SyntaxNode) -> Option<Self> {
-        Self::can_cast(kind).then(|| Self { syntax })
+        Self::can_cast(kind).then_some(Self { syntax })
     }
 
     #[inline]
@@ -1666,7 +1666,7 @@ impl CstNode for ListType {
 
     #[inline]
     fn cast_as(kind: SyntaxKind, syntax: SyntaxNode) -> Option<Self> {
-        Self::can_cast(kind).then(|| Self { syntax })
+        Self::can_cast(kind).then_some(Self { syntax })
     }
 
     #[inline]
@@ -1724,7 +1724,7 @@ impl CstNode for NonNullType {
 
     #[inline]
     fn cast_as(kind: SyntaxKind, syntax: SyntaxNode) -> Option<Self> {
-        Self::can_cast(kind).then(|| Self { syntax })
+        Self::can_cast(kind).then_some(Self { syntax })
     }
 
     #[inline]
@@ -1786,7 +1786,7 @@ impl CstNode for Description {
 
     #[inline]
     fn cast_as(kind: SyntaxKind, syntax: SyntaxNode) -> Option<Self> {
-        Self::can_cast(kind).then(|| Self { syntax })
+        Self::can_cast(kind).then_some(Self { syntax })
     }
 
     #[inline]
@@ -1830,7 +1830,7 @@ impl CstNode for SchemaDefinition {
 
     #[inline]
     fn cast_as(kind: SyntaxKind, syntax: SyntaxNode) -> Option<Self> {
-        Self::can_cast(kind).then(|| Self { syntax })
+        Self::can_cast(kind).then_some(Self { syntax })
     }
 
     #[inline]
@@ -1904,7 +1904,7 @@ impl CstNode for RootOperationTypeDefinition {
 
     #[inline]
     fn cast_as(kind: SyntaxKind, syntax: SyntaxNode) -> Option<Self> {
-        Self::can_cast(kind).then(|| Self { syntax })
+        Self::can_cast(kind).then_some(Self { syntax })
     }
 
     #[inline]
@@ -1960,7 +1960,7 @@ impl CstNode for ScalarTypeDefinition {
 
     #[inline]
     fn cast_as(kind: SyntaxKind, syntax: SyntaxNode) -> Option<Self> {
-        Self::can_cast(kind).then(|| Self { syntax })
+        Self::can_cast(kind).then_some(Self { syntax })
     }
 
     #[inline]
@@ -2024,7 +2024,7 @@ impl CstNode for ObjectTypeDefinition {
 
     #[inline]
     fn cast_as(kind: SyntaxKind, syntax: SyntaxNode) -> Option<Self> {
-        Self::can_cast(kind).then(|| Self { syntax })
+        Self::can_cast(kind).then_some(Self { syntax })
     }
 
     #[inline]
@@ -2100,7 +2100,7 @@ impl CstNode for ImplementsInterfaces {
 
     #[inline]
     fn cast_as(kind: SyntaxKind, syntax: SyntaxNode) -> Option<Self> {
-        Self::can_cast(kind).then(|| Self { syntax })
+        Self::can_cast(kind).then_some(Self { syntax })
     }
 
     #[inline]
@@ -2156,7 +2156,7 @@ impl CstNode for FieldsDefinition {
 
     #[inline]
     fn cast_as(kind: SyntaxKind, syntax: SyntaxNode) -> Option<Self> {
-        Self::can_cast(kind).then(|| Self { syntax })
+        Self::can_cast(kind).then_some(Self { syntax })
     }
 
     #[inline]
@@ -2212,7 +2212,7 @@ impl CstNode for FieldDefinition {
 
     #[inline]
     fn cast_as(kind: SyntaxKind, syntax: SyntaxNode) -> Option<Self> {
-        Self::can_cast(kind).then(|| Self { syntax })
+        Self::can_cast(kind).then_some(Self { syntax })
     }
 
     #[inline]
@@ -2286,7 +2286,7 @@ impl CstNode for ArgumentsDefinition {
 
     #[inline]
     fn cast_as(kind: SyntaxKind, syntax: SyntaxNode) -> Option<Self> {
-        Self::can_cast(kind).then(|| Self { syntax })
+        Self::can_cast(kind).then_some(Self { syntax })
     }
 
     #[inline]
@@ -2342,7 +2342,7 @@ impl CstNode for InputValueDefinition {
 
     #[inline]
     fn cast_as(kind: SyntaxKind, syntax: SyntaxNode) -> Option<Self> {
-        Self::can_cast(kind).then(|| Self { syntax })
+        Self::can_cast(kind).then_some(Self { syntax })
     }
 
     #[inline]
@@ -2418,7 +2418,7 @@ impl CstNode for InterfaceTypeDefinition {
 
     #[inline]
     fn cast_as(kind: SyntaxKind, syntax: SyntaxNode) -> Option<Self> {
-        Self::can_cast(kind).then(|| Self { syntax })
+        Self::can_cast(kind).then_some(Self { syntax })
     }
 
     #[inline]
@@ -2492,7 +2492,7 @@ impl CstNode for UnionTypeDefinition {
 
     #[inline]
     fn cast_as(kind: SyntaxKind, syntax: SyntaxNode) -> Option<Self> {
-        Self::can_cast(kind).then(|| Self { syntax })
+        Self::can_cast(kind).then_some(Self { syntax })
     }
 
     #[inline]
@@ -2562,7 +2562,7 @@ impl CstNode for UnionMemberTypes {
 
     #[inline]
     fn cast_as(kind: SyntaxKind, syntax: SyntaxNode) -> Option<Self> {
-        Self::can_cast(kind).then(|| Self { syntax })
+        Self::can_cast(kind).then_some(Self { syntax })
     }
 
     #[inline]
@@ -2620,7 +2620,7 @@ impl CstNode for EnumTypeDefinition {
 
     #[inline]
     fn cast_as(kind: SyntaxKind, syntax: SyntaxNode) -> Option<Self> {
-        Self::can_cast(kind).then(|| Self { syntax })
+        Self::can_cast(kind).then_some(Self { syntax })
     }
 
     #[inline]
@@ -2688,7 +2688,7 @@ impl CstNode for EnumValuesDefinition {
 
     #[inline]
     fn cast_as(kind: SyntaxKind, syntax: SyntaxNode) -> Option<Self> {
-        Self::can_cast(kind).then(|| Self { syntax })
+        Self::can_cast(kind).then_some(Self { syntax })
     }
 
     #[inline]
@@ -2744,7 +2744,7 @@ impl CstNode for EnumValueDefinition {
 
     #[inline]
     fn cast_as(kind: SyntaxKind, syntax: SyntaxNode) -> Option<Self> {
-        Self::can_cast(kind).then(|| Self { syntax })
+        Self::can_cast(kind).then_some(Self { syntax })
     }
 
     #[inline]
@@ -2802,7 +2802,7 @@ impl CstNode for InputObjectTypeDefinition {
 
     #[inline]
     fn cast_as(kind: SyntaxKind, syntax: SyntaxNode) -> Option<Self> {
-        Self::can_cast(kind).then(|| Self { syntax })
+        Self::can_cast(kind).then_some(Self { syntax })
     }
 
     #[inline]
@@ -2870,7 +2870,7 @@ impl CstNode for InputFieldsDefinition {
 
     #[inline]
     fn cast_as(kind: SyntaxKind, syntax: SyntaxNode) -> Option<Self> {
-        Self::can_cast(kind).then(|| Self { syntax })
+        Self::can_cast(kind).then_some(Self { syntax })
     }
 
     #[inline]
@@ -2926,7 +2926,7 @@ impl CstNode for DirectiveDefinition {
 
     #[inline]
     fn cast_as(kind: SyntaxKind, syntax: SyntaxNode) -> Option<Self> {
-        Self::can_cast(kind).then(|| Self { syntax })
+        Self::can_cast(kind).then_some(Self { syntax })
     }
 
     #[inline]
@@ -3014,7 +3014,7 @@ impl CstNode for DirectiveLocations {
 
     #[inline]
     fn cast_as(kind: SyntaxKind, syntax: SyntaxNode) -> Option<Self> {
-        Self::can_cast(kind).then(|| Self { syntax })
+        Self::can_cast(kind).then_some(Self { syntax })
     }
 
     #[inline]
@@ -3066,7 +3066,7 @@ impl CstNode for DirectiveLocation {
 
     #[inline]
     fn cast_as(kind: SyntaxKind, syntax: SyntaxNode) -> Option<Self> {
-        Self::can_cast(kind).then(|| Self { syntax })
+        Self::can_cast(kind).then_some(Self { syntax })
     }
 
     #[inline]
@@ -3220,7 +3220,7 @@ impl CstNode for SchemaExtension {
 
     #[inline]
     fn cast_as(kind: SyntaxKind, syntax: SyntaxNode) -> Option<Self> {
-        Self::can_cast(kind).then(|| Self { syntax })
+        Self::can_cast(kind).then_some(Self { syntax })
     }
 
     #[inline]
@@ -3294,7 +3294,7 @@ impl CstNode for ScalarTypeExtension {
 
     #[inline]
     fn cast_as(kind: SyntaxKind, syntax: SyntaxNode) -> Option<Self> {
-        Self::can_cast(kind).then(|| Self { syntax })
+        Self::can_cast(kind).then_some(Self { syntax })
     }
 
     #[inline]
@@ -3359,7 +3359,7 @@ impl CstNode for ObjectTypeExtension {
 
     #[inline]
     fn cast_as(kind: SyntaxKind, syntax: SyntaxNode) -> Option<Self> {
-        Self::can_cast(kind).then(|| Self { syntax })
+        Self::can_cast(kind).then_some(Self { syntax })
     }
 
     #[inline]
@@ -3436,7 +3436,7 @@ impl CstNode for InterfaceTypeExtension {
 
     #[inline]
     fn cast_as(kind: SyntaxKind, syntax: SyntaxNode) -> Option<Self> {
-        Self::can_cast(kind).then(|| Self { syntax })
+        Self::can_cast(kind).then_some(Self { syntax })
     }
 
     #[inline]
@@ -3512,7 +3512,7 @@ impl CstNode for UnionTypeExtension {
 
     #[inline]
     fn cast_as(kind: SyntaxKind, syntax: SyntaxNode) -> Option<Self> {
-        Self::can_cast(kind).then(|| Self { syntax })
+        Self::can_cast(kind).then_some(Self { syntax })
     }
 
     #[inline]
@@ -3582,7 +3582,7 @@ impl CstNode for EnumTypeExtension {
 
     #[inline]
     fn cast_as(kind: SyntaxKind, syntax: SyntaxNode) -> Option<Self> {
-        Self::can_cast(kind).then(|| Self { syntax })
+        Self::can_cast(kind).then_some(Self { syntax })
     }
 
     #[inline]
@@ -3652,7 +3652,7 @@ impl CstNode for InputObjectTypeExtension {
 
     #[inline]
     fn cast_as(kind: SyntaxKind, syntax: SyntaxNode) -> Option<Self> {
-        Self::can_cast(kind).then(|| Self { syntax })
+        Self::can_cast(kind).then_some(Self { syntax })
     }
 
     #[inline]
