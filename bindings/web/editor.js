@@ -4,11 +4,20 @@ import { lastAtMost } from "./tree.js";
 const LINE_HEIGHT = 22;
 // Of more pieces in sight, as of a text of one long line, the last have no colours.
 const MOST_PIECES = 5000;
+// The characters that say in which order others are shown (Unicode, Annex 9, "Directional Formatting Characters"). They would turn round what follows them.
+const TURNING = /([\u061c\u200e\u200f\u202a-\u202e\u2066-\u2069])/;
 
 // An element of the page with a class and a text.
 export function piece(name, text = "", tag = "span") {
   return Object.assign(document.createElement(tag), { className: name, textContent: text });
 }
+
+// A text as it is shown outside the text area: with escapes for characters that would not be seen, or would turn others round.
+export const escaped = (text) => text.replace(/[\p{Cc}\p{Cf}\p{Zl}\p{Zp}]/gu, (letter) => `\\u{${letter.codePointAt(0).toString(16)}}`);
+
+// The parts of a text with a mark of no width, as the character has none either, in place of each character that turns others round. The text area, whose own
+// letters are not seen, has no such marks: in such a line its caret and its selection are where the browser has the turned letters.
+const unturned = (text) => text.split(TURNING).map((part, i) => (i % 2 === 0 ? part : piece("turning", "", "i")));
 
 export class Editor {
   // `input()` is called when the text changed, `cursor(start, end)` when the selection did. `ranges` gives for each layer the ranges of the text that are
@@ -82,10 +91,12 @@ export class Editor {
     for (const range of ranges.slice(0, MOST_PIECES)) {
       const [from, to] = [Math.max(range.start, at), Math.min(range.end, end)];
       if (from > to) continue;
-      pieces.push(text.slice(at, from), Object.assign(piece(range.name, text.slice(from, to)), { range }));
+      const painted = Object.assign(piece(range.name), { range });
+      painted.append(...unturned(text.slice(from, to)));
+      pieces.push(...unturned(text.slice(at, from)), painted);
       at = to;
     }
-    return [...pieces, text.slice(at, end), "\n"];
+    return [...pieces, ...unturned(text.slice(at, end)), "\n"];
   }
 
   // The message of the error that is at a place of the window, beside that place.
@@ -96,7 +107,7 @@ export class Editor {
     if (mark === undefined) return;
     const { left, bottom } = mark.getClientRects()[0];
     const box = this.box.getBoundingClientRect();
-    this.hint.textContent = mark.range.message;
+    this.hint.textContent = escaped(mark.range.message);
     this.hint.style.left = `${Math.max(8, Math.min(left - box.left, box.width - this.hint.offsetWidth - 8))}px`;
     this.hint.style.top = `${bottom - box.top + 4}px`;
   }

@@ -1,5 +1,5 @@
 // The page: the text, the tree, the errors and the fields together. The parser is in a worker.
-import { Editor, piece } from "./editor.js";
+import { Editor, escaped, piece } from "./editor.js";
 import { isSupported } from "./parser.js";
 import { FIGURES, STATUS, WORDS } from "./rows.js";
 import { movedTo, Tree } from "./tree.js";
@@ -92,7 +92,7 @@ function list(id, places, placeCount, noun) {
 function listed({ start, end, message }) {
   const { line, column } = editor.position(start);
   const [item, button] = [piece("", "", "li"), piece("", "", "button")];
-  button.append(piece("place", `${line}:${column}`), " ", piece("message", message));
+  button.append(piece("place", `${line}:${column}`), " ", piece("message", escaped(message)));
   button.onclick = () => editor.select(moved(start), moved(end), true);
   item.append(button);
   return item;

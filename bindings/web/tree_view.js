@@ -1,5 +1,5 @@
 // The tree, as rows that open and close. Only the rows in sight are in the page, so a tree may have any number of elements.
-import { piece } from "./editor.js";
+import { escaped, piece } from "./editor.js";
 import { lastAtMost } from "./tree.js";
 
 const ROW_HEIGHT = 24;
@@ -85,7 +85,7 @@ export class TreeView {
     if (tree.hasChildren(element)) row.ariaExpanded = this.#isOpen(element);
     row.style.top = `${place * ROW_HEIGHT}px`;
     row.style.setProperty("--depth", depth);
-    const text = isToken ? JSON.stringify(tree.textOf(element).slice(0, MOST_LETTERS)) : "";
+    const text = isToken ? escaped(JSON.stringify(tree.textOf(element).slice(0, MOST_LETTERS))) : "";
     row.append(piece("kind", kind), piece("text", text), piece("range", `${tree.start(element)}..${tree.end(element)}`));
     return row;
   }

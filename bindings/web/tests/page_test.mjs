@@ -112,6 +112,30 @@ const tests = {
     assert.deepEqual(await errors(), ["1:19 expected an Argument", "1:19 expected R_PAREN, got }"]);
   },
 
+  // U+202E shows what follows it from right to left, and U+2066 begins a part of its own
+  async "characters that turn others round are seen, and turn nothing"() {
+    const turned = '{ a(x: "\u202e} @skip(if: true) { \u2066b") é \u202e}';
+    await show(turned);
+    assert.deepEqual((await rows()).filter(([, kind]) => kind === "STRING").map(([, , shown]) => shown), ['"\\"\\u{202e}} @skip(if: true) { \\u{2066}b\\""']);
+    assert.ok((await errors()).every((message) => !/[\u202e\u2066]/.test(message)) && (await errors()).some((message) => message.includes("\\u{202e}")));
+    const ends = await page.evaluate(`[...document.querySelector(".words").childNodes].flatMap((node) => {
+      const walk = document.createTreeWalker(node, NodeFilter.SHOW_TEXT);
+      const found = [];
+      for (let at = node.nodeType === 3 ? node : walk.nextNode(); at; at = node.nodeType === 3 ? null : walk.nextNode())
+        for (let i = 0; i < at.data.length; i++) {
+          const range = new Range();
+          range.setStart(at, i);
+          range.setEnd(at, i + 1);
+          if (at.data[i] !== "\\n") found.push(range.getBoundingClientRect().right);
+        }
+      return found;
+    })`);
+    assert.equal(ends.length, turned.length - 3);
+    assert.ok(ends.every((end, i) => i === 0 || end > ends[i - 1]), `${ends}`);
+    assert.equal(await page.evaluate("document.querySelectorAll('.words .turning').length"), 3);
+    assert.equal(await text(), turned);
+  },
+
   async "a click on an element selects its text, and the cursor's place selects an element"() {
     await show("{ hero { name } }");
     const { x, y } = await place("#tree .row.STRING, #tree .row:nth-child(5)");
