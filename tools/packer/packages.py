@@ -211,6 +211,8 @@ def release():
         read(library, made_by="tools/bindings build")
     if f"## {version()}" not in read(TOP / "CHANGELOG.md").content.decode().splitlines():
         stop(f"CHANGELOG.md has no entry `## {version()}`")
+    if about()["homepage"].endswith(".example"):
+        print("the addresses in about.json are placeholders: whoever publishes these packages puts real ones there")
     makers = [archive, debian, wheel, npm, vsix, page]
     if shutil.which("cargo"):
         makers.append(crate)
