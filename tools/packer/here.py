@@ -14,9 +14,10 @@ from binder.page import node_words
 from binder.shared import BUILD, TOP, run, stop
 
 from .about import LICENCES
+from .installed import PROGRAMS
 from .manuals import bash, fish, words, zsh
 from .npm import NPM
-from .packages import PROGRAMS, release
+from .packages import release
 from .vsix import VSCODE
 
 RELEASE = BUILD / "release"

@@ -11,7 +11,7 @@ from binder.shared import RUST, TOP, run, stop
 
 from . import debian
 from .here import NPM, npm_example, package
-from .packages import PROGRAMS
+from .installed import PROGRAMS
 
 # What the packages need beside themselves: a C compiler and pkg-config, pip, cargo, node. npm would bring four hundred packages more.
 NEEDED = ["gcc", "libc6-dev", "pkgconf", "python3-pip", "cargo", "nodejs"]
