@@ -156,7 +156,7 @@ class Client {
   async stop() {
     this.isStopped = true;
     this.#dispose();
-    await this.connection.close();
+    await this.connection?.close();
   }
 
   #goOn() {

@@ -12,10 +12,10 @@ async function stop() {
   await running?.stop();
 }
 
-// The words of the server's limits. Without a setting the server has its own.
+// The words of the server's limits. Without a setting the server has its own. It refuses what is no number from 0 on, so that no wrong limit is dropped.
 function limitWords(settings) {
   const limits = { "--recursion": settings.get("recursionLimit"), "--tokens": settings.get("tokenLimit") };
-  return Object.entries(limits).flatMap(([name, limit]) => (Number.isInteger(limit) ? [name, String(limit)] : []));
+  return Object.entries(limits).flatMap(([name, limit]) => (limit === null || limit === undefined ? [] : [name, String(limit)]));
 }
 
 async function start() {
@@ -34,8 +34,11 @@ async function start() {
 // Ends the server, and when it is gone starts one with the settings of then. Until that one starts, further calls wait for the same: there is never a second.
 function restart() {
   restarting ??= (async () => {
-    await Promise.all([stop(), starting]);
-    restarting = undefined;
+    try {
+      await Promise.all([stop(), starting]);
+    } finally {
+      restarting = undefined;
+    }
     if (isActive) await (starting = start());
   })();
   return restarting;

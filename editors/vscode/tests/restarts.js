@@ -77,11 +77,13 @@ const tests = {
   },
 
   async "a program that is not there is said once, and does not stay in the way"() {
-    settings.path = "missing";
-    change();
-    change();
-    await pause(500);
-    assert.match(shown.pop(), /^gqlls cannot be started as missing: .*ENOENT/);
+    for (const [path, why] of [["missing", /^gqlls cannot be started as missing: .*ENOENT/], ["", /^gqlls cannot be started as : /]]) {
+      settings.path = path;
+      change();
+      change();
+      await pause(500);
+      assert.match(shown.pop(), why);
+    }
     settings.path = join(__dirname, "stand_in.js");
     change();
     await settled();

@@ -192,6 +192,17 @@ const tests = {
     }
   },
 
+  async "a limit that is none is refused, and not dropped"() {
+    for (const tokenLimit of [-1, 1.5, "ten", 2 ** 70]) {
+      settings.tokenLimit = tokenLimit;
+      tell("onDidChangeConfiguration", { affectsConfiguration: (name) => name === "gqlls" });
+      await until(() => shown.length > 0);
+      assert.match(shown.pop(), /^gqlls cannot be started as .*: the server has ended$/);
+      assert.deepEqual([shown, Object.keys(providers)], [[], []]);
+    }
+    settings.tokenLimit = null;
+  },
+
   async "a server that ends is said, and started anew"() {
     settings.path = process.argv[2];
     await commands["gqlls.restart"]();
