@@ -672,6 +672,28 @@ def uses_of_names():
         client.end()
 
 
+# A text with the name that is renamed, a new name for it, and whether the grammar allows that (GraphQL, October 2021, sections 2.8 and 2.9.6).
+NEW_NAMES = [
+    ("query Q { ...«F» } fragment «F» on T { a }", "on", False), ("query Q { ...«F» } fragment «F» on T { a }", "true", True),
+    ("enum E { «V» W } type T { a(b: E = «V»): E }", "true", False), ("enum E { «V» W }", "false", False), ("enum E { «V» W }", "null", False),
+    ("enum E { «V» W }", "on", True), ("type T { «a»: Int }", "true", True), ("query «Q» { a }", "on", True), ("type «T» { a: Int }", "on", True),
+    ("query ($«a»: Int) { b(c: $«a») }", "null", True),
+]
+
+
+def forbidden_names():
+    """A new name that would be a syntax error is refused."""
+    for source, name, is_allowed in NEW_NAMES:
+        text, places, _ = marked(source)
+        client = opened(text.text)
+        answer = client.ask("textDocument/rename", textDocument=DOCUMENT, newName=name, position=text.range(*places[0])["start"])
+        wanted = {"changes": {URI: [{"range": text.range(*it), "newText": name} for it in places]}} if is_allowed else None
+        expect(f"{name} for a name of {source}", answer.get("result"), wanted)
+        if not is_allowed:
+            expect(f"why {name} is no name for it", answer["error"], {"code": -32602, "message": "the grammar does not allow this name here"})
+        client.end()
+
+
 def names_of_symbols():
     client = started()
     for text in ["fragment on X { a }", "type { a: B }", "scalar", "enum { A }", "{ a: }", "extend type { a: B }", "directive @ on FIELD"]:
@@ -876,7 +898,7 @@ def many_changes():
             client.end()
 
 
-TESTS = [states, statuses_without_shutdown, faulty_messages, pieces_of_input, capabilities, changes, positions, diagnostics, open_braces, violations, fragments_of_others, lambda: names("utf-16", 0), lambda: names("utf-8", 2), markups, other_documents, files_of_the_folder, types_of_the_document, members, uses_of_names, open_quotes, templates, changed_templates,
+TESTS = [states, statuses_without_shutdown, faulty_messages, pieces_of_input, capabilities, changes, positions, diagnostics, open_braces, violations, fragments_of_others, lambda: names("utf-16", 0), lambda: names("utf-8", 2), markups, other_documents, files_of_the_folder, types_of_the_document, members, uses_of_names, forbidden_names, open_quotes, templates, changed_templates,
          lambda: parts("utf-16", 0), lambda: parts("utf-8", 2), names_of_symbols, more_folds, completion, layout, long_layout, layout_of_long_lines, limits, refused_words, standard, signatures, many_changes]
 for test in TESTS:
     test()

@@ -32,8 +32,8 @@ module _ {F : Type 0} (lists : F → List ℕ → Listing → F → Type 0) (rea
         → Reads old middle → lists middle.files path listing new.files → new.dialogue ≡ middle.dialogue → Reads old new
     passed_over : {old middle new : FolderDialogue F} {path : List ℕ} {given : Result (List ℕ) Error}
         → Reads old middle → reads middle.files path given new.files → new.dialogue ≡ middle.dialogue → Reads old new
-    kept : {old middle new : FolderDialogue F} {path text : List ℕ}
-        → Reads old middle → reads middle.files path (Ok text) new.files → Keeps (uri_of path) text middle.dialogue new.dialogue → Reads old new
+    kept : {old middle new : FolderDialogue F} {path text : List ℕ} {errors : ℕ}
+        → Reads old middle → reads middle.files path (Ok text) new.files → Keeps (uri_of path) text errors middle.dialogue new.dialogue → Reads old new
     dropped : {old middle new : FolderDialogue F} {uri : List ℕ}
         → Reads old middle → new.files ≡ middle.files → Learns uri None middle.dialogue new.dialogue → Reads old new
 

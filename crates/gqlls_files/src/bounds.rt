@@ -12,6 +12,12 @@ pub(crate) const MOST_FILES: usize = 10_000;
 /// How many bytes the files have together at most in which names are looked for: with their trees they take some 23 times as much memory.
 pub const MOST_BYTES: usize = 1 << 24;
 
+/// How many tokens a file has at most in which names are looked for, ignored ones and bad text among them.
+pub(crate) const MOST_TOKENS: usize = 1 << 21;
+
+/// How many errors it has at most.
+pub(crate) const MOST_ERRORS: usize = 1000;
+
 // How many folders are looked into at most.
 const MOST_FOLDERS: usize = 20_000;
 

@@ -10,8 +10,9 @@ ghost use Rattle.gqlls_run.specs.State.{dialogue_of};
 ghost use Rattle.gqlls_files.specs.FolderDialogues.{Reads, Steps};
 ghost use Rattle.gqlls_files.specs.State.{folder_dialogue_of};
 
-use crate::bounds::{Bounded, MOST_BYTES, MOST_FILES};
+use crate::bounds::{Bounded, MOST_BYTES, MOST_ERRORS, MOST_FILES, MOST_TOKENS};
 use file_uris::{path_of, uri_of};
+use formatter::stays_within;
 use gqlfmt_files::Files;
 use gqlls_run::{Server, changed_files, opened_folders, uri_of as document_in};
 use json::Value;
@@ -30,6 +31,18 @@ pub struct FolderServer<F> {
     open: BTreeSet<String>,
     // how many bytes the files have in which names are looked for
     kept: usize,
+}
+
+// The text of a file, if it is one with few enough tokens.
+fn text_of(bytes: Vec<u8>) -> Option<String>
+    ensures { IfSome result (λ text. string_bytes text ≡ bytes.items) }
+{
+    let text = String::from_utf8(bytes).ok()?;
+    if stays_within(text.as_str(), MOST_TOKENS) {
+        Some(text)
+    } else {
+        None
+    }
 }
 
 impl<F: Files> FolderServer<F> {
@@ -66,8 +79,17 @@ impl<F: Files> FolderServer<F> {
             × IfSome result (λ text. given ≡ Ok (string_bytes text)) }
     {
         match self.files.read(alloc, path) {
-            Ok(bytes) if bytes.len() <= self.room() => String::from_utf8(bytes).ok(),
+            Ok(bytes) if bytes.len() <= self.room() => text_of(bytes),
             Ok(_) | Err(_) => None,
+        }
+    }
+
+    // Has names looked for no more in a file with too many errors, which take some ten times as much memory as its text would without them.
+    fn drop_faulty(&mut self, uri: &str, errors: usize)
+        ensures { Reads F.lists F.reads (folder_dialogue_of self.old) (folder_dialogue_of self.new) }
+    {
+        if errors > MOST_ERRORS {
+            self.drop_file(uri);
         }
     }
 
@@ -83,8 +105,9 @@ impl<F: Files> FolderServer<F> {
         let Some(text) = self.text_at(alloc, path) else {
             return Ok(());
         };
-        self.server.keep_file(alloc, uri.as_str(), text.as_str())?;
+        let errors = self.server.keep_file(alloc, uri.as_str(), text.as_str())?;
         self.kept = self.kept.saturating_add(text.len());
+        self.drop_faulty(uri.as_str(), errors);
         Ok(())
     }
 

@@ -1,5 +1,5 @@
 -- What is published of the documents that a client has open, and known of files that are not.
-use Rattle.std.specs.Prelude.{◌≡◌, ℕ, ℤ, Bool, List, [], Option, Some}
+use Rattle.std.specs.Prelude.{◌≡◌, ℕ, ℤ, Bool, List, [], Option, Some, length}
 use Rattle.apollo_parser.specs.Parsed.{Parsed}
 use Rattle.apollo_parser.specs.Promise.{Promise}
 use Rattle.apollo_parser.specs.declared.Limits.{Limits}
@@ -23,9 +23,10 @@ AreRemarksOf takes_related others parsed remarks =
 abbrev pub fragments_of : Parsed → Fragments
 fragments_of parsed = fragments_in (record { whole = parsed.tree; index = 0 })
 
--- a file that is not open has this text, whose fragments are those of a parse within the limits
-pub record Keeps (name text : List ℕ) (old new : Dialogue) : Type 0 where
+-- A file that is not open has this text, whose fragments are those of a parse within the limits. The parse has this number of errors.
+pub record Keeps (name text : List ℕ) (errors : ℕ) (old new : Dialogue) : Type 0 where
   pub parsed : Parsed
+  pub counted : errors ≡ length parsed.errors
   pub promise : Promise text old.limits.recursion old.limits.tokens parsed
   pub learns : Learns name (Some (fragments_of parsed)) old new
 

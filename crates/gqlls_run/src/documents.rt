@@ -1,5 +1,5 @@
 // The open documents.
-ghost use Rattle.std.specs.Prelude.{◌≡◌, [], List, IfOk, MatchBool, None, OnOk, Some, false, map, option_map, string_bytes, true, unwrap_or};
+ghost use Rattle.std.specs.Prelude.{◌≡◌, [], List, IfOk, MatchBool, None, OnOk, Some, false, length, map, option_map, string_bytes, true, unwrap_or};
 ghost use Rattle.std.specs.BTreeMap.{IsOrdered, values};
 ghost use Rattle.std.specs.String.{string_cmp};
 ghost use Rattle.apollo_parser.specs.Promise.{Promise};
@@ -135,6 +135,13 @@ impl Document {
         self.mended = mended(alloc, self.source(), &self.tree, limits)?;
         self.fragments = fragment_names(alloc, &self.tree.root())?;
         Ok(())
+    }
+
+    /// How many errors the text's own parse has.
+    pub(crate) fn error_count(&self) -> usize
+        ensures { result ≡ length self.now.tree.errors }
+    {
+        self.tree.errors().as_slice().len()
     }
 
     /// The text that is parsed.

@@ -1,9 +1,9 @@
 // Where the documents have a name: references, marks, renaming.
 use crate::documents::{Document, Known};
-use apollo_parser::SyntaxNode;
+use apollo_parser::{SyntaxKind, SyntaxNode};
 use editor_answers::{
-    Span, definition_elsewhere, push_changes, push_locations, push_marks, references,
-    references_elsewhere, span_of,
+    NameKind, Span, definition_elsewhere, identifier_at, meaning_of, push_changes, push_locations,
+    push_marks, references, references_elsewhere, span_of,
 };
 use editor_diagnostics::Positions;
 use rpc_messages::Piece;
@@ -44,6 +44,17 @@ fn uses_in(
 }
 
 impl Occurrence<'_> {
+    // Whether it is a fragment's.
+    fn is_fragments(self) -> bool {
+        match identifier_at(self.root, self.offset) {
+            Some(leaf) => match meaning_of(leaf) {
+                Some(meaning) => meaning.kind == NameKind::Fragment,
+                None => false,
+            },
+            None => false,
+        }
+    }
+
     // Whether a document has names that mean the same: not where it defines the name itself, and another definition counts.
     fn is_shared_with(self, uri: &str, root: SyntaxNode<'_>) -> bool {
         self.definer == Some(uri) || definition_elsewhere(self.root, self.offset, root).is_none()
@@ -96,6 +107,22 @@ impl Sought<'_, '_> {
             Some("other types may have to have this name, by an interface")
         } else {
             None
+        }
+    }
+
+    /// Whether the grammar lets it have this name: a fragment may not be called `on` (section 2.8, FragmentName), and an enum value not `true`, `false`
+    /// or `null` (section 2.9.6, EnumValue).
+    pub(crate) fn may_be_called(&self, name: &str) -> bool {
+        match self {
+            Sought::Member(uses) => {
+                !uses
+                    .member
+                    .node
+                    .kind()
+                    .is(SyntaxKind::ENUM_VALUE_DEFINITION)
+                    || !(name == "true" || name == "false" || name == "null")
+            }
+            Sought::Name(occurrence) => name != "on" || !occurrence.is_fragments(),
         }
     }
 

@@ -60,6 +60,9 @@ const QUESTIONS: [(&str, Question); 14] = [
 // The index of the document that is asked about, among those in which names are looked for.
 const FIRST: usize = 0;
 
+// Why something may not have a name that other things may have.
+const NO_NAME_OF_ITS_KIND: &str = "the grammar does not allow this name here";
+
 // For how many positions a client gets the parts of the text around them: each answer is as long as the tree is deep there.
 const MOST_POSITIONS: usize = 100;
 
@@ -392,6 +395,9 @@ impl<'a> Asked<'a, '_, '_> {
         let sought = self.sought(&searched, offset)?;
         if let Some(reason) = sought.objection(searched.known.len()) {
             return refusal(self.alloc, id, REQUEST_FAILED, reason);
+        }
+        if !sought.may_be_called(name) {
+            return refusal(self.alloc, id, code::INVALID_PARAMS, NO_NAME_OF_ITS_KIND);
         }
         let mut pieces: Vec<Piece<'a>> = Vec::new(self.alloc);
         sought.push_changes(self.alloc, &mut pieces, searched.known.as_slice(), name)?;

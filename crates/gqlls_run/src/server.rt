@@ -69,13 +69,15 @@ impl Server {
         }
     }
 
-    /// Has names looked for in a file that is not open, by its URI and its text, in the place of the one with this URI. It fails only where memory is
-    /// refused.
-    pub fn keep_file(&mut self, alloc: Global, uri: &str, text: &str) -> Result<(), AllocError>
-        ensures { OnOk result (Keeps uri.now text.now (dialogue_of self.old) (dialogue_of self.new)) }
+    /// Has names looked for in a file that is not open, by its URI and its text, in the place of the one with this URI, and gives how many errors its parse
+    /// has. It fails only where memory is refused.
+    pub fn keep_file(&mut self, alloc: Global, uri: &str, text: &str) -> Result<usize, AllocError>
+        ensures { IfOk result (λ errors. Keeps uri.now text.now errors (dialogue_of self.old) (dialogue_of self.new)) }
     {
         let document = Document::new(alloc, self.encoding, text, None, self.limits)?;
-        insert(alloc, &mut self.files, uri, document)
+        let errors = document.error_count();
+        insert(alloc, &mut self.files, uri, document)?;
+        Ok(errors)
     }
 
     /// Has names looked for in this file no more, and gives how many bytes it has.

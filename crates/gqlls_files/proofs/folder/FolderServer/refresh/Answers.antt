@@ -5,6 +5,7 @@ use Rattle.gqlls_run.specs.Dialogue.{Dialogue}
 use Rattle.gqlls_run.specs.State.{dialogue_of}
 use Rattle.gqlls_run.specs.Told.{Keeps}
 use Rattle.gqlls_files.specs.FolderDialogues.{kept, nothing, passed_over}
+use Rattle.gqlls_files.proofs.Reading.{reads_on}
 use Rattle.gqlls_files.proofs.folder.FolderServer.refresh.Goals as goal
 
 pub returns-then-not-is_graphql : goal.returns-then-not-is_graphql
@@ -19,9 +20,12 @@ returns g c =
     let middle = c.text_at.new.self in
     let new = c.keep_file.new.self in
     let text = c.as_str-3.result.now in
-    kept c.drop_file.ensures
+    let errors = c.in_ok-errors.errors in
+    reads_on g.F.Files.lists g.F.Files.reads
+    (kept c.drop_file.ensures
     (subst (λ (given : Result (List ℕ) Error). g.F.Files.reads old.files.files c.args.path.now given middle.files.files)
     (c.in-Some.ensures.given.2 ∙ ap (λ (bytes : List ℕ). Ok bytes) (sym c.as_str-3.ensures.value)) c.in-Some.ensures.given.1)
-    (subst (λ (dialogue : Dialogue). Keeps (uri_of c.args.path.now) text dialogue (dialogue_of new)) c.text_at.ensures.dialogue
-    (subst (λ (uri : List ℕ). Keeps uri text (dialogue_of middle.server) (dialogue_of new)) (c.as_str-2.ensures.value ∙ c.in_ok-uri.ensures.spelling)
-    c.in_ok-keep_file.ensures))
+    (subst (λ (dialogue : Dialogue). Keeps (uri_of c.args.path.now) text errors dialogue (dialogue_of new)) c.text_at.ensures.dialogue
+    (subst (λ (uri : List ℕ). Keeps uri text errors (dialogue_of middle.server) (dialogue_of new)) (c.as_str-2.ensures.value ∙ c.in_ok-uri.ensures.spelling)
+    c.in_ok-errors.ensures)))
+    c.drop_faulty.ensures

@@ -1,5 +1,4 @@
 use Rattle.std.proofs.Common.{ℕ, List, Some, refl, subst}
-use Rattle.std.proofs.lemmas.Result.{on_ok_weaker}
 use Rattle.apollo_parser.specs.Promise.{Promise}
 use Rattle.editor_validation.specs.Fragments.{Fragments}
 use Rattle.gqlls_run.specs.Dialogue.{Updates}
@@ -12,15 +11,15 @@ returns c =
     let document = c.in_ok-document.document in
     let parsed = c.in_ok-document.ensures.parsed in
     let source = subst (λ (file : OpenFile). IsSource file (source_of document)) c.in_ok-document.ensures.file parsed.source in
-    on_ok_weaker c.insert.result (λ updates. record {
+    record {
       parsed = document.tree;
+      counted = c.error_count-errors.ensures;
       promise =
           subst (λ (text : List ℕ). Promise text c.args.self.now.limits.recursion c.args.self.now.limits.tokens document.tree) source parsed.promise;
       learns = record {
         files =
             subst (λ (names : Fragments). Updates c.args.uri.now (Some names) (names_in c.args.self.now.files) (names_in c.insert.new.documents)) parsed.named
-            updates;
+            c.in_ok-insert.ensures.names;
         others = refl;
       };
-    })
-    c.insert.ensures.names
+    }
