@@ -18,7 +18,7 @@ usage: ./do COMMAND
   test               the tests of the output of rt ci: formatted texts, figures, C and Python, the page, editors, README, the release
   release [trial]    makes build/release/ after the gate, or tries it in a bare Debian: programs, libraries, the page, packages for Debian,
                      Python, Rust, npm and VS Code
-  bench [NAME [..]]  measures the programs of `rt ci`: small, parse, hostile, stack, format, server, c or python, or else all of them
+  bench [NAME [..]]  measures the programs of `rt ci`: small, parse, hostile, stack, format, server, walks, c or python, or else all of them
 LINES
 }
 
@@ -107,7 +107,7 @@ case $command in
         name=$1
         shift
         if [ "$name" = all ]; then
-            for each in small parse hostile stack format server c python; do "bench/$each.py"; done
+            for each in small parse hostile stack format server walks c python; do "bench/$each.py"; done
         elif [ -x "bench/$name.py" ]; then
             exec "bench/$name.py" "$@"
         else
