@@ -820,14 +820,20 @@ def limits():
     # four tokens, the end among them, and seven with white space
     expect("a token too many", errors("{a}", "--tokens", "3"), (["token limit reached, aborting lexing"], True))
     expect("a layout with too many tokens", errors("{a}", "--stdio", "--tokens", "4"), ([], True))
-    expect("as many as allowed", errors("{a}", "--tokens", "7", "--stdio", "--recursion", "1"), ([], False))
+    expect("as many as allowed", errors("{a}", "--tokens=7", "--stdio", "--recursion", "1"), ([], False))
 
 
 def refused_words():
-    usage = b"usage: gqlls [--recursion N] [--tokens N] [--stdio]\n"
-    for words in ["x", "--tokens", "--tokens x", "--recursion -1", "--recursion 1 --recursion 1", "--stdio=1", "-- --stdio"]:
+    usage = "usage: gqlls [--recursion N] [--tokens N] [--stdio]"
+    twice = "is given twice, or beside an option that excludes it"
+    for words, about in [("x", "x is no option"), ("--tokens", "--tokens has no value"), ("--tokens x", "--tokens takes a number"),
+                         ("--recursion=-1", "--recursion=-1 takes a number"), ("--recursion 1 --recursion 1", f"--recursion {twice}"),
+                         ("--stdio=1", "unknown option --stdio=1"), ("-- --stdio", "unknown option --")]:
         ended = subprocess.run([PROGRAM, *words.split()], stdin=subprocess.DEVNULL, capture_output=True, timeout=10)
-        expect(f"the words {words}", (ended.returncode, ended.stdout, ended.stderr), (2, b"", usage))
+        expect(f"the words {words}", (ended.returncode, ended.stdout, ended.stderr.decode().splitlines()), (2, b"", [f"gqlls: {about}", usage]))
+    for word in ["-V", "--version"]:
+        ended = subprocess.run([PROGRAM, word], stdin=subprocess.DEVNULL, capture_output=True, timeout=10)
+        expect(f"the word {word}", (ended.returncode, ended.stdout.split()[0]), (0, b"gqlls"))
 
 
 # ---- the standard, signatures, many changes

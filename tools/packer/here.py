@@ -47,13 +47,16 @@ def test_same():
 
 
 def test_manuals(_folder):
-    """Each manual page names the options that the program names when it gets `--help`, whether it takes that or says how it is called."""
+    """Each manual page names the options, and their letters, that the program names when it gets `--help`."""
     for program in PROGRAMS:
         said = subprocess.run([TOP / f"crates/{program}/out/{program}", "--help"], stdin=subprocess.DEVNULL, capture_output=True, text=True)
         named = set(re.findall(r"--[a-z]+(?:-[a-z]+)*", said.stdout + said.stderr))
         listed = {word.name for word in words(program) if word.is_option}
         if named != listed:
             stop(f"the manual page of {program} and what it says of itself differ in {' '.join(sorted(named ^ listed))}")
+        letters = set(re.findall(r"^  (-\w), (--[a-z]+)", said.stdout, re.MULTILINE))
+        if letters != {tuple(word.spellings) for word in words(program) if word.letter}:
+            stop(f"the manual page of {program} and what it says of itself differ in the letters of options")
 
 
 # How a shell says what may come after a word that is begun. Zsh has no call for that: its file is run over a stand-in for its function.
@@ -79,7 +82,8 @@ def test_completions(_folder):
     for shell in COMPLETED:
         if without(shell, "its completion"):
             continue
-        options = {word.name for word in words("gqlfmt")}
+        # zsh itself chooses those that begin so, and it is not run here
+        options = {name for word in words("gqlfmt") for name in word.spellings if name.startswith("--") or shell == "zsh"}
         if completed(shell, "gqlfmt", "--") - {"*:file:_files"} != options:
             stop(f"{shell} does not offer the options of gqlfmt")
         if shell != "zsh" and completed(shell, "gqlcst", "t") != {"tokens", "tree"}:

@@ -9,8 +9,8 @@ from binder.shared import version
 from .archives import File
 
 FOLDER = Path(__file__).resolve().parent / "manuals"
-# A word in a list of a page: `.It Fl -NAME` or `.It Cm NAME`, maybe with an argument, and the sentence about it.
-LISTED = re.compile(r"^\.It (Fl -|Cm )(\S+)( Ar \S+)?\n(.*)\.$", re.MULTILINE)
+# A word in a list of a page: `.It Fl -NAME`, maybe with a letter before it, or `.It Cm NAME`; maybe with an argument; and the sentence about it.
+LISTED = re.compile(r"^\.It (?:Fl (\w) , )?(Fl -|Cm )(\S+)( Ar \S+)?\n(.*)\.$", re.MULTILINE)
 
 
 @dataclass(frozen=True)
@@ -18,10 +18,16 @@ class Word:
     name: str
     about: str
     has_argument: bool
+    letter: str = ""
 
     @property
     def is_option(self):
         return self.name.startswith("--")
+
+    @property
+    def spellings(self):
+        """The word, after its letter if it has one."""
+        return [f"-{self.letter}", self.name] if self.letter else [self.name]
 
 
 def page(program):
@@ -30,7 +36,7 @@ def page(program):
 
 def words(program):
     """The words that a program's page lists, in its order."""
-    return [Word("--" * (sort != "Cm ") + name, about, bool(argument)) for sort, name, argument, about in LISTED.findall(page(program))]
+    return [Word("--" * (sort != "Cm ") + name, about, bool(argument), letter) for letter, sort, name, argument, about in LISTED.findall(page(program))]
 
 
 def takes_files(program):
@@ -42,7 +48,7 @@ def bash(program):
     listed = words(program)
     valued = " | ".join(word.name for word in listed if word.has_argument)
     before = f"case $3 in {valued}) return ;; esac" if valued else ""
-    names, files = " ".join(word.name for word in listed), takes_files(program)
+    names, files = " ".join(name for word in listed for name in word.spellings), takes_files(program)
     return f"""_{program}() {{
     {before}
     {"[[ $2 != -* ]] || " if files else ""}COMPREPLY=($(compgen -W "{names}" -- "$2"))
@@ -53,7 +59,7 @@ complete {"-o default " if files else ""}-F _{program} {program}
 
 def zsh(program):
     listed = words(program)
-    lines = [f"'{word.name}[{word.about}]{':N: ' if word.has_argument else ''}'" for word in listed if word.is_option]
+    lines = [f"'{name}[{word.about}]{':N: ' if word.has_argument else ''}'" for word in listed if word.is_option for name in word.spellings]
     modes = " ".join(f'{word.name}\\:"{word.about}"' for word in listed if not word.is_option)
     lines += [f"'1:mode:(({modes}))'"] if modes else []
     lines += ["'*:file:_files'"] if takes_files(program) else []
@@ -66,7 +72,8 @@ def fish(program):
     lines = [] if takes_files(program) else [f"complete -c {program} -f"]
     for word in listed:
         if word.is_option:
-            lines.append(f"complete -c {program} -l {word.name[2:]} {'-x ' if word.has_argument else ''}-d '{word.about}'")
+            letter = f"-s {word.letter} " if word.letter else ""
+            lines.append(f"complete -c {program} {letter}-l {word.name[2:]} {'-x ' if word.has_argument else ''}-d '{word.about}'")
         else:
             lines.append(f"complete -c {program} -n 'not __fish_seen_subcommand_from {modes}' -a {word.name} -d '{word.about}'")
     return "".join(f"{line}\n" for line in lines)

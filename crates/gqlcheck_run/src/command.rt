@@ -32,11 +32,11 @@ node_modules and symbolic links. It prints what it finds and changes no file.
   --recursion N       how deep a document may nest (500 if not given)
   --tokens N          how many tokens it may have, with white space, commas and
                       comments (no limit if not given)
-  --help              print this text
-  --version           print the version
+  -h, --help          print this text
+  -V, --version       print the version
 
-Each option may be given once, before FILE or after. After -- all words are
-files.
+Each option may be given once, before FILE or after. Its value is the next word,
+or follows an equals sign, as in --tokens=9. After -- all words are files.
 
 The status is 0 when all documents pass, 1 when one does not, and 2 when
 something could not be read or written.

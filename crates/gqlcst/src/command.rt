@@ -13,8 +13,8 @@ Reads a GraphQL document from standard input, and prints what the mode shows.
   --recursion N  how deep a document may nest (500 if not given)
   --tokens N     how many tokens it may have, with white space, commas and
                  comments (no limit if not given)
-  --help         print this text
-  --version      print the version
+  -h, --help     print this text
+  -V, --version  print the version
 
 Positions are byte offsets. The status is 0 when there are no errors, 1 when
 there are some, and 2 when the program was called otherwise, the input is not

@@ -10,28 +10,12 @@ use byte_devices::{StdSink, StdSource, views, words};
 use command::{HELP, VERSION};
 use gqlcst_run::ending::{USAGE, ending};
 use gqlcst_run::{Limits, Mode, options, run};
-use program_words::information::{Information, information_of};
-use std::alloc::AllocError;
+use program_words::gqlfmt::Request;
+use program_words::information::Information;
+use program_words::misuse::{Misuse, WordsError};
 use std::process::ExitCode;
 
-#[derive(Clone, Copy)]
-enum Request {
-    Print(Information),
-    Run(Mode, Limits),
-}
-
-// The request in the words after the program's name: nothing where the program is not called so.
-fn read_request(rt: &HostRuntime) -> Result<Option<Request>, AllocError> {
-    let words = words(rt)?;
-    let views = views(rt.alloc(), words.as_slice())?;
-    if let Some(information) = information_of(views.as_slice()) {
-        return Ok(Some(Request::Print(information)));
-    }
-    match options(views.as_slice()) {
-        Some((mode, limits)) => Ok(Some(Request::Run(mode, limits))),
-        None => Ok(None),
-    }
-}
+const NO_MEMORY: &str = "gqlcst: out of memory";
 
 fn print(rt: &HostRuntime, information: Information) -> (u8, &'static str) {
     let printed = match information {
@@ -44,16 +28,40 @@ fn print(rt: &HostRuntime, information: Information) -> (u8, &'static str) {
     }
 }
 
-fn main(rt: HostRuntime) -> ExitCode {
-    let (status, complaint) = match read_request(&rt) {
-        Ok(Some(Request::Print(information))) => print(&rt, information),
-        Ok(Some(Request::Run(mode, limits))) => {
-            let mut reader = StdSource::new(rt.stdin());
-            let mut writer = StdSink::new(rt.stdout());
-            ending(&run(rt.alloc(), &mut reader, &mut writer, mode, limits))
+// Says which word is wrong, and how the program is called.
+fn explain(rt: &HostRuntime, misuse: &Misuse<'_>) -> (u8, &'static str) {
+    match misuse.explanation(rt.alloc(), "gqlcst", USAGE) {
+        Ok(text) => {
+            let _ = eprintln!(rt; "{text}");
+            (2, "")
         }
-        Ok(None) => (2, USAGE),
-        Err(AllocError) => (2, "gqlcst: out of memory"),
+        Err(_) => (2, USAGE),
+    }
+}
+
+fn parse(rt: &HostRuntime, mode: Mode, limits: Limits) -> (u8, &'static str) {
+    let mut reader = StdSource::new(rt.stdin());
+    let mut writer = StdSink::new(rt.stdout());
+    ending(&run(rt.alloc(), &mut reader, &mut writer, mode, limits))
+}
+
+// What is done for the words after the program's name: the status, and what is still to be said on standard error.
+fn respond(rt: &HostRuntime, words: &[&str]) -> (u8, &'static str) {
+    match options(words) {
+        Ok(Request::Print(information)) => print(rt, information),
+        Ok(Request::Process((mode, limits))) => parse(rt, mode, limits),
+        Err(WordsError::Usage(misuse)) => explain(rt, &misuse),
+        Err(WordsError::Memory) => (2, NO_MEMORY),
+    }
+}
+
+fn main(rt: HostRuntime) -> ExitCode {
+    let (status, complaint) = match words(&rt) {
+        Ok(words) => match views(rt.alloc(), words.as_slice()) {
+            Ok(views) => respond(&rt, views.as_slice()),
+            Err(_) => (2, NO_MEMORY),
+        },
+        Err(_) => (2, NO_MEMORY),
     };
     if !complaint.is_empty() {
         let _ = eprintln!(rt; "{complaint}");

@@ -4,7 +4,8 @@
 pub const VERSION: &str = "gqlfmt 0.1.0\n";
 
 /// How the program is called.
-pub const USAGE: &str = "usage: gqlfmt [--check | --diff | --print] [OPTION..] [FILE..]\n";
+pub const USAGE: &str =
+    "usage: gqlfmt [--write | --check | --diff | --print] [OPTION..] [FILE..]\n";
 
 /// What is said where there is no memory for more.
 pub const NO_MEMORY: &str = "gqlfmt: out of memory\n";
@@ -18,6 +19,7 @@ end in .graphql, .graphqls or .gql, but for hidden names, node_modules and
 symbolic links. A .gqlfmtignore and a .prettierignore in the working folder say,
 in the form of a .gitignore, which files and folders are left alone.
 
+  -w, --write    replace each file that changes, as without this option
   --check        change nothing; list the files that would change
   --diff         change nothing; show what would change, as a unified diff
   --print        change nothing; print the formatted text of each file
@@ -31,11 +33,11 @@ in the form of a .gitignore, which files and folders are left alone.
                  the first line of its source does
   --stdin-filepath NAME
                  what messages call standard input
-  --help         print this text
-  --version      print the version
+  -h, --help     print this text
+  -V, --version  print the version
 
-Each option may be given once, before FILE or after. After -- all words are
-files.
+Each option may be given once, before FILE or after. Its value is the next word,
+or follows an equals sign, as in --tokens=9. After -- all words are files.
 
 A document that has errors, or more tokens or bytes than allowed when formatted,
 is left as it is. The status is 0 when all is done, 1 when a document is left so

@@ -16,8 +16,8 @@ an editor starts it.
   --tokens N     how many tokens it may have, with white space, commas and
                  comments (no limit if not given)
   --stdio        use standard input and output, as it does without
-  --help         print this text
-  --version      print the version
+  -h, --help     print this text
+  -V, --version  print the version
 
 The status is 0 when the client ends it by shutdown and exit, 1 when it exits
 without shutdown, and 2 when the program was called otherwise, or something

@@ -9,30 +9,12 @@ mod command;
 use byte_devices::{Fault, StdSink, StdSource, views, words};
 use command::{HELP, USAGE, VERSION};
 use gqlls_files::{Limits, MOST_BYTES, run};
+use program_words::gqlfmt::Request;
 use program_words::gqlls::options;
-use program_words::information::{Information, information_of};
-use std::alloc::AllocError;
+use program_words::information::Information;
+use program_words::misuse::{Misuse, WordsError};
 use std::process::ExitCode;
 use std_files::StdFiles;
-
-#[derive(Clone, Copy)]
-enum Request {
-    Print(Information),
-    Serve(Limits),
-}
-
-// The request in the words after the program's name: nothing where the program is not called so.
-fn read_request(rt: &HostRuntime) -> Result<Option<Request>, AllocError> {
-    let words = words(rt)?;
-    let views = views(rt.alloc(), words.as_slice())?;
-    if let Some(information) = information_of(views.as_slice()) {
-        return Ok(Some(Request::Print(information)));
-    }
-    match options(views.as_slice()) {
-        Some(limits) => Ok(Some(Request::Serve(limits))),
-        None => Ok(None),
-    }
-}
 
 fn print(rt: &HostRuntime, information: Information) -> Result<u8, Fault> {
     let printed = match information {
@@ -61,17 +43,30 @@ fn complaint_of(fault: Fault) -> &'static str {
     }
 }
 
-fn main(rt: HostRuntime) -> ExitCode {
-    let ended = match read_request(&rt) {
-        Ok(Some(Request::Print(information))) => print(&rt, information),
-        Ok(Some(Request::Serve(limits))) => serve(&rt, limits),
-        Ok(None) => {
-            let _ = eprintln!(rt; "{USAGE}");
-            return ExitCode::from(2);
-        }
-        Err(AllocError) => Err(Fault::Memory),
+// Says which word is wrong, and how the program is called, and gives the status.
+fn explain(rt: &HostRuntime, misuse: &Misuse<'_>) -> u8 {
+    let said = match misuse.explanation(rt.alloc(), "gqlls", USAGE) {
+        Ok(text) => eprintln!(rt; "{text}"),
+        Err(_) => eprintln!(rt; "{USAGE}"),
     };
-    match ended {
+    let _ = said;
+    2
+}
+
+// What is done for the words after the program's name.
+fn respond(rt: &HostRuntime) -> Result<u8, Fault> {
+    let words = words(rt)?;
+    let views = views(rt.alloc(), words.as_slice())?;
+    match options(views.as_slice()) {
+        Ok(Request::Print(information)) => print(rt, information),
+        Ok(Request::Process(limits)) => serve(rt, limits),
+        Err(WordsError::Usage(misuse)) => Ok(explain(rt, &misuse)),
+        Err(WordsError::Memory) => Err(Fault::Memory),
+    }
+}
+
+fn main(rt: HostRuntime) -> ExitCode {
+    match respond(&rt) {
         Ok(status) => ExitCode::from(status),
         Err(fault) => {
             let complaint = complaint_of(fault);

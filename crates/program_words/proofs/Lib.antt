@@ -1,3 +1,3 @@
 pub mod NumberLemmas
-pub mod GqlcstLemmas
 pub mod Taking
+pub mod Naming

@@ -6,6 +6,7 @@ use Rattle.expansion_figures.specs.declared.figures.Figures.{Figures}
 use Rattle.expansion_figures.specs.declared.limits.Limit.{Limit}
 use Rattle.expansion_figures.specs.declared.limits.Limit.TheVariants.{Depth, Fields, RootFields, Aliases, Directives, Height, DistinctRootFields}
 use Rattle.program_words.specs.Numbers.{number_of}
+use Rattle.program_words.specs.OwnValue.{has_own_value, option_name, own_value}
 use Rattle.program_words.specs.SetLimits.{limits_set, with_limit}
 use Rattle.program_words.specs.Gqlfmt.{is_input, is_option, information_or_run}
 use Rattle.program_words.specs.Information.{information_of}
@@ -151,10 +152,12 @@ abbrev mutual
       if bytes_eq word (codes "--") then run_unless set (files ++ more)
       else (if is_input word then option_and_then (λ set. run_from set files more) (with_input set)
       else (if is_flag word then option_and_then (λ set. run_from set files more) (with_flag word set)
+      else (if is_option word && has_own_value word
+      then option_and_then (λ set. run_from set files more) (with_value (option_name word) (own_value word) set)
       else (if is_option word then run_after set files word more
-      else run_from set (files ++ word ∷ []) more)))
+      else run_from set (files ++ word ∷ []) more))))
 
-  -- the same after an option that a value follows
+  -- the same after an option whose value is the next word
   pub run_after : Settings → List (List ℕ) → List ℕ → List (List ℕ) → Option Run
   run_after set files name [] = None
   run_after set files name (value ∷ more) = option_and_then (λ set. run_from set files more) (with_value name value set)

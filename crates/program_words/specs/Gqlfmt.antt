@@ -1,11 +1,12 @@
 -- The words of `gqlfmt`: options and files in any order, each option at most once; or a page of the program.
-use Rattle.std.specs.Prelude.{◌≡◌, ℕ, Bool, true, false, ◌==◌, ◌&&◌, nat_lt, List, [], ◌∷◌, ◌++◌, length, codes, bytes_eq, map, if◌then◌else◌}
+use Rattle.std.specs.Prelude.{◌≡◌, ℕ, Bool, true, false, ◌==◌, ◌&&◌, ◌||◌, nat_lt, List, [], ◌∷◌, ◌++◌, length, codes, bytes_eq, map, if◌then◌else◌}
 use Rattle.std.specs.Prelude.{Option, Some, None, option_and_then, option_map, unwrap_or, is_some, Result, Ok, Err}
 use denote.Ref.{Bor}
 use Rattle.apollo_lexer.specs.declared.limits.Limits.{Limits}
 use Rattle.gqlfmt_files.specs.declared.settling.Mode.{Mode}
 use Rattle.gqlfmt_files.specs.declared.settling.Mode.TheVariants.{Write, Check, Diff, Print as PrintText}
 use Rattle.program_words.specs.Numbers.{number_of}
+use Rattle.program_words.specs.OwnValue.{has_own_value, option_name, own_value}
 use Rattle.program_words.specs.SetLimits.{limits_set, with_limit}
 use Rattle.program_words.specs.declared.information.Information.{Information}
 use Rattle.program_words.specs.Information.{information_of}
@@ -50,13 +51,17 @@ no_settings = record {
   input = false;
 }
 
+abbrev pub is_write : List ℕ → Bool
+is_write word = bytes_eq word (codes "--write") || bytes_eq word (codes "-w")
+
 -- the options that need no other word, of which one is taken
 abbrev pub mode_of : List ℕ → Option Mode
 mode_of word =
-    if bytes_eq word (codes "--check") then Some Check
+    if is_write word then Some Write
+    else (if bytes_eq word (codes "--check") then Some Check
     else (if bytes_eq word (codes "--diff") then Some Diff
     else (if bytes_eq word (codes "--print") then Some PrintText
-    else None))
+    else None)))
 
 abbrev pub with_mode : Settings → Mode → Option Settings
 with_mode set mode = if is_some set.mode then None else Some (record set { mode = Some mode })
@@ -124,10 +129,12 @@ abbrev mutual
       if bytes_eq word (codes "--") then run_unless set (files ++ more)
       else (if is_input word then option_and_then (λ set. run_from set files more) (with_input set)
       else (if is_some (mode_of word) then option_and_then (λ set. run_from set files more) (option_and_then (with_mode set) (mode_of word))
+      else (if is_option word && has_own_value word
+      then option_and_then (λ set. run_from set files more) (with_value (option_name word) (own_value word) set)
       else (if is_option word then run_after set files word more
-      else run_from set (files ++ word ∷ []) more)))
+      else run_from set (files ++ word ∷ []) more))))
 
-  -- the same after an option that a value follows
+  -- the same after an option whose value is the next word
   pub run_after : Settings → List (List ℕ) → List ℕ → List (List ℕ) → Option Run
   run_after set files name [] = None
   run_after set files name (value ∷ more) = option_and_then (λ set. run_from set files more) (with_value name value set)

@@ -1,4 +1,5 @@
 pub mod Numbers
+pub mod OwnValue
 pub mod LimitOptions
 pub mod SetLimits
 pub mod Information

@@ -3,13 +3,16 @@ use Rattle.std.specs.Prelude.{◌≡◌, ◌⊎◌, ℕ, List, [], ◌++◌, cod
 use Rattle.std.specs.List.{Contains}
 use Rattle.marked_lines.specs.Escaping.{shown}
 use Rattle.program_words.specs.declared.misuse.Mistake.{Mistake}
-use Rattle.program_words.specs.declared.misuse.Mistake.TheVariants.{Unknown, NoValue, NoNumber, NoLineEnding, Again, BesideFiles}
+use Rattle.program_words.specs.declared.misuse.Mistake.TheVariants.{Unknown, NoOption, UnknownMode, NoMode, NoValue, NoNumber, NoLineEnding, Again, BesideFiles}
 use Rattle.program_words.specs.declared.misuse.WordsError.{WordsError}
 use Rattle.program_words.specs.declared.misuse.WordsError.TheVariants.{Usage, Memory}
 
 -- what comes before the word
 abbrev pub before : Mistake → List ℕ
 before Unknown = codes "unknown option "
+before NoOption = []
+before UnknownMode = codes "unknown mode "
+before NoMode = codes "no mode is given"
 before NoValue = []
 before NoNumber = []
 before NoLineEnding = []
@@ -19,6 +22,9 @@ before BesideFiles = []
 -- and what comes after it
 abbrev pub after : Mistake → List ℕ
 after Unknown = []
+after NoOption = codes " is no option"
+after UnknownMode = []
+after NoMode = []
 after NoValue = codes " has no value"
 after NoNumber = codes " takes a number"
 after NoLineEnding = codes " takes lf, crlf or keep"

@@ -3,9 +3,8 @@ use Rattle.std.specs.Prelude.{◌≡◌, ℕ, List, ◌∷◌, ◌++◌, drop, O
 use denote.Ref.{Bor}
 use Rattle.std.specs.Option.{option_to_list}
 use Rattle.apollo_lexer.specs.declared.limits.Limits.{Limits}
-use Rattle.program_words.specs.LimitOptions.{GivenLimits, limits_given}
+use Rattle.program_words.specs.LimitOptions.{GivenLimits, given_by, limits_given}
 use Rattle.program_words.specs.Gqlfmt.{texts}
-use Rattle.program_words.specs.Gqlls as gqlls
 use Rattle.program_words.specs.declared.limits.SetLimits.{SetLimits}
 use Rattle.program_words.specs.declared.misuse.WordsError.{WordsError}
 use Rattle.program_words.specs.declared.misuse.WordsError.TheVariants.{Usage, Memory}
@@ -31,9 +30,10 @@ module _ {S R : Type 0} (run_from : S → List (List ℕ) → List (List ℕ) �
   IsTakenFrom word more set files set' files' (Err (Usage misuse)) = run_from set files (word ∷ texts more) ≡ None
   IsTakenFrom word more set files set' files' (Err Memory) = Unit {0}
 
--- Limits with a word of `gqlls` and as many of the words after it as are answered, or that the words set no limits.
-abbrev pub IsLimitsFrom : List ℕ → List (Bor (List ℕ)) → SetLimits → Option (SetLimits × ℕ) → Type 0
-IsLimitsFrom word more set (Some step) =
-    option_and_then (limits_after set) (gqlls.given_by (word ∷ texts more))
-    ≡ option_and_then (limits_after step.0) (gqlls.given_by (texts (drop step.1 more)))
-IsLimitsFrom word more set None = option_and_then (limits_after set) (gqlls.given_by (word ∷ texts more)) ≡ None
+-- Limits with a word that is an option and as many of the words after it as are answered, or that the words set no limits.
+abbrev pub IsLimitsFrom : Option (List ℕ) → List ℕ → List (Bor (List ℕ)) → SetLimits → Result (SetLimits × ℕ) WordsError → Type 0
+IsLimitsFrom passed word more set (Ok step) =
+    option_and_then (limits_after set) (given_by passed (word ∷ texts more))
+    ≡ option_and_then (limits_after step.0) (given_by passed (texts (drop step.1 more)))
+IsLimitsFrom passed word more set (Err (Usage misuse)) = option_and_then (limits_after set) (given_by passed (word ∷ texts more)) ≡ None
+IsLimitsFrom passed word more set (Err Memory) = Unit {0}

@@ -1,5 +1,6 @@
 // The words of `gqlcheck`.
 ghost use Rattle.std.specs.Prelude.{◌≡◌, ◌≤◌, [], length, IfOk, option_map, codes};
+ghost use Rattle.std.specs.Result.{result_ok};
 ghost use Rattle.program_words.specs.Gqlfmt.{texts, request_map, IsRead};
 ghost use Rattle.program_words.specs.Gqlcheck.{figure_set, figures_set, is_flag, limit_named, no_settings, put_figure, request_of, run_from, sets_limit};
 ghost use Rattle.program_words.specs.Misuse.{IsAbout, IsAmong};
@@ -12,6 +13,7 @@ use crate::information::information_of;
 use crate::limits::SetLimits;
 use crate::misuse::{Mistake, WordsError};
 use crate::numbers::number_of;
+use crate::own_value::name_and_value;
 use apollo_lexer::Limits;
 use expansion_figures::{Figures, Limit};
 use std::alloc::Allocator;
@@ -245,6 +247,22 @@ impl<'a> Settings<'a> {
         let most = self.most.with(name, value)?;
         Some(Settings { most, ..self })
     }
+
+    // The same, or what is wrong with the word.
+    fn with_option(
+        self,
+        word: &'a str,
+        name: &str,
+        value: &'a str,
+    ) -> Result<Settings<'a>, WordsError<'a>>
+        ensures settings { option_map as_settings (result_ok result) ≡ with_value name.now value.now (as_settings self.entry) }
+        ensures about { IsAbout (λ wrong. wrong ≡ word.now) result }
+    {
+        match self.with_value(name, value) {
+            Some(settings) => Ok(settings),
+            None => Err(WordsError::of(word, mistake_of(name, value))),
+        }
+    }
 }
 
 // What is read so far.
@@ -311,16 +329,15 @@ fn take_first<'a, A: Allocator>(
         };
     }
     if is_option(word) {
+        if let Some((name, value)) = name_and_value(word) {
+            read.settings = read.settings.with_option(word, name, value)?;
+            return Ok(0);
+        }
         let Some(value) = more.first() else {
             return Err(WordsError::of(word, mistake_at_end(word)));
         };
-        return match read.settings.with_value(word, value) {
-            Some(settings) => {
-                read.settings = settings;
-                Ok(1)
-            }
-            None => Err(WordsError::of(word, mistake_of(word, value))),
-        };
+        read.settings = read.settings.with_option(word, word, value)?;
+        return Ok(1);
     }
     read.files.extend_from_slice(&[word])?;
     Ok(0)
@@ -363,7 +380,7 @@ fn plan_of<'a, A: Allocator>(alloc: A, words: &[&'a str]) -> Result<Plan<'a, A>,
 }
 
 /// The request in the words after the program's name. `--help` and `--version` come before all else, wherever they are. Options and files
-/// come in any order, and each option at most once; after `--` all words are files.
+/// come in any order, and each option at most once; after `--` all words are files. The value of an option is the next word, or follows an equals sign.
 pub fn options<'a, A: Allocator>(
     alloc: A,
     words: &[&'a str],

@@ -1,9 +1,14 @@
 // The words of `gqlcst`.
-ghost use Rattle.std.specs.Prelude.{◌≡◌, map, option_and_then};
-ghost use Rattle.program_words.specs.Gqlcst.{mode_of, given_by, command_of};
-ghost use Rattle.program_words.specs.Reading.{limits_after};
+ghost use Rattle.std.specs.Prelude.{◌≡◌, ◌⊎◌, []};
+ghost use Rattle.std.specs.List.{Contains};
+ghost use Rattle.program_words.specs.Gqlcst.{mode_of, command_of, request_of};
+ghost use Rattle.program_words.specs.Gqlfmt.{IsRead, texts};
+ghost use Rattle.program_words.specs.Misuse.{IsAbout};
 
-use crate::limits::SetLimits;
+use crate::gqlfmt::Request;
+use crate::information::information_of;
+use crate::limits::limits_of;
+use crate::misuse::{Mistake, WordsError};
 use apollo_lexer::Limits;
 
 /// What is written of a text.
@@ -28,24 +33,31 @@ fn mode_of(word: &str) -> Option<Mode>
     }
 }
 
-// The limits that are set by these options and by those before them, or nothing where the words are no options. It calls itself at most twice,
-// since each of the two options is taken once.
-fn limits_after(set: SetLimits, words: &[&str]) -> Option<Limits>
-    ensures { result ≡ option_and_then (limits_after set) (given_by (map (λ word. word.now) words.now)) }
+// The command of the words.
+fn command_of<'a>(words: &[&'a str]) -> Result<(Mode, Limits), WordsError<'a>>
+    ensures command { IsRead (λ command. command) (command_of (texts words.now)) result }
+    ensures about { IsAbout (λ wrong. Contains (texts words.now) wrong ⊎ (wrong ≡ [])) result }
 {
-    match words {
-        [] => Some(set.limits()),
-        [_] => None,
-        [name, value, more @ ..] => limits_after(set.with(name, value)?, more),
+    let [first, more @ ..] = words else {
+        return Err(WordsError::of("", Mistake::NoMode));
+    };
+    let Some(mode) = mode_of(first) else {
+        return Err(WordsError::of(first, Mistake::UnknownMode));
+    };
+    match limits_of(more, None) {
+        Ok(limits) => Ok((mode, limits)),
+        Err(error) => Err(error),
     }
 }
 
-/// The command in the words after the program's name: a mode, and then options in any order, each at most once.
-pub fn options(words: &[&str]) -> Option<(Mode, Limits)>
-    ensures { result ≡ command_of (map (λ word. word.now) words.now) }
+/// The request in the words after the program's name: a mode, and then options in any order, each at most once; or a page, as `information_of` has it.
+pub fn options<'a>(words: &[&'a str]) -> Result<Request<(Mode, Limits)>, WordsError<'a>>
+    ensures request { IsRead (λ request. request) (request_of (texts words.now)) result }
+    ensures about { IsAbout (λ wrong. Contains (texts words.now) wrong ⊎ (wrong ≡ [])) result }
 {
-    let (first, more) = words.split_first()?;
-    let mode = mode_of(first)?;
-    let limits = limits_after(SetLimits::NONE, more)?;
-    Some((mode, limits))
+    if let Some(page) = information_of(words) {
+        return Ok(Request::Print(page));
+    }
+    let command = command_of(words)?;
+    Ok(Request::Process(command))
 }

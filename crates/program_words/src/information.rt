@@ -1,6 +1,6 @@
 // The words for which a program prints something of itself.
 ghost use Rattle.std.specs.Prelude.{◌≡◌, map};
-ghost use Rattle.program_words.specs.Information.{information_of};
+ghost use Rattle.program_words.specs.Information.{information_of, is_help, is_version};
 
 /// What a program prints of itself.
 #[derive(Clone, Copy)]
@@ -11,7 +11,20 @@ pub enum Information {
     Version,
 }
 
-/// What the words after a program's name have it print of itself, if anything: the first of `--help` and `--version` says it, unless `--` comes before.
+fn is_help(word: &str) -> bool
+    ensures { result ≡ is_help word.now }
+{
+    matches!(word, "--help" | "-h")
+}
+
+fn is_version(word: &str) -> bool
+    ensures { result ≡ is_version word.now }
+{
+    matches!(word, "--version" | "-V")
+}
+
+/// What the words after a program's name have it print of itself, if anything: the first of `--help`, `-h`, `--version` and `-V` says it, unless `--` comes
+/// before.
 pub fn information_of(words: &[&str]) -> Option<Information>
     ensures { result ≡ information_of (map (λ word. word.now) words.now) }
 {
@@ -19,10 +32,10 @@ pub fn information_of(words: &[&str]) -> Option<Information>
         if *word == "--" {
             return None;
         }
-        if *word == "--help" {
+        if is_help(word) {
             return Some(Information::Help);
         }
-        if *word == "--version" {
+        if is_version(word) {
             return Some(Information::Version);
         }
     }

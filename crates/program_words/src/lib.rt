@@ -13,3 +13,4 @@ pub mod information;
 mod limits;
 pub mod misuse;
 mod numbers;
+mod own_value;

@@ -11,7 +11,13 @@ use std::alloc::{AllocError, Allocator};
 pub enum Mistake {
     /// There is no such option.
     Unknown,
-    /// No value follows the option.
+    /// It is no option, and the program takes no files.
+    NoOption,
+    /// There is no such mode.
+    UnknownMode,
+    /// There is no word, and a mode has to be the first.
+    NoMode,
+    /// The option has no value.
     NoValue,
     /// The value is no number, or one that is too large.
     NoNumber,
@@ -38,6 +44,9 @@ impl Misuse<'_> {
     {
         match self.mistake {
             Mistake::Unknown => ("unknown option ", ""),
+            Mistake::NoOption => ("", " is no option"),
+            Mistake::UnknownMode => ("unknown mode ", ""),
+            Mistake::NoMode => ("no mode is given", ""),
             Mistake::NoValue => ("", " has no value"),
             Mistake::NoNumber => ("", " takes a number"),
             Mistake::NoLineEnding => ("", " takes lf, crlf or keep"),
