@@ -4,6 +4,7 @@ use Rattle.gqlfmt_files.specs.declared.settling.Mode.{Mode}
 use Rattle.gqlfmt_files.specs.declared.settling.Mode.TheVariants.{Write}
 use Rattle.gqlfmt_files.specs.declared.settling.Settled.{Settled}
 use Rattle.gqlfmt_files.specs.declared.settling.Settled.TheVariants.{Done, Found}
+use Rattle.gqlfmt_files.specs.declared.settling.Settled.TheVariants as settled
 use Rattle.gqlfmt_files.specs.declared.settling.Revised.{Revised}
 use Rattle.gqlfmt_files.specs.declared.settling.Revised.TheVariants.{Same, Changed, Refused}
 
@@ -18,10 +19,13 @@ module _ {S : Type 0} (replaces : S → List ℕ → List ℕ → Bool → S →
   abbrev pub Settles : {A E X : Type 0} → Mode → List ℕ → Revised A E → Result Settled X → S → S → Type 0
   Settles mode path Same (Ok Done) old new = new ≡ old
   Settles mode path Same (Ok Found) old new = ⊥
+  Settles mode path Same (Ok settled.Refused) old new = ⊥
   Settles mode path Same (Err error) old new = ⊥
   Settles mode path (Refused errors) (Ok Done) old new = ⊥
-  Settles mode path (Refused errors) (Ok Found) old new = new ≡ old
+  Settles mode path (Refused errors) (Ok Found) old new = ⊥
+  Settles mode path (Refused errors) (Ok settled.Refused) old new = new ≡ old
   Settles mode path (Refused errors) (Err error) old new = ⊥
   Settles mode path (Changed text) (Ok Done) old new = IsReplaced mode path (string_bytes text) true old new
   Settles mode path (Changed text) (Ok Found) old new = (mode ≢ Write) × (new ≡ old)
+  Settles mode path (Changed text) (Ok settled.Refused) old new = ⊥
   Settles mode path (Changed text) (Err error) old new = IsReplaced mode path (string_bytes text) false old new

@@ -34,8 +34,10 @@ pub enum Revised<A: Allocator, E> {
 pub enum Settled {
     /// It has the layout now.
     Done,
-    /// It has errors, or another layout in a mode that changes nothing.
+    /// It has another layout, in a mode that changes nothing.
     Found,
+    /// It has errors, or is not formatted for another reason.
+    Refused,
 }
 
 /// Replaces the file at a path, of whose text the formatter made this, or leaves it as it is.
@@ -49,7 +51,7 @@ pub fn settle<F: Files, A: Allocator, E>(
 {
     match revised {
         Revised::Same => Ok(Settled::Done),
-        Revised::Refused(_) => Ok(Settled::Found),
+        Revised::Refused(_) => Ok(Settled::Refused),
         Revised::Changed(text) => match mode {
             Mode::Write => {
                 files.replace(path, text.as_str())?;

@@ -2,7 +2,8 @@
 use Rattle.std.proofs.Common.{◌≡◌, ◌≢◌, ℕ, List, [], inl, inr, sym, subst}
 use Rattle.gqlfmt_files.specs.declared.settling.Mode.{Mode}
 use Rattle.gqlfmt_files.specs.declared.settling.Mode.TheVariants.{Write, Check, Diff, Print}
-use Rattle.gqlfmt_files.specs.declared.settling.Settled.TheVariants.{Done, Found}
+use Rattle.gqlfmt_files.specs.declared.settling.Settled.TheVariants as settled
+use Rattle.gqlfmt_files.specs.declared.settling.Settled.TheVariants.{Done}
 use Rattle.gqlfmt_run.specs.declared.formatting.Refusal.{Refusal}
 use Rattle.gqlfmt_run.specs.declared.formatting.Refusal.TheVariants.{Errors, Outgrown, TooLong}
 use Rattle.gqlfmt_run.specs.declared.job.Bounds.{Bounds}
@@ -23,9 +24,9 @@ of_changed Write bounds name source text output changed shown =
 of_changed Print bounds name source text output changed shown =
     subst (λ (text : List ℕ). IsLaidOut bounds source text) (sym (shown changed.other)) changed.formatted
 of_changed Check bounds name source text output changed shown =
-    inr (record { looks = λ e. (cc); text = text; changed = changed; shown = shown changed.other })
+    record { looks = λ e. (cc); text = text; changed = changed; shown = shown changed.other }
 of_changed Diff bounds name source text output changed shown =
-    inr (record { looks = λ e. (cc); text = text; changed = changed; shown = shown changed.other })
+    record { looks = λ e. (cc); text = text; changed = changed; shown = shown changed.other }
 
 pub is-refused : {A : Type 0} (bounds : Bounds) (source : List ℕ) (refusal : Refusal A) → IsRefusedFor bounds source refusal → IsRefused bounds source
 is-refused bounds source (Errors first) h = inl h.0
@@ -33,8 +34,8 @@ is-refused bounds source Outgrown h = inr (inl h)
 is-refused bounds source TooLong h = inr (inr h)
 
 pub of_refused : (mode : Mode) (bounds : Bounds) (name source output : List ℕ) → IsRefused bounds source → output ≡ []
-    → IsOutput mode bounds name source Found output
-of_refused Write bounds name source output h empty = inl (h, empty)
-of_refused Print bounds name source output h empty = inl (h, empty)
-of_refused Check bounds name source output h empty = inl (h, empty)
-of_refused Diff bounds name source output h empty = inl (h, empty)
+    → IsOutput mode bounds name source settled.Refused output
+of_refused Write bounds name source output h empty = (h, empty)
+of_refused Print bounds name source output h empty = (h, empty)
+of_refused Check bounds name source output h empty = (h, empty)
+of_refused Diff bounds name source output h empty = (h, empty)

@@ -13,7 +13,8 @@ use Rattle.gqlfmt_files.specs.declared.settling.Mode.{Mode}
 use Rattle.gqlfmt_files.specs.declared.settling.Revised.{Revised}
 use Rattle.gqlfmt_files.specs.declared.settling.Revised.TheVariants.{Same, Changed, Refused}
 use Rattle.gqlfmt_files.specs.declared.settling.Settled.{Settled}
-use Rattle.gqlfmt_files.specs.declared.settling.Settled.TheVariants.{Found}
+use Rattle.gqlfmt_files.specs.declared.settling.Settled.TheVariants as settled
+use Rattle.gqlfmt_files.specs.declared.settling.Settled.TheVariants.{Done, Found}
 use Rattle.gqlfmt_files.specs.Settling.{Settles}
 use Rattle.named_files.specs.Finding.{FoundPath, path_of}
 use Rattle.gqlfmt_run.specs.declared.fault.FileFault.{FileFault}
@@ -22,37 +23,54 @@ use Rattle.gqlfmt_run.specs.Complaints.{IsSilent, SaysOfFile}
 use Rattle.gqlfmt_run.specs.Formatting.{IsRevised}
 use Rattle.gqlfmt_run.specs.Status.{status_of}
 use Rattle.gqlfmt_run.specs.Paths.{Desk, FollowsText, Handles, HandlesAll, HandlesFound}
-use Rattle.gqlfmt_run.specs.Showing.{Shows}
+use Rattle.gqlfmt_run.specs.Showing.{Complains, Shows}
 use Rattle.gqlfmt_run.proofs.Outputs.{is-refused}
 
 pub ord_max-nat : (a b : ℕ) → ord_max nat_cmp a b ≡ max a b
 ord_max-nat a b = grind (arith, nat_tests)
 
 module _ {S : Type 0} (reads : S → List ℕ → Result (List ℕ) Error → S → Type 0) (replaces : S → List ℕ → List ℕ → Bool → S → Type 0) where
-  found : {A : Type 0} (X : Type 0) (mode : Mode) (bounds : Bounds) (path source : List ℕ) (revised : Revised A (Refusal A)) (old new : S)
-      (out out' : Account) → IsUtf8 source
-      → IsRevised bounds source revised → Settles replaces {X = X} mode path revised (Ok Found) old new → Shows mode path source revised (Ok tt) out out'
-      → FollowsText reads replaces mode bounds path source (Ok Found) old out new out'
-  found X mode bounds path source Same old new out out' utf8 made settled shown = absurd settled
-  found X mode bounds path source (Changed text) old new out out' utf8 made settled shown =
-      (utf8, settled.1, inr (shown.0, record { looks = settled.0; text = _; changed = made; shown = shown.1 made.other }, shown.2))
-  found X mode bounds path source (Refused refusal) old new out out' utf8 made settled shown =
-      (utf8, settled, inl (is-refused bounds source refusal made, shown))
+  -- the text is refused, or has another layout, which is shown
+  abbrev IsLeft : Settled → Type 0
+  IsLeft Done = ⊥
+  IsLeft Found = Unit {0}
+  IsLeft settled.Refused = Unit {0}
 
-  -- A file whose text is refused or shown. The text is known as it was read, as a slice and as a text.
-  pub found-handled : {A : Type 0} (X : Type 0) (mode : Mode) (bounds : Bounds) (path bytes slice source : List ℕ) (revised : Revised A (Refusal A))
-      (old middle new : S) (out out' : Account)
+  left : {A : Type 0} (X : Type 0) (mode : Mode) (bounds : Bounds) (path source : List ℕ) (revised : Revised A (Refusal A)) (ended : Settled) (old new : S)
+      (out out' : Account) → IsLeft ended → IsUtf8 source
+      → IsRevised bounds source revised → Settles replaces {X = X} mode path revised (Ok ended) old new → Shows mode path source revised (Ok tt) out out'
+      → FollowsText reads replaces mode bounds path source (Ok ended) old out new out'
+  left X mode bounds path source Same Found old new out out' is utf8 made settled shown = absurd settled
+  left X mode bounds path source Same settled.Refused old new out out' is utf8 made settled shown = absurd settled
+  left X mode bounds path source (Changed text) Found old new out out' is utf8 made settled shown =
+      (utf8, settled.1, (shown.0, record { looks = settled.0; text = _; changed = made; shown = shown.1 made.other }, shown.2))
+  left X mode bounds path source (Changed text) settled.Refused old new out out' is utf8 made settled shown = absurd settled
+  left X mode bounds path source (Refused refusal) Found old new out out' is utf8 made settled shown = absurd settled
+  left X mode bounds path source (Refused refusal) settled.Refused old new out out' is utf8 made settled shown =
+      (utf8, settled, is-refused bounds source refusal made, shown)
+  left X mode bounds path source revised Done old new out out' is utf8 made settled shown = absurd is
+
+  -- The same of a file. Its text is known as it was read, as a slice and as a text.
+  pub left-handled : {A : Type 0} (X : Type 0) (mode : Mode) (bounds : Bounds) (path bytes slice source : List ℕ) (revised : Revised A (Refusal A))
+      (ended : Settled) (old middle new : S) (out out' : Account) → IsLeft ended
       → reads old path (Ok bytes) middle → slice ≡ bytes → (source ≡ slice) × IsUtf8 slice → IsRevised bounds source revised
-      → Settles replaces {X = X} mode path revised (Ok Found) middle new → Shows mode path source revised (Ok tt) out out'
-      → Handles reads replaces mode bounds path (Ok Found) old out new out'
-  found-handled X mode bounds path bytes slice source revised old middle new out out' read same text made settled shown = record {
+      → Settles replaces {X = X} mode path revised (Ok ended) middle new → Shows mode path source revised (Ok tt) out out'
+      → Handles reads replaces mode bounds path (Ok ended) old out new out'
+  left-handled X mode bounds path bytes slice source revised ended old middle new out out' is read same text made settled shown = record {
     given = Ok bytes;
     middle = middle;
     read = read;
     follows =
-        subst (λ (s : List ℕ). FollowsText reads replaces mode bounds path s (Ok Found) middle out new out') (text.0 ∙ same)
-        (found X mode bounds path source revised middle new out out' (subst IsUtf8 (sym text.0) text.1) made settled shown);
+        subst (λ (s : List ℕ). FollowsText reads replaces mode bounds path s (Ok ended) middle out new out') (text.0 ∙ same)
+        (left X mode bounds path source revised ended middle new out out' is (subst IsUtf8 (sym text.0) text.1) made settled shown);
   }
+
+  -- of a text that is shown nothing is said
+  pub shown-silently : {A E : Type 0} (X : Type 0) (mode : Mode) (path : List ℕ) (revised : Revised A E) (old new : S) (said said' : Account)
+      → Settles replaces {X = X} mode path revised (Ok Found) old new → Complains revised (Ok tt) said said' → said' ≡ said
+  shown-silently X mode path Same old new said said' settled same = absurd settled
+  shown-silently X mode path (Changed text) old new said said' settled same = same
+  shown-silently X mode path (Refused refusal) old new said said' settled any = absurd settled
 
   module _ (mode : Mode) (bounds : Bounds) where
     abbrev Ends : FoundPath → Result Settled FileFault → Desk S → Desk S → Type 0

@@ -6,13 +6,14 @@ use Rattle.byte_devices.specs.Writing.{EndsWriting}
 use Rattle.byte_devices.specs.declared.fault.Fault.{Fault}
 use Rattle.byte_devices.specs.declared.fault.Fault.TheVariants.{Read, Utf8, Memory, Write}
 use Rattle.gqlfmt_files.specs.declared.settling.Settled.{Settled}
-use Rattle.gqlfmt_files.specs.declared.settling.Settled.TheVariants.{Done, Found}
+use Rattle.gqlfmt_files.specs.declared.settling.Settled.TheVariants.{Done, Found, Refused}
 use Rattle.gqlfmt_run.specs.declared.fault.FileFault.{FileFault}
 use Rattle.gqlfmt_run.specs.Complaints.{IsSilent, SaysOfFile}
 
 pub silent_says : (path : List ℕ) (settled : Settled) (old new : Account) → IsSilent {E = FileFault} (Ok settled) old new → SaysOfFile path (Ok settled) old new
 silent_says path Done old new same = same
-silent_says path Found old new any = any
+silent_says path Found old new same = same
+silent_says path Refused old new any = any
 
 -- writing nothing does not break off
 all-written : (fault : Fault) (text : List ℕ) (old new : Account) → EndsWriting fault text old new → text ≡ [] → ⊥

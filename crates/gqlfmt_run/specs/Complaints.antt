@@ -6,7 +6,7 @@ use Rattle.byte_devices.specs.declared.fault.Fault.{Fault}
 use Rattle.byte_devices.specs.declared.fault.Fault.TheVariants.{Read, Utf8, Memory, Write}
 use Rattle.marked_lines.specs.Escaping.{shown}
 use Rattle.gqlfmt_files.specs.declared.settling.Settled.{Settled}
-use Rattle.gqlfmt_files.specs.declared.settling.Settled.TheVariants.{Done, Found}
+use Rattle.gqlfmt_files.specs.declared.settling.Settled.TheVariants.{Done, Found, Refused}
 use Rattle.program_words.specs.Misuse.{complaint}
 use Rattle.program_words.specs.declared.misuse.Mistake.{Mistake}
 use Rattle.gqlfmt_run.specs.declared.command.TheConstants.{NO_MEMORY, USAGE}
@@ -32,10 +32,12 @@ reason_of Write = codes "cannot write"
 abbrev pub Tells : List ℕ → Fault → Account → Account → Type 0
 Tells name fault old new = IsWritten (codes "gqlfmt: " ++ shown name ++ codes ": " ++ reason_of fault ++ codes "\n") old new ⊎ IsWritten NO_MEMORY.now old new
 
--- What is said, by the outcome for the text: nothing where all is done, and why where it was not formatted. How errors are shown is not stated.
+-- What is said, by the outcome for the text: nothing where it has the layout or another one, and why where it was not formatted. How errors are shown is
+-- not stated.
 abbrev pub Says : List ℕ → Result Settled Fault → Account → Account → Type 0
 Says name (Ok Done) old new = new ≡ old
-Says name (Ok Found) old new = Unit {0}
+Says name (Ok Found) old new = new ≡ old
+Says name (Ok Refused) old new = Unit {0}
 Says name (Err fault) old new = Tells name fault old new
 
 -- The same of a file. The words for the errors of a file system are not stated.
@@ -48,5 +50,6 @@ SaysOfFile path (Err (NotReplaced error)) old new = Unit {0}
 -- Before that, nothing is said but of a text's errors.
 abbrev pub IsSilent : {E : Type 0} → Result Settled E → Account → Account → Type 0
 IsSilent (Ok Done) old new = new ≡ old
-IsSilent (Ok Found) old new = Unit {0}
+IsSilent (Ok Found) old new = new ≡ old
+IsSilent (Ok Refused) old new = Unit {0}
 IsSilent (Err fault) old new = new ≡ old

@@ -1,9 +1,9 @@
 -- What is written of standard input.
-use Rattle.std.specs.Prelude.{◌≡◌, ◌⊎◌, ℕ, List, []}
+use Rattle.std.specs.Prelude.{◌≡◌, ℕ, List, []}
 use Rattle.gqlfmt_files.specs.declared.settling.Mode.{Mode}
 use Rattle.gqlfmt_files.specs.declared.settling.Mode.TheVariants.{Write, Check, Diff, Print}
 use Rattle.gqlfmt_files.specs.declared.settling.Settled.{Settled}
-use Rattle.gqlfmt_files.specs.declared.settling.Settled.TheVariants.{Done, Found}
+use Rattle.gqlfmt_files.specs.declared.settling.Settled.TheVariants.{Done, Found, Refused}
 use Rattle.gqlfmt_run.specs.declared.job.Bounds.{Bounds}
 use Rattle.gqlfmt_run.specs.Formatting.{IsLaidOut, IsRefused, IsListed}
 
@@ -14,7 +14,8 @@ IsOutput Write bounds name source Done output = IsLaidOut bounds source output
 IsOutput Print bounds name source Done output = IsLaidOut bounds source output
 IsOutput Check bounds name source Done output = IsLaidOut bounds source source × (output ≡ [])
 IsOutput Diff bounds name source Done output = IsLaidOut bounds source source × (output ≡ [])
-IsOutput mode bounds name source Found output = (IsRefused bounds source × (output ≡ [])) ⊎ IsListed mode bounds name source output
+IsOutput mode bounds name source Found output = IsListed mode bounds name source output
+IsOutput mode bounds name source Refused output = IsRefused bounds source × (output ≡ [])
 
 -- the parts of that: what is written of a text that has the layout
 abbrev pub kept : Mode → List ℕ → List ℕ

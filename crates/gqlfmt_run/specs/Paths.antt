@@ -13,7 +13,7 @@ use Rattle.gqlfmt_files.specs.declared.settling.Mode.TheVariants.{Write, Print}
 use Rattle.gqlfmt_run.specs.declared.fault.FileFault.{FileFault}
 use Rattle.gqlfmt_run.specs.declared.fault.FileFault.TheVariants.{NotRead, NotReplaced, Device}
 use Rattle.gqlfmt_files.specs.declared.settling.Settled.{Settled}
-use Rattle.gqlfmt_files.specs.declared.settling.Settled.TheVariants.{Done, Found}
+use Rattle.gqlfmt_files.specs.declared.settling.Settled.TheVariants.{Done, Found, Refused}
 use Rattle.named_files.specs.Finding.{FoundPath, file, unreadable, path_of}
 use Rattle.gqlfmt_run.specs.Complaints.{SaysOfFile}
 use Rattle.gqlfmt_run.specs.Formatting.{IsLaidOut, IsRefused, IsChanged, IsListed}
@@ -41,8 +41,8 @@ module _ {S : Type 0} (reads : S → List ℕ → Result (List ℕ) Error → S 
   FollowsText mode bounds path source (Ok Done) old output new output' =
       IsUtf8 source × (output' ≡ output) × ((IsLaidOut bounds source source × (new ≡ old)) ⊎ IsRewritten mode bounds path source true old new)
   FollowsText mode bounds path source (Ok Found) old output new output' =
-      IsUtf8 source × (new ≡ old)
-      × ((IsRefused bounds source × (output' ≡ output)) ⊎ ((shown : List ℕ) × IsListed mode bounds path source shown × (output' ≡ moved output shown)))
+      IsUtf8 source × (new ≡ old) × ((shown : List ℕ) × IsListed mode bounds path source shown × (output' ≡ moved output shown))
+  FollowsText mode bounds path source (Ok Refused) old output new output' = IsUtf8 source × (new ≡ old) × IsRefused bounds source × (output' ≡ output)
   FollowsText mode bounds path source (Err (Device Utf8)) old output new output' = ¬ IsUtf8 source × (new ≡ old) × (output' ≡ output)
   FollowsText mode bounds path source (Err (Device Memory)) old output new output' = (new ≡ old) × (output' ≡ output)
   FollowsText mode bounds path source (Err (Device fault.Write)) old output new output' =

@@ -24,3 +24,10 @@ Shows mode name source Same (Ok _) old new = new ≡ old
 Shows mode name source (Refused errors) (Ok _) old new = new ≡ old
 Shows mode name source Same (Err fault.Write) old new = ⊥
 Shows mode name source (Refused errors) (Err fault.Write) old new = ⊥
+
+-- Only why a text is refused is said, if memory for that is there.
+abbrev pub Complains : {A E : Type 0} → Revised A E → Result (Unit {0}) Fault → Account → Account → Type 0
+Complains (Refused errors) (Ok _) old new = Unit {0}
+Complains (Refused errors) (Err fault) old new = new ≡ old
+Complains Same ended old new = new ≡ old
+Complains (Changed text) ended old new = new ≡ old

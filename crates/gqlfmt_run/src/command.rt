@@ -40,7 +40,7 @@ Each option may be given once, before FILE or after. Its value is the next word,
 or follows an equals sign, as in --tokens=9. After -- all words are files.
 
 A document that has errors, or more tokens or bytes than allowed when formatted,
-is left as it is. The status is 0 when all is done, 1 when a document is left so
-or --check or --diff found a change, and 2 when something could not be read or
-written.
+is left as it is. The status is 0 when all is done, 1 when --check or --diff
+found a change, and 2 when a document is left so, or something could not be read
+or written.
 ";

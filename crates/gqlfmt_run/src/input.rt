@@ -2,7 +2,7 @@
 ghost use Rattle.std.specs.Prelude.{◌≡◌, ◌≢◌, ◌⊎◌, ℕ, List, [], IfErr, IfOk, MatchResult, string_bytes};
 ghost use Rattle.byte_devices.specs.Runs.{Reads, Writes};
 ghost use Rattle.byte_devices.specs.declared.fault.Fault.TheVariants.{Read};
-ghost use Rattle.gqlfmt_files.specs.declared.settling.Settled.TheVariants.{Found};
+ghost use Rattle.gqlfmt_files.specs.declared.settling.Settled.TheVariants.{Refused};
 ghost use Rattle.gqlfmt_run.specs.Complaints.{IsSilent};
 ghost use Rattle.gqlfmt_run.specs.Input.{IsOutput, kept, settled_of};
 
@@ -44,7 +44,7 @@ impl<A: Allocator + Copy, L: DocumentFormatter> Job<'_, A, L> {
     ) -> Result<(Settled, String<A>), AllocError>
         ensures output { IfOk result (λ it. IsOutput self.now.mode self.now.bounds name.now source.now it.0 (string_bytes it.1)) }
         ensures silent { MatchResult result
-            (λ it. (E.account complaints.new ≡ E.account complaints.old) ⊎ ((it.0 ≡ Found) × (string_bytes it.1 ≡ [])))
+            (λ it. (E.account complaints.new ≡ E.account complaints.old) ⊎ ((it.0 ≡ Refused) × (string_bytes it.1 ≡ [])))
             (λ error. E.account complaints.new ≡ E.account complaints.old) }
     {
         match self.revise(source)? {
@@ -55,7 +55,7 @@ impl<A: Allocator + Copy, L: DocumentFormatter> Job<'_, A, L> {
             }
             Revised::Refused(refusal) => {
                 self.complain(complaints, name, source, &refusal)?;
-                Ok((Settled::Found, String::new(self.alloc)))
+                Ok((Settled::Refused, String::new(self.alloc)))
             }
         }
     }

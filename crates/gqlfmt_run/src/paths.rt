@@ -1,10 +1,10 @@
 // Formatting files.
-ghost use Rattle.std.specs.Prelude.{◌≡◌, OnErr, map};
+ghost use Rattle.std.specs.Prelude.{◌≡◌, map};
 ghost use Rattle.named_files.specs.Finding.{as_named};
 ghost use Rattle.gqlfmt_run.specs.Complaints.{IsSilent};
 ghost use Rattle.gqlfmt_run.specs.Paths.{Handles, HandlesAll, HandlesFile, HandlesFound, Prints};
 ghost use Rattle.gqlfmt_files.specs.declared.settling.Mode.TheVariants.{Print};
-ghost use Rattle.gqlfmt_run.specs.Showing.{Shows};
+ghost use Rattle.gqlfmt_run.specs.Showing.{Complains, Shows};
 
 use crate::fault::FileFault;
 use crate::formatting::Refusal;
@@ -29,7 +29,7 @@ impl<A: Allocator + Copy, L: DocumentFormatter> Job<'_, A, L> {
         revised: Revised<A, Refusal<'_, A>>,
     ) -> Result<(), Fault>
         ensures output { Shows self.now.mode path.now source.now revised.entry result (W.account writer.old) (W.account writer.new) }
-        ensures silent { OnErr result (E.account complaints.new ≡ E.account complaints.old) }
+        ensures silent { Complains revised.entry result (E.account complaints.old) (E.account complaints.new) }
     {
         match revised {
             Revised::Same => Ok(()),
@@ -90,6 +90,10 @@ impl<A: Allocator + Copy, L: DocumentFormatter> Job<'_, A, L> {
             Ok(Settled::Found) => {
                 self.show(writer, complaints, path, source, revised)?;
                 Ok(Settled::Found)
+            }
+            Ok(Settled::Refused) => {
+                self.show(writer, complaints, path, source, revised)?;
+                Ok(Settled::Refused)
             }
             Err(error) => Err(FileFault::NotReplaced(error)),
         }

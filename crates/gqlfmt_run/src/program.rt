@@ -82,8 +82,8 @@ impl<A: Allocator + Copy, L: DocumentFormatter> Job<'_, A, L> {
     }
 }
 
-/// Carries out the request in the words after the program's name, and gives the status: 0 when all is done, 1 when a text has errors or a mode that
-/// changes nothing found a change, 2 when something could not be done or the program is not called so.
+/// Carries out the request in the words after the program's name, and gives the status: 0 when all is done, 1 when a mode that changes nothing found another
+/// layout, 2 when a text has errors, something could not be done, or the program is not called so.
 pub fn run<A: Allocator + Copy, L: DocumentFormatter, R: Source, W: Sink, E: Sink, F: Files>(
     alloc: A,
     formatter: &L,

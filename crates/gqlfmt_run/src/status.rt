@@ -11,6 +11,6 @@ pub fn status_of<E>(ended: &Result<Settled, E>) -> u8
     match ended {
         Ok(Settled::Done) => 0,
         Ok(Settled::Found) => 1,
-        Err(_) => 2,
+        Ok(Settled::Refused) | Err(_) => 2,
     }
 }
