@@ -1,5 +1,5 @@
 -- Which texts pass.
-use Rattle.std.specs.Prelude.{◌≡◌, ◌≢◌, ℕ, Bool, true, false, List, [], All, bytes_eq, Option, Some, None, option_map}
+use Rattle.std.specs.Prelude.{◌≡◌, ◌≢◌, ◌⊎◌, ℕ, Bool, true, false, List, [], All, bytes_eq, Option, Some, None, option_map}
 use Rattle.std.specs.List.{filter}
 use denote.Ref.{Bor}
 use Rattle.apollo_lexer.specs.declared.limits.Limits.{Limits}
@@ -9,6 +9,7 @@ use Rattle.apollo_parser.specs.Promise.{Promise}
 use Rattle.executable_document.specs.Names.{Name}
 use Rattle.executable_document.specs.Definitions.{defined, operation_name}
 use Rattle.expansion_figures.specs.declared.figures.Figures.{Figures}
+use Rattle.formatter.specs.Within.{HasCommentsAlone}
 use Rattle.operation_limits.specs.Measures.{Measure, AreMeasures}
 use Rattle.operation_limits.specs.Limits.{IsWithin}
 use Rattle.apollo_validation.specs.Lists.{document_kind}
@@ -58,11 +59,20 @@ pub record IsSound (asked : Asked) (document : Place) : Type 0 where
   pub valid : IsValidAs (document_kind document) document
   pub within : AreWithin asked document
 
--- The text passes.
-pub record Passes (asked : Asked) (source : List ℕ) : Type 0 where
+-- The text is a document that is so.
+pub record IsSoundText (asked : Asked) (source : List ℕ) : Type 0 where
   -- its parse: the law `one_parse` says that there is no other
   pub parsed : Parsed
   pub promise : Promise source asked.limits.recursion asked.limits.tokens parsed
   -- it is a document within both limits, as `Promise` has it
   pub no_errors : parsed.errors ≡ []
   pub sound : IsSound asked (record { whole = parsed.tree; index = 0 })
+
+-- The text has nothing to check: no definition, within the token limit, and no operation is named that would have to be there.
+pub record HasNothing (asked : Asked) (source : List ℕ) : Type 0 where
+  pub comments : HasCommentsAlone asked.limits source
+  pub unnamed : asked.operation ≡ None
+
+-- The text passes.
+abbrev pub Passes : Asked → List ℕ → Type 0
+Passes asked source = IsSoundText asked source ⊎ HasNothing asked source

@@ -1,21 +1,22 @@
 // Checking a text: its errors, then the rules, then the limits of its operations.
-ghost use Rattle.std.specs.Prelude.{◌≡◌, ◌↔◌, IfOk, true, false};
+ghost use Rattle.std.specs.Prelude.{◌≡◌, ◌↔◌, IfOk, MatchBool, true, false};
 ghost use Rattle.apollo_tree.specs.References.{node_place};
-ghost use Rattle.document_checks.specs.Checking.{IsSound, Passes, as_asked};
+ghost use Rattle.document_checks.specs.Checking.{HasNothing, IsSound, IsSoundText, Passes, as_asked};
 
 use crate::operations::check_operations;
 use crate::report::{Checks, Finding, Report};
 use apollo_parser::{BorrowedError, Parser};
 use apollo_tree::SyntaxNode;
 use apollo_validation::{Violation, message, validate};
-use first_errors::{FirstErrors, first_errors, for_people, shown_at};
+use first_errors::{first_errors, for_people, shown_at};
+use formatter::{has_no_definitions, stays_within};
 use std::alloc::{AllocError, Global};
 
 // How many violations are looked for.
 const MOST: usize = 1000;
 
 // An error, in words for people.
-fn finding_for_people(
+fn finding_of(
     alloc: Global,
     source: &str,
     error: &BorrowedError<'_>,
@@ -26,59 +27,22 @@ fn finding_for_people(
     Ok(Finding::of_error(error, shown_at(source, error), message))
 }
 
-// An error, in the parser's words.
-fn finding_as_found(alloc: Global, error: &BorrowedError<'_>) -> Result<Finding, AllocError> {
-    let (words, quoted, end) = error.message_parts();
-    let message = format!(in alloc; "{words}{quoted}{end}")?;
-    Ok(Finding::of_error(error, error.index(), message))
-}
-
-// The report of a text that has errors, with the first of each definition.
-fn first_refused(
-    alloc: Global,
-    source: &str,
-    first: &FirstErrors<'_, Global>,
-) -> Result<Report, AllocError>
-    ensures { IfOk result (λ report. report.passes ≡ false) }
-{
-    let mut findings = Vec::new(alloc);
-    for error in &first.errors {
-        findings.push(finding_for_people(alloc, source, error)?)?;
-    }
-    Ok(Report::failed(alloc, findings, first.more))
-}
-
-// The report of a text that has errors, with the first of all, as the parser has them.
-fn all_refused(
-    alloc: Global,
-    errors: &[BorrowedError<'_>],
-    most: usize,
-) -> Result<Report, AllocError>
-    ensures { IfOk result (λ report. report.passes ≡ false) }
-{
-    let mut findings = Vec::new(alloc);
-    for error in errors.iter().take(most) {
-        findings.push(finding_as_found(alloc, error)?)?;
-    }
-    let more = errors.len().saturating_sub(most);
-    Ok(Report::failed(alloc, findings, more))
-}
-
-// The report of a text that has these errors, by the root of its tree.
+// The report of a text that has these errors, by the root of its tree: of each definition the first, in words for people.
 fn refused(
     alloc: Global,
     source: &str,
     document: &SyntaxNode<'_>,
     errors: &[BorrowedError<'_>],
-    checks: &Checks<'_>,
+    most: usize,
 ) -> Result<Report, AllocError>
     ensures { IfOk result (λ report. report.passes ≡ false) }
 {
-    if checks.all_errors {
-        return all_refused(alloc, errors, checks.findings);
+    let first = first_errors(alloc, document, errors, most)?;
+    let mut findings = Vec::new(alloc);
+    for error in &first.errors {
+        findings.push(finding_of(alloc, source, error)?)?;
     }
-    let first = first_errors(alloc, document, errors, checks.findings)?;
-    first_refused(alloc, source, &first)
+    Ok(Report::failed(alloc, findings, first.more))
 }
 
 fn violation_finding(alloc: Global, violation: &Violation<'_>) -> Result<Finding, AllocError> {
@@ -116,18 +80,40 @@ fn check_document(
     Ok(report)
 }
 
-/// Checks a text: it passes exactly if it is a document within the parser's limits, which keeps all rules that need no schema, and each operation is
-/// within the limits, or the one that is named, which has to be there. It fails only where memory is refused.
-pub fn check(alloc: Global, source: &str, checks: &Checks<'_>) -> Result<Report, AllocError>
-    ensures { IfOk result (λ report. (report.passes ≡ true) ↔ Passes (as_asked checks.now) source.now) }
+// Whether a text has nothing to check.
+fn has_nothing(source: &str, checks: &Checks<'_>) -> bool
+    ensures { MatchBool result (HasNothing (as_asked checks.now) source.now) (¬ HasNothing (as_asked checks.now) source.now) }
+{
+    checks.operation.is_none()
+        && has_no_definitions(source)
+        && stays_within(source, checks.limits.tokens)
+}
+
+// Checks a text that has something to check.
+fn check_text(alloc: Global, source: &str, checks: &Checks<'_>) -> Result<Report, AllocError>
+    ensures { IfOk result (λ report. (report.passes ≡ true) ↔ IsSoundText (as_asked checks.now) source.now) }
 {
     let tree = Parser::within(source, checks.limits).parse_borrowed(alloc)?;
     let errors = tree.errors().as_slice();
     if !errors.is_empty() {
-        let report = refused(alloc, source, &tree.root(), errors, checks)?;
+        let report = refused(alloc, source, &tree.root(), errors, checks.findings)?;
         return Ok(report);
     }
     let report = check_document(alloc, &tree.root(), checks)?;
+    Ok(report)
+}
+
+/// Checks a text: it passes exactly if it is a document within the parser's limits, which keeps all rules that need no schema, and each operation is
+/// within the limits, or the one that is named, which has to be there; or if it has no definition, and no operation is named. It fails only where memory is
+/// refused.
+#[tactic(auto, using(crate::proofs::Texts::with_nothing, crate::proofs::Texts::with_something))]
+pub fn check(alloc: Global, source: &str, checks: &Checks<'_>) -> Result<Report, AllocError>
+    ensures { IfOk result (λ report. (report.passes ≡ true) ↔ Passes (as_asked checks.now) source.now) }
+{
+    if has_nothing(source, checks) {
+        return Ok(Report::of_nothing(alloc));
+    }
+    let report = check_text(alloc, source, checks)?;
     Ok(report)
 }
 

@@ -17,8 +17,6 @@ pub struct Checks<'a> {
     pub operation: Option<&'a str>,
     /// How many findings are reported at most.
     pub findings: usize,
-    /// Whether all errors of the parser are reported as it has them, or of each definition the first, in words for people.
-    pub all_errors: bool,
 }
 
 /// Something that keeps a text from passing, or the first of the places of one.
@@ -48,7 +46,7 @@ pub struct OperationReport {
 pub struct Report {
     /// Whether the text passes.
     pub passes: bool,
-    /// The first things that keep it from passing, in the order in which they are found.
+    /// The first things that keep it from passing, in the order in which they are found: of errors the first of each definition.
     pub findings: Vec<Finding>,
     /// How many more there are. If rules are broken, this counts up to a thousand.
     pub more: usize,
@@ -57,6 +55,18 @@ pub struct Report {
 }
 
 impl Report {
+    /// The report of a text with nothing to check.
+    pub(crate) fn of_nothing(alloc: Global) -> Report
+        ensures { result.passes ≡ true }
+    {
+        Report {
+            passes: true,
+            findings: Vec::new(alloc),
+            more: 0,
+            operations: Vec::new(alloc),
+        }
+    }
+
     /// A report of these findings alone, for a text that does not pass.
     pub(crate) fn failed(alloc: Global, findings: Vec<Finding>, more: usize) -> Report
         ensures { result.passes ≡ false }

@@ -5,7 +5,7 @@ ghost use Rattle.first_errors.specs.Words.{IsForPeople, IsReplaced};
 use apollo_parser::BorrowedError;
 
 // How messages of the parser begin, and the words for people in their place.
-const WORDS: [(&str, &str); 8] = [
+const WORDS: [(&str, &str); 9] = [
     ("expected L_CURLY", "expected {"),
     ("expected R_CURLY", "expected }"),
     ("expected R_PAREN", "expected )"),
@@ -15,6 +15,7 @@ const WORDS: [(&str, &str); 8] = [
         "expected a StringValue, Name or OperationDefinition",
         "expected a definition",
     ),
+    ("expected definition", "expected a definition"),
     ("exptected ", "expected "),
     ("Unexpected <EOF>.", "The text has no definition."),
 ];

@@ -58,7 +58,6 @@ impl<'c, 'w, A: Allocator + Copy, C: DocumentChecker> Job<'c, 'w, A, C> {
                 most: plan.most,
                 operation: plan.operation,
                 findings: if plan.json { JSON_FINDINGS } else { FINDINGS },
-                all_errors: plan.json,
             },
             figures: plan.figures,
             json: plan.json,

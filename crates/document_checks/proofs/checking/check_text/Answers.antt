@@ -6,7 +6,7 @@ use Rattle.apollo_tree.specs.Order.{Place}
 use Rattle.apollo_parser.specs.Errors.{error_of}
 use Rattle.document_checks.specs.Checking.{IsSound, as_asked}
 use Rattle.document_checks.proofs.Texts.{parsed, refused}
-use Rattle.document_checks.proofs.checking.check.Goals as goal
+use Rattle.document_checks.proofs.checking.check_text.Goals as goal
 
 pub returns-then-not-is_empty : goal.returns-then-not-is_empty
 returns-then-not-is_empty c =
