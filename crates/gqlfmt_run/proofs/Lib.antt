@@ -3,4 +3,5 @@ pub mod FolderLemmas
 pub mod Printing
 pub mod Outputs
 pub mod Saying
+pub mod Quotes
 pub mod TooLong

@@ -15,6 +15,7 @@ use Rattle.gqlfmt_run.specs.declared.job.Bounds.{Bounds}
 use Rattle.gqlfmt_run.specs.declared.formatting.Refusal.{Refusal}
 use Rattle.gqlfmt_run.specs.declared.formatting.Refusal.TheVariants.{Errors, Outgrown, TooLong}
 use Rattle.gqlfmt_files.specs.declared.settling.Mode.{Mode}
+use Rattle.gqlfmt_run.specs.Quoting.{head_name, quoted}
 use Rattle.gqlfmt_files.specs.declared.settling.Mode.TheVariants.{Write, Check, Diff, Print}
 use Rattle.gqlfmt_files.specs.declared.settling.Revised.{Revised}
 use Rattle.gqlfmt_files.specs.declared.settling.Revised.TheVariants.{Same, Changed, Refused}
@@ -80,13 +81,13 @@ IsRevised bounds source (Refused refusal) = IsRefusedFor bounds source refusal
 
 -- a unified diff of two texts that have this name: both names at its head, and hunks
 abbrev pub IsDiff : List ℕ → List ℕ → Type 0
-IsDiff name output = (hunks : List ℕ) × (output ≡ codes "--- " ++ name ++ codes "\n+++ " ++ name ++ codes "\n" ++ hunks)
+IsDiff name output = (hunks : List ℕ) × (output ≡ codes "--- " ++ head_name name ++ codes "\n+++ " ++ head_name name ++ codes "\n" ++ hunks)
 
 -- What is written of a source that has this name and another text when formatted: that text, the name as a line, or the changes under the name.
 -- Which lines are shown of a change is not stated.
 abbrev pub IsShown : Mode → List ℕ → List ℕ → List ℕ → Type 0
 IsShown Write name text output = output ≡ text
-IsShown Check name text output = output ≡ name ++ 10 ∷ []
+IsShown Check name text output = output ≡ quoted name ++ 10 ∷ []
 IsShown Diff name text output = IsDiff name output
 IsShown Print name text output = output ≡ text
 

@@ -1,4 +1,5 @@
 pub mod Status
+pub mod Quoting
 pub mod Formatting
 pub mod Complaints
 pub mod Input

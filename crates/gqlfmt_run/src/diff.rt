@@ -3,6 +3,7 @@ ghost use Rattle.std.specs.Prelude.{◌≡◌, ◌≢◌, ◌≤◌, ◌<◌, []
 ghost use Rattle.gqlfmt_run.specs.Formatting.{IsDiff};
 
 use crate::edits::{Edit, edits};
+use crate::quoting::head_name;
 use std::alloc::{AllocError, Allocator};
 
 // How many lines are shown before and after an edit.
@@ -162,6 +163,7 @@ pub fn unified_diff<A: Allocator + Copy>(
     if old == new {
         return Ok(String::new(alloc));
     }
+    let head = head_name(alloc, name)?;
     let hunks = changes(alloc, old, new)?;
-    format!(in alloc; "--- {name}\n+++ {name}\n{hunks}")
+    format!(in alloc; "--- {head}\n+++ {head}\n{hunks}")
 }

@@ -17,6 +17,7 @@ mod job;
 mod misuse;
 mod paths;
 mod program;
+mod quoting;
 mod report;
 mod showing;
 mod status;

@@ -3,10 +3,11 @@ ghost use Rattle.std.specs.Prelude.{◌≢◌, IfOk, string_bytes};
 ghost use Rattle.gqlfmt_run.specs.Formatting.{IsShown};
 
 use crate::diff::unified_diff;
+use crate::quoting::quoted;
 use gqlfmt_files::Mode;
 use std::alloc::{AllocError, Allocator};
 
-/// What is shown of another text than its source: the formatted text itself, the name of its source as a line, or the changes from the source.
+/// What is shown of another text than its source: the formatted text itself, the quoted name of its source as a line, or the changes from the source.
 pub fn shown<A: Allocator + Copy>(
     alloc: A,
     mode: Mode,
@@ -19,7 +20,7 @@ pub fn shown<A: Allocator + Copy>(
     match mode {
         Mode::Write | Mode::Print => Ok(text),
         Mode::Check => {
-            let mut line = String::from_str(alloc, name)?;
+            let mut line = quoted(alloc, name)?;
             line.push_str("\n")?;
             Ok(line)
         }

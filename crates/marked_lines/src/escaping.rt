@@ -7,8 +7,8 @@ use std::alloc::{AllocError, Allocator};
 use ucd_category::GeneralCategory;
 use unicode_width::UnicodeWidthChar;
 
-// Whether a character would not be seen, or would move others: a control character but a tab, a format character, or a separator of lines or paragraphs.
-fn is_unseen(c: char) -> bool
+/// Whether a character would not be seen, or would move others: a control character but a tab, a format character, or a separator of lines or paragraphs.
+pub fn is_unseen(c: char) -> bool
     ensures { result ≡ is_unseen c }
 {
     c != '\t'

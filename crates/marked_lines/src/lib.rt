@@ -1,6 +1,7 @@
 //! Messages about places of a text, as programs show them: the place, the message, and the line of the text with the place marked.
 //!
-//! `gqlfmt_run` and `gqlcheck_run` call `push_message`, and `complaint` where there is no place to show.
+//! `gqlfmt_run` and `gqlcheck_run` call `push_message`, and `complaint` where there is no place to show. The names that other programs read are quoted by
+//! `gqlfmt_run`, which has `is_unseen` from here.
 #![tactic(auto)]
 
 ghost use Rattle.std.specs.Prelude.{◌≡◌, ◌≤◌, ◌++◌, IfOk, codes, length, string_bytes};
@@ -9,7 +10,7 @@ ghost use Rattle.marked_lines.specs.Escaping.{shown};
 mod escaping;
 mod excerpt;
 
-pub use escaping::push_escaped;
+pub use escaping::{is_unseen, push_escaped};
 use excerpt::push_excerpt;
 use line_index::LineIndex;
 use std::alloc::{AllocError, Allocator};
