@@ -72,6 +72,7 @@ FILE_CALL(flock, (int file, int operation), file, operation)
 FILE_CALL(fchmod, (int file, mode_t mode), file, mode)
 FILE_CALL(chown, (const char *path, uid_t owner, gid_t group), path, owner, group)
 FILE_CALL(unlink, (const char *path), path)
+FILE_CALL(rename, (const char *from, const char *to), from, to)
 FILE_CALL(ftruncate, (int file, off_t size), file, size)
 FILE_CALL(statx, (int folder, const char *path, int flags, unsigned mask, struct statx *found), folder, path, flags, mask, found)
 

@@ -17,13 +17,14 @@ pub fn say<E: Sink>(complaints: &mut E, text: &str)
     let _ = write_all(complaints, text.as_bytes());
 }
 
-// A line about an error of the file system.
+// A line about an error of the file system. A word that is not UTF-8 has a zero byte at its end, which is not shown.
 fn error_line<A: Allocator + Copy>(
     alloc: A,
     path: &str,
     error: &io::Error,
 ) -> Result<String<A>, AllocError> {
     let reason = format!(in alloc; "cannot read: {error}")?;
+    let path = path.strip_suffix('\0').unwrap_or(path);
     complaint(alloc, "gqlcheck", path, reason.as_str())
 }
 

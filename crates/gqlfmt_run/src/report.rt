@@ -93,7 +93,7 @@ pub fn tell<A: Allocator, E: Sink>(alloc: A, complaints: &mut E, name: &str, fau
     }
 }
 
-// A line about an error of the file system.
+// A line about an error of the file system. A word that is not UTF-8 has a zero byte at its end, which is not shown.
 fn error_line<A: Allocator + Copy>(
     alloc: A,
     path: &str,
@@ -101,6 +101,7 @@ fn error_line<A: Allocator + Copy>(
     error: &io::Error,
 ) -> Result<String<A>, AllocError> {
     let reason = format!(in alloc; "{what}: {error}")?;
+    let path = path.strip_suffix('\0').unwrap_or(path);
     complaint(alloc, "gqlfmt", path, reason.as_str())
 }
 

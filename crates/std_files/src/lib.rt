@@ -1,19 +1,21 @@
 //! The files of a runtime, as `gqlfmt` finds, reads and replaces them and `gqlcheck` and `gqlls` find and read them. They hand `StdFiles` to their `run`.
 //!
 //! A file is replaced by writing over it, so that it stays the same file, after a copy of its text is stored beside it under a hidden name. Where that
-//! fails, the old text is written back; the copy stays only where this fails too, or where the program is ended in between. A file that has changed since it
-//! was read is left as it is.
+//! fails, the old text is written back; the copy stays only where this fails too, where another program writes at the same time, or where the program is
+//! ended in between. The next run removes it if the file has all of it. A file that has changed since it was read is left as it is.
 #![tactic(auto)]
 
 ghost use Rattle.std.specs.Prelude.{◌≡◌, None};
 
+mod copies;
 mod listing;
 mod replacing;
 mod state;
 
+use copies::{Beside, copy_path, is_file};
 use gqlfmt_files::{Entry, Files};
-use listing::entries_of;
-use replacing::{create_private, hidden_path, open_writable, overwrite, readable, restore};
+use listing::{entries_of, not_utf8};
+use replacing::{is_alone, open_writable, overwrite, readable, restore};
 use state::State;
 use std::alloc::Allocator;
 use std::fs::{File, OpenFile};
@@ -66,9 +68,9 @@ impl<'a, R> StdFiles<'a, R> {
     }
 }
 
-impl<'a, R: rt::Files> StdFiles<'a, R> {
+impl<'a, R: rt::Files<File = File> + Alloc> StdFiles<'a, R> {
     // Fails where a file is not as it was when it was read.
-    fn check_unchanged(&self, file: &R::File) -> io::Result<()> {
+    fn check_unchanged(&self, file: &File) -> io::Result<()> {
         if self.seen == Some(State::of(&file.metadata()?)) {
             Ok(())
         } else {
@@ -76,33 +78,53 @@ impl<'a, R: rt::Files> StdFiles<'a, R> {
         }
     }
 
-    // Stores the text that was read of a file in a copy.
-    fn save(&self, file: &mut R::File, copy: &mut R::File) -> io::Result<()> {
+    // Stores the text that was read of a file in a copy, which has its name from then on.
+    fn save(&self, file: &mut File, copy: &mut File, beside: &Beside<R::A>) -> io::Result<()> {
         self.check_unchanged(file)?;
         io::copy(file, copy)?;
         copy.sync_all()?;
-        self.check_unchanged(file)
+        self.check_unchanged(file)?;
+        fs::rename(
+            self.runtime,
+            beside.unstored.as_path(),
+            beside.copy.as_path(),
+        )
     }
 
-    // Writes a text over a file's, of which there is a copy in the meantime. If it cannot, it writes the old one back.
-    fn write(&self, target: Path<'_>, beside: Path<'_>, text: &str) -> io::Result<()> {
+    // Writes a text over a file's, of which there is a copy in the meantime. If it cannot, it writes the old one back. Where this fails too, or another
+    // program writes at the same time, the copy stays.
+    fn write(&self, target: Path<'_>, text: &str) -> io::Result<()> {
         let mut file = open_writable(self.runtime, target)?;
+        let is_alone = is_alone(&file)?;
         let had = file.metadata()?;
-        let mut copy = create_private(self.runtime, beside)?;
-        let saved = self.save(&mut file, &mut copy);
-        let written = match saved {
-            Ok(()) => overwrite(&mut file, &had, text),
+        let beside = Beside::of(self.runtime, target)?;
+        if is_alone {
+            beside.clear(self.runtime, &mut file)?;
+        }
+        let mut copy = beside.create(self.runtime)?;
+        if let Err(error) = self.save(&mut file, &mut copy, &beside) {
+            let _ = fs::remove_file(self.runtime, beside.unstored.as_path());
+            return Err(error);
+        }
+        let written = match overwrite(&mut file, &had, text) {
+            Ok(true) => Ok(()),
+            Ok(false) => {
+                return Err(Error::new(
+                    ErrorKind::Other,
+                    "another program has changed it at the same time",
+                ));
+            }
             Err(error) => Err(error),
         };
-        if saved.is_ok() && written.is_err() && restore(&mut file, &had, &mut copy).is_err() {
+        if written.is_err() && restore(&mut file, &had, &mut copy).is_err() {
             return written;
         }
-        let removed = fs::remove_file(self.runtime, beside);
+        let removed = fs::remove_file(self.runtime, beside.copy.as_path());
         written.and(removed)
     }
 }
 
-impl<'a, R: rt::Files + Alloc + Clone + Drop> Files for StdFiles<'a, R> {
+impl<'a, R: rt::Files<File = File> + Alloc + Clone + Drop> Files for StdFiles<'a, R> {
     ghost use Rattle.std.specs.Prelude.{⊤};
 
     // nothing is stated about the file system
@@ -121,6 +143,9 @@ impl<'a, R: rt::Files + Alloc + Clone + Drop> Files for StdFiles<'a, R> {
     }
 
     fn read<A: Allocator>(&mut self, alloc: A, path: &str) -> io::Result<Vec<u8, A>> {
+        if path.contains('\0') {
+            return Err(not_utf8());
+        }
         if !self.any && readable(self.runtime, Path::new(path))?.len() > self.most {
             return Err(Error::from(ErrorKind::FileTooLarge));
         }
@@ -132,17 +157,15 @@ impl<'a, R: rt::Files + Alloc + Clone + Drop> Files for StdFiles<'a, R> {
     }
 
     fn replace(&mut self, path: &str, text: &str) -> io::Result<()> {
-        let runtime = self.runtime;
-        let target = fs::canonicalize(runtime, path)?;
-        let beside = hidden_path(runtime, target.as_path(), runtime.alloc())?;
-        self.write(target.as_path(), beside.as_path(), text)
+        let target = fs::canonicalize(self.runtime, path)?;
+        self.write(target.as_path(), text)
     }
 
     fn copy_path<A: Allocator>(&self, alloc: A, path: &str) -> io::Result<Option<String<A>>> {
         let target = fs::canonicalize(self.runtime, path)?;
-        let beside = hidden_path(self.runtime, target.as_path(), alloc)?;
-        if fs::exists(self.runtime, beside.as_path())? {
-            Ok(Some(beside.into_string()))
+        let copy = copy_path(self.runtime, alloc, target.as_path())?;
+        if is_file(self.runtime, copy.as_path())? {
+            Ok(Some(copy.into_string()))
         } else {
             Ok(None)
         }

@@ -4,46 +4,61 @@ ghost use Rattle.gqlfmt_files.specs.Listing.{AreInOrder};
 
 use gqlfmt_files::{Entry, Kind};
 use std::alloc::{AllocError, Allocator};
-use std::fs::{DirEntry, FileType};
-use std::io::{Error, ErrorKind};
+use std::fs::FileType;
+use std::io::{Error, ErrorKind, Read};
 use std::{fs, io, rt};
 
-fn kind_of(found: io::Result<FileType>) -> Kind {
-    match found {
-        Ok(found) if found.is_file() => Kind::File,
-        Ok(found) if found.is_dir() => Kind::Folder,
-        Ok(_) => Kind::Other,
-        Err(error) => Kind::Failed(error),
+fn kind_of(found: FileType) -> Kind {
+    if found.is_file() {
+        Kind::File
+    } else if found.is_dir() {
+        Kind::Folder
+    } else {
+        Kind::Other
     }
 }
 
-// Why a name could not be read.
-fn unreadable(error: Error) -> Error {
-    match error.kind() {
-        ErrorKind::InvalidFilename => Error::new(
-            ErrorKind::InvalidFilename,
-            "a name in it is not UTF-8",
-        ),
-        _ => error,
+/// What is wrong with a name that is not UTF-8. Such a word of the command line has a zero byte at its end, which no path has.
+pub fn not_utf8() -> Error {
+    Error::new(ErrorKind::InvalidFilename, "its name is not UTF-8")
+}
+
+// The names in a folder, each with a zero byte at its end.
+fn names_of<R: rt::Files + Alloc>(runtime: &R, path: &str) -> io::Result<Vec<u8, R::A>> {
+    let path = format!(in runtime.alloc(); "{path}/")?;
+    let mut folder = runtime.open_dir(path.as_str())?;
+    let mut names = Vec::new(runtime.alloc());
+    let mut buffer = [0u8; 4096];
+    for _ in 0..u64::MAX {
+        let count = folder.read(&mut buffer)?;
+        if count == 0 {
+            return Ok(names);
+        }
+        names.extend_from_slice(&buffer[..count])?;
     }
+    Err(Error::from(ErrorKind::OutOfMemory))
 }
 
 // A name in a folder, and what has it. Symbolic links are not followed.
-fn entry_of<R: rt::Files + Drop, B: Allocator, A: Allocator>(
+fn entry_of<R: rt::Files + Alloc, A: Allocator>(
+    runtime: &R,
     alloc: A,
-    found: io::Result<DirEntry<R, B>>,
+    folder: &str,
+    bytes: &[u8],
 ) -> Result<Entry<A>, AllocError> {
-    match found {
-        Ok(found) => {
-            let name = String::from_str(alloc, found.file_name())?;
-            let kind = kind_of(found.file_type());
-            Ok(Entry { name, kind })
-        }
-        Err(error) => Ok(Entry {
-            name: String::new(alloc),
-            kind: Kind::Failed(unreadable(error)),
-        }),
+    let name = String::from_utf8_lossy(alloc, bytes)?;
+    if name.as_bytes() != bytes {
+        return Ok(Entry {
+            name,
+            kind: Kind::Failed(not_utf8()),
+        });
     }
+    let path = format!(in runtime.alloc(); "{folder}/{name}")?;
+    let kind = match fs::symlink_metadata(runtime, path.as_str()) {
+        Ok(metadata) => kind_of(metadata.file_type()),
+        Err(error) => Kind::Failed(error),
+    };
+    Ok(Entry { name, kind })
 }
 
 // Sorts entries by the bytes of their names.
@@ -66,8 +81,11 @@ pub fn entries_of<R: rt::Files + Alloc + Clone + Drop, A: Allocator + Copy>(
         _ => return Ok(None),
     }
     let mut entries = Vec::new(alloc);
-    for found in fs::read_dir(runtime, path)? {
-        entries.push(entry_of(alloc, found)?)?;
+    let names = names_of(runtime, path)?;
+    for name in names.as_slice().split(|byte| *byte == 0) {
+        if !matches!(name, b"" | b"." | b"..") {
+            entries.push(entry_of(runtime, alloc, path, name)?)?;
+        }
     }
     sort(&mut entries);
     Ok(Some(entries))

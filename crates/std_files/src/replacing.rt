@@ -1,16 +1,8 @@
-// Which files are replaced, and the steps: a copy is made, and a text is written over the one of a file.
-use std::alloc::{AllocError, Allocator};
-use std::fs::{Metadata, OpenFile, OpenOptions};
+// Which files are replaced, and the steps: a text is written over the one of a file.
+use std::fs::{File, Metadata, OpenFile, OpenOptions, TryLockError};
 use std::io::{Error, ErrorKind, Read, Seek, Write};
-use std::os::unix::fs::OpenOptionsExt;
-use std::path::{Path, PathBuf};
+use std::path::Path;
 use std::{fs, io, rt};
-
-// How many bytes of a file's name are in the hidden name at most. A name has 255.
-const NAME: usize = 200;
-
-// The permissions of a copy. Whoever makes it can read the file, and others might not.
-const PRIVATE: u32 = 0o600;
 
 /// Whether the file at a path is read. A pipe is refused before it is opened, since that would wait for a writer.
 pub fn readable<R: rt::Files>(runtime: &R, path: Path<'_>) -> io::Result<Metadata> {
@@ -36,69 +28,66 @@ pub fn open_writable<R: rt::Files>(runtime: &R, target: Path<'_>) -> io::Result<
         .open(runtime, target)
 }
 
-/// Makes a new file, which no other user may read.
-pub fn create_private<R: rt::Files>(runtime: &R, path: Path<'_>) -> io::Result<R::File> {
-    let created = OpenOptions::new()
-        .read(true)
-        .write(true)
-        .create_new(true)
-        .mode(PRIVATE)
-        .open(runtime, path);
-    match created {
-        Err(error) if error.kind() == ErrorKind::AlreadyExists => Err(Error::new(
-            ErrorKind::AlreadyExists,
-            "another run is at work, or was cut off",
+/// Whether it is known that no other run is at work on a file: it is an error where one is. The lock ends with this run, however that ends. On a file
+/// system without locks nothing is known.
+pub fn is_alone(file: &File) -> io::Result<bool> {
+    match file.try_lock() {
+        Ok(()) => Ok(true),
+        Err(TryLockError::WouldBlock) => Err(Error::new(
+            ErrorKind::WouldBlock,
+            "another run is at work on it",
         )),
-        created => created,
+        Err(TryLockError::Error(_)) => Ok(false),
     }
 }
 
 // Waits until a file is stored, with the permissions that it had: writing takes the set-user-ID and set-group-ID bits away.
-fn store<F: OpenFile>(file: &F, had: &Metadata) -> io::Result<()> {
+fn store(file: &File, had: &Metadata) -> io::Result<()> {
     if file.metadata()?.permissions() != had.permissions() {
         file.set_permissions(had.permissions())?;
     }
     file.sync_all()
 }
 
-/// Writes a text over a file's, and waits until it is stored.
-pub fn overwrite<F: Write + Seek + OpenFile>(
-    file: &mut F,
-    had: &Metadata,
-    text: &str,
-) -> io::Result<()> {
+// Whether a file has this text.
+fn has(file: &mut File, text: &str) -> io::Result<bool> {
+    let mut left = text.as_bytes();
+    let mut buffer = [0u8; 65536];
+    file.rewind()?;
+    for _ in 0..u64::MAX {
+        let count = file.read(&mut buffer)?;
+        if count == 0 {
+            return Ok(left.is_empty());
+        }
+        if !left.starts_with(&buffer[..count]) {
+            return Ok(false);
+        }
+        left = left.get(count..).unwrap_or_default();
+    }
+    Ok(false)
+}
+
+/// Writes a text over a file's, and waits until it is stored. It gives whether the file has it then: another program may write at the same time. A file that
+/// this shortens or lengthens before the end of the text is left so.
+pub fn overwrite(file: &mut File, had: &Metadata, text: &str) -> io::Result<bool> {
+    let size = text.len() as u64;
     file.rewind()?;
     file.write_all(text.as_bytes())?;
-    file.set_len(text.len() as u64)?;
-    store(file, had)
+    if file.metadata()?.len() != had.len().max(size) {
+        return Ok(false);
+    }
+    if size < had.len() {
+        file.set_len(size)?;
+    }
+    store(file, had)?;
+    has(file, text)
 }
 
 /// Writes the text of a copy over a file's, and waits until it is stored.
-pub fn restore<F: Read + Write + Seek + OpenFile>(
-    file: &mut F,
-    had: &Metadata,
-    copy: &mut F,
-) -> io::Result<()> {
+pub fn restore(file: &mut File, had: &Metadata, copy: &mut File) -> io::Result<()> {
     file.rewind()?;
     copy.rewind()?;
     let size = io::copy(copy, file)?;
     file.set_len(size)?;
     store(file, had)
-}
-
-// The name of the copy of a file: it is hidden, and beside it.
-fn hidden_name<A: Allocator>(alloc: A, target: Path<'_>) -> Result<String<A>, AllocError> {
-    let name = target.file_name().unwrap_or("");
-    let front = name.get(..name.floor_char_boundary(NAME)).unwrap_or("");
-    format!(in alloc; ".{front}.gqlfmt")
-}
-
-/// The path of that copy, in memory of the allocator's.
-pub fn hidden_path<R: rt::Files + Alloc, A: Allocator>(
-    runtime: &R,
-    target: Path<'_>,
-    alloc: A,
-) -> Result<PathBuf<A>, AllocError> {
-    let name = hidden_name(runtime.alloc(), target)?;
-    target.with_file_name(alloc, name.as_str())
 }
