@@ -2,7 +2,7 @@
 
 import re
 
-from graphql import Lexer, Source, TokenKind
+from graphql import Lexer, Source, TokenKind, parse
 
 KEYWORDS = ["type", "query", "mutation", "subscription", "fragment", "on", "input", "enum", "union", "scalar", "schema", "extend", "interface", "implements",
             "directive", "repeatable", "true", "false", "null"]
@@ -189,9 +189,24 @@ def tokens_of(text):
     return found[::-1]
 
 
+def optional_signs(text):
+    """Where the optional signs before a first member begin."""
+    found = set()
+    for node in parse(text).definitions:
+        for members in ("types", "interfaces", "locations"):
+            if first := next(iter(getattr(node, members, None) or ()), None):
+                token = first.loc.start_token.prev
+                while token.kind is TokenKind.COMMENT:
+                    token = token.prev
+                found |= {token.start} if token.kind in (TokenKind.PIPE, TokenKind.AMP) else set()
+    return found
+
+
 def meaning(text):
-    """All that has to stay: of each token its text, and of a block string its value."""
-    return [(it.kind, it.value if it.kind is TokenKind.BLOCK_STRING else text[it.start : it.end]) for it in tokens_of(text)]
+    """All that has to stay: of each token but the optional signs its text, and of a block string its value."""
+    gone = optional_signs(text)
+    words = ((it, it.value if it.kind is TokenKind.BLOCK_STRING else text[it.start : it.end]) for it in tokens_of(text))
+    return [(it.kind, word) for it, word in words if it.start not in gone]
 
 
 def shaken(text, random):

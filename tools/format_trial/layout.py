@@ -1,7 +1,7 @@
 """The rules of docs/FORMAT.md once more, for texts without comments: a printer of groups over graphql-core's tree. The trial compares gqlfmt with it.
 
 A document of the printer is a string, a list of documents, or a tuple: ("line", flat, count) is the text `flat`, or `count` line ends where the group
-around it breaks or `flat` is None; ("indent", document); ("group", document, breaks)."""
+around it breaks or `flat` is None; ("broken", text) is a text where the group around it breaks; ("indent", document); ("group", document, breaks)."""
 
 import re
 import unicodedata
@@ -28,6 +28,8 @@ def ends_line(doc):
         return False
     if isinstance(doc, list):
         return any(map(ends_line, doc))
+    if doc[0] == "broken":
+        return False
     return doc[1] is None if doc[0] == "line" else ends_line(doc[1]) if doc[0] == "indent" else doc[2]
 
 
@@ -48,6 +50,8 @@ def fits(doc, rest, width):
             width -= columns(doc)
         elif isinstance(doc, list):
             todo += [(is_broken, part) for part in reversed(doc)]
+        elif doc[0] == "broken":
+            width -= columns(doc[1]) if is_broken else 0
         elif doc[0] == "line":
             if is_broken or doc[1] is None:
                 return True
@@ -64,6 +68,8 @@ def printed(doc):
         spaces, is_broken, doc = todo.pop()
         if isinstance(doc, list):
             todo += [(spaces, is_broken, part) for part in reversed(doc)]
+        elif not isinstance(doc, str) and doc[0] == "broken":
+            todo += [(spaces, is_broken, doc[1])] if is_broken else []
         elif not isinstance(doc, str) and doc[0] == "indent":
             todo.append((spaces + 2, is_broken, doc[1]))
         elif not isinstance(doc, str) and doc[0] == "group":
@@ -117,11 +123,10 @@ class Layout:
         parts = [part for it in node.directives or () for part in (line(), self.of(it))]
         return group(indent(*parts)) if parts else ""
 
-    def signed(self, lead, nodes, token):
-        """Members after a word, the first of which is the token or a sign."""
+    def members(self, nodes):
+        """The members of a union: in one line without a first sign, or a line for each with its sign."""
         more = [part for it in nodes[1:] for part in (line(), "| ", self.of(it))]
-        first = [line(), "| "] if self.begins(token, "|") else " "
-        return group(lead, indent(first, self.of(nodes[0]), *more))
+        return group(" =", indent(line(), ("broken", "| "), self.of(nodes[0]), *more)) if nodes else ""
 
     def described(self, node):
         return [self.of(node.description), HARD] if getattr(node, "description", None) else []
@@ -132,8 +137,9 @@ class Layout:
     def interfaces(self, node):
         if not node.interfaces:
             return []
-        before = node.interfaces[0].loc.start_token.prev
-        return [" implements ", "& " if self.begins(before, "&") else "", self.joined(node.interfaces, lambda left, right: " & ")]
+        # after a type of this name the sign stays
+        stays = node.name.value == "implements" and self.begins(node.interfaces[0].loc.start_token.prev, "&")
+        return [" implements ", "& " if stays else "", " & ".join(map(self.of, node.interfaces))]
 
     def document(self, node):
         def between(left, right):
@@ -238,8 +244,7 @@ class Layout:
         return self.object_type_definition(node, "interface")
 
     def union_type_definition(self, node):
-        members = self.signed(" =", node.types, self.first_of(node.types)) if node.types else ""
-        return self.typed("union", node, self.directives(node), members)
+        return self.typed("union", node, self.directives(node), self.members(node.types))
 
     def enum_type_definition(self, node):
         return self.typed("enum", node, self.directives(node), self.block(node.values))
@@ -259,11 +264,7 @@ class Layout:
 
     def directive_definition(self, node):
         head = ["directive @", self.of(node.name), self.arguments(node.arguments), " repeatable" if node.repeatable else ""]
-        return [*self.described(node), head, self.signed(" on", node.locations, self.first_of(node.locations))]
-
-    def first_of(self, nodes):
-        """The token before the first of some nodes."""
-        return nodes[0].loc.start_token.prev
+        return [*self.described(node), head, " on ", " | ".join(map(self.of, node.locations))]
 
     def extended(word):
         return lambda self, node: ["extend ", getattr(self, word)(node)]

@@ -1,6 +1,5 @@
 -- One more token written, or a block string with the same value.
 use Rattle.std.proofs.Common.{◌≡◌, ℕ, inl, inr, true, List, [], ◌∷◌, ◌++◌, refl, sym, ap, subst}
-use Rattle.lexical_grammar.specs.declared.TokenKind.{TokenKind}
 use Rattle.lexical_grammar.specs.declared.TokenKind.TheVariants.{StringValue}
 use Rattle.lexical_grammar.specs.declared.edge.Edge.{Edge}
 use Rattle.lexical_grammar.specs.Cut.{Word}
@@ -9,7 +8,7 @@ use Rattle.format_layout.specs.Laid.{Laid, Keeps, Adds}
 use Rattle.format_layout.specs.Respelled.{SameBlock, SameWord, AreSameWords}
 use Rattle.format_layout.specs.Written.{LaidSame, AddsSame}
 
-kept-alone : (word : Word) → is_kept_kind word.kind ≡ true → kept_word word ≡ word ∷ []
+pub kept-alone : (word : Word) → is_kept_kind word.kind ≡ true → kept_word word ≡ word ∷ []
 kept-alone word h = rw h refl
 
 same-more : (xs ys : List Word) (a b : Word) → AreSameWords xs ys → SameWord a b → AreSameWords (xs ++ a ∷ []) (ys ++ b ∷ [])
@@ -40,10 +39,6 @@ pub keeps-same : (text more : List ℕ) (edge next : Edge) (words : List Word) �
 keeps-same text more edge next words k l = record { others = l.others; same = l.same; laid = k l.others l.laid }
 
 -- a gap and a token
-pub adds-after : (text middle more : List ℕ) (edge between next : Edge) (kind other : TokenKind) (word spelled : List ℕ) → other ≡ kind → spelled ≡ word
-    → Keeps text edge middle between
-    → AddsSame middle between (record { kind = other; text = spelled }) more next → AddsSame text edge (record { kind = kind; text = word }) more next
-adds-after text middle more edge between next kind other word spelled k e gap a =
-    subst (λ (j : TokenKind). AddsSame text edge (record { kind = j; text = word }) more next) k
-    (subst (λ (w : List ℕ). AddsSame text edge (record { kind = other; text = w }) more next) e
-    (λ words l. a words (keeps-same text middle edge between words gap l)))
+pub adds-after : (text middle more : List ℕ) (edge between next : Edge) (word : Word) → Keeps text edge middle between → AddsSame middle between word more next
+    → AddsSame text edge word more next
+adds-after text middle more edge between next word gap a words l = a words (keeps-same text middle edge between words gap l)

@@ -7,7 +7,7 @@ use Rattle.lexical_grammar.specs.declared.edge.Edge.TheVariants.{Comment}
 use Rattle.format_layout.specs.Laid.{ended_length}
 
 -- for each byte of a token, the token takes no more than there is for it
-pub own-room : (indent bytes : ℕ) → 0 < bytes → bytes + indent + 5 ≤ (indent + 6) * bytes
+pub own-room : (indent bytes : ℕ) → 0 < bytes → bytes + indent + 9 ≤ (indent + 10) * bytes
 own-room indent zero some = absurd (omega arith)
 own-room indent (suc bytes) some = grind arith
 

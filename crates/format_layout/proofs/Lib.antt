@@ -11,3 +11,12 @@ pub mod Tokens
 pub mod Blanks
 pub mod Written
 pub mod Blocks
+pub mod Steps
+pub mod Rows
+pub mod Plain
+pub mod Guards
+pub mod Stays
+pub mod Members
+pub mod Resigned
+pub mod Unsigned
+pub mod Choosing

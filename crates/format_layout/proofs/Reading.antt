@@ -9,7 +9,10 @@ use Rattle.lexical_grammar.specs.Cut.{Item, Word}
 use Rattle.lexical_grammar.specs.Kept.{Holds, kept_item, kept_word, Kept}
 use Rattle.format_layout.specs.Laid.{Keeps, Laid}
 use Rattle.format_layout.specs.Respelled.{AreSameWords}
-use Rattle.format_layout.specs.Written.{HoldsSame, LaidSame, AddsSame}
+use Rattle.format_layout.specs.declared.lead.Lead.{Lead}
+use Rattle.format_layout.specs.declared.lead.Lead.TheVariants.{Other}
+use Rattle.format_layout.specs.Chosen.{AreAllowed, chosen, pipe_word}
+use Rattle.format_layout.specs.Written.{HoldsChosen, LaidChosen, AddsChosen}
 
 -- the significant tokens and the comments among a lexer's answers
 abbrev kept_answer : Answer → List Word
@@ -28,35 +31,38 @@ kept-limited zero (item ∷ items) le = absurd (omega arith)
 kept-limited (suc allowed) (item ∷ items) le = ap (λ l. kept_item item.kind item.text ++ l) (kept-limited allowed items (omega arith))
 
 -- What was written, and what is left to be written, are all words.
-pub record Writes (text : List ℕ) (edge : Edge) (left all : List Word) : Type 0 where
+pub record Writes (text : List ℕ) (edge : Edge) (lead : Lead) (left all : List Word) : Type 0 where
   pub words : List Word
-  pub laid : LaidSame text edge words
+  pub laid : LaidChosen text edge lead words
   pub same : words ++ left ≡ all
 
 -- nothing was written
 pub writes-begin : (text : List ℕ) (edge : Edge) (answers : List Answer) (allowed : ℕ) (items : List Item) → Laid text edge [] → answers ≡ limited allowed items
     → length items ≤ allowed
-    → Writes text edge (kept_answers answers) (Kept items)
+    → Writes text edge Other (kept_answers answers) (Kept items)
 writes-begin text edge answers allowed items l e le = record {
   words = [];
-  laid = record { others = []; same = tt; laid = l };
+  laid = record { choices = []; allowed = refl; laid = record { others = []; same = tt; laid = l } };
   same = ap kept_answers e ∙ kept-limited allowed items le;
 }
 
 -- a token is one more
-pub writes-token : (text more : List ℕ) (edge next : Edge) (kind : TokenKind) (word : List ℕ) (index : ℕ) (old rest : List Answer) (all : List Word)
-    → old ≡ gives (record { kind = Some kind; text = word; index = index }) ∷ rest → AddsSame text edge (record { kind = kind; text = word }) more next
-    → Writes text edge (kept_answers old) all → Writes more next (kept_answers rest) all
-writes-token text more edge next kind word index old rest all e a w = record {
+pub writes-token : (text more : List ℕ) (edge next : Edge) (lead last : Lead) (kind : TokenKind) (word : List ℕ) (index : ℕ) (old rest : List Answer)
+    (all : List Word)
+    → old ≡ gives (record { kind = Some kind; text = word; index = index }) ∷ rest
+    → AddsChosen text edge lead (record { kind = kind; text = word }) more next last
+    → Writes text edge lead (kept_answers old) all → Writes more next last (kept_answers rest) all
+writes-token text more edge next lead last kind word index old rest all e a w = record {
   words = w.words ++ kept_word (record { kind = kind; text = word });
   laid = a w.words w.laid;
   same = append_assoc w.words (kept_word (record { kind = kind; text = word })) (kept_answers rest) ∙ ap (λ l. w.words ++ kept_answers l) (sym e) ∙ w.same;
 }
 
 -- an answer that is no token is passed over
-pub writes-on : (text : List ℕ) (edge : Edge) (answer : Answer) (old rest : List Answer) (all : List Word) → old ≡ answer ∷ rest → kept_answer answer ≡ []
-    → Writes text edge (kept_answers old) all → Writes text edge (kept_answers rest) all
-writes-on text edge answer old rest all e none w = record {
+pub writes-on : (text : List ℕ) (edge : Edge) (lead : Lead) (answer : Answer) (old rest : List Answer) (all : List Word) → old ≡ answer ∷ rest
+    → kept_answer answer ≡ []
+    → Writes text edge lead (kept_answers old) all → Writes text edge lead (kept_answers rest) all
+writes-on text edge lead answer old rest all e none w = record {
   words = w.words;
   laid = w.laid;
   same = ap (λ l. w.words ++ (l ++ kept_answers rest)) (sym none) ∙ ap (λ l. w.words ++ kept_answers l) (sym e) ∙ w.same;
@@ -68,15 +74,21 @@ no-word true text index = refl
 no-word false text index = refl
 
 -- no answer is left
-pub writes-end : (text more result : List ℕ) (edge next : Edge) (left : List Answer) (all : List Word) → left ≡ []
-    → Writes text edge (kept_answers left) all → Keeps text edge more next → ((words : List Word) → Laid more next words → Holds result words)
-    → HoldsSame result all
-writes-end text more result edge next left all none w keeps holds =
+pub writes-end : (text more result : List ℕ) (edge next : Edge) (lead : Lead) (left : List Answer) (all : List Word) → left ≡ []
+    → Writes text edge lead (kept_answers left) all → Keeps text edge more next → ((words : List Word) → Laid more next words → Holds result words)
+    → HoldsChosen result all
+writes-end text more result edge next lead left all none w keeps holds =
     let words : w.words ≡ all = sym (append-nil w.words) ∙ ap (λ l. w.words ++ kept_answers l) (sym none) ∙ w.same in
+    let laid = w.laid.laid in
     record {
-      others = w.laid.others;
-      same = subst (λ l. AreSameWords l w.laid.others) words w.laid.same;
-      holds = holds w.laid.others (keeps w.laid.others w.laid.laid);
+      choices = w.laid.choices;
+      lead = lead;
+      allowed = subst (λ l. AreAllowed Other w.laid.choices l lead) words w.laid.allowed;
+      holds = record {
+        others = laid.others;
+        same = subst (λ l. AreSameWords (chosen pipe_word w.laid.choices l) laid.others) words laid.same;
+        holds = holds laid.others (keeps laid.others laid.laid);
+      };
     }
 
 -- its text is one of its kind

@@ -5,7 +5,7 @@ use Rattle.lexical_grammar.specs.declared.TokenKind.{TokenKind}
 use Rattle.lexical_grammar.specs.declared.TokenKind.TheVariants.{StringValue}
 use Rattle.lexical_grammar.specs.Cut.{Item, Word, Cut, Significant, significant_word, are_tokens}
 use Rattle.document_grammar.specs.Tree.{Token, Tree}
-use Rattle.document_grammar.specs.Derivation.{Yield, document}
+use Rattle.document_grammar.specs.Derivation.{Derivation, Yield, document}
 use Rattle.document_grammar.specs.Sentence.{Sentence, token_of, leaf_number}
 use Rattle.document_grammar.proofs.Texts.{one-cut}
 use Rattle.lexical_grammar.specs.Kept.{Kept}
@@ -36,7 +36,7 @@ word-same a b s = elim s [
       (subst (λ l. AreSameWords (a ∷ []) l) (sym (string-word b.kind b.text d.1)) (inr d, tt))
 ]
 
-significant-same : (xs ys : List Word) → AreSameWords xs ys → AreSameWords (significant xs) (significant ys)
+pub significant-same : (xs ys : List Word) → AreSameWords xs ys → AreSameWords (significant xs) (significant ys)
 significant-same [] [] s = tt
 significant-same [] (y ∷ ys) s = absurd s
 significant-same (x ∷ xs) [] s = absurd s
@@ -49,7 +49,7 @@ token-same a b s = elim s [
   | inr d ↦ inr (ap leaf_number d.0, ap leaf_number d.1, d.2)
 ]
 
-tokens-same : (xs ys : List Word) → AreSameWords xs ys → AreSame (map token_of xs) (map token_of ys)
+pub tokens-same : (xs ys : List Word) → AreSameWords xs ys → AreSame (map token_of xs) (map token_of ys)
 tokens-same [] [] s = tt
 tokens-same [] (y ∷ ys) s = absurd s
 tokens-same (x ∷ xs) [] s = absurd s
@@ -59,6 +59,23 @@ none-left : (left : List Token) → AreSame [] left → left ≡ []
 none-left [] s = refl
 none-left (b ∷ bs) s = absurd s
 
+-- a derivation that spells tokens which are the same but for block strings
+pub respelled-tokens : (text : List ℕ) (others : List Item) (t : Tree) → Derivation t document → Cut text others → are_tokens others ≡ true
+    → AreSame (Yield t) (map token_of (Significant others)) → Respelled text t
+respelled-tokens text others t derivation d k s =
+    let r = relabel t [] (map token_of (Significant others)) (subst (λ l. AreSame l (map token_of (Significant others))) (sym (append-nil (Yield t))) s) in
+    record {
+      tree = r.tree;
+      alike = r.alike;
+      sentence = record {
+        items = others;
+        cut = d;
+        tokens = k;
+        derivation = alike-derivation t r.tree r.alike derivation;
+        yield = sym (append-nil (Yield r.tree)) ∙ ap (λ l. Yield r.tree ++ l) (sym (none-left r.left r.same)) ∙ sym r.spells;
+      };
+    }
+
 pub respelled : (source text : List ℕ) (items others : List Item) (t : Tree) → Cut source items → are_tokens items ≡ true → Cut text others
     → are_tokens others ≡ true
     → AreSameWords (Kept items) (Kept others) → Sentence source t document → Respelled text t
@@ -67,17 +84,6 @@ respelled source text items others t c h d k s sentence =
     let words : AreSameWords (Significant items) (Significant others) =
     subst (λ l. AreSameWords l (Significant others)) (significant-kept items)
     (subst (λ l. AreSameWords (significant (Kept items)) l) (significant-kept others) (significant-same (Kept items) (Kept others) s)) in
-    let yield : Yield t ++ [] ≡ map token_of (Significant items) = append-nil (Yield t) ∙ sentence.yield ∙ ap (λ l. map token_of (Significant l)) (sym cuts) in
-    let r = relabel t [] (map token_of (Significant others)) (subst (λ l. AreSame l (map token_of (Significant others))) (sym yield)
-    (tokens-same (Significant items) (Significant others) words)) in
-    record {
-      tree = r.tree;
-      alike = r.alike;
-      sentence = record {
-        items = others;
-        cut = d;
-        tokens = k;
-        derivation = alike-derivation t r.tree r.alike sentence.derivation;
-        yield = sym (append-nil (Yield r.tree)) ∙ ap (λ l. Yield r.tree ++ l) (sym (none-left r.left r.same)) ∙ sym r.spells;
-      };
-    }
+    let yield : Yield t ≡ map token_of (Significant items) = sentence.yield ∙ ap (λ l. map token_of (Significant l)) (sym cuts) in
+    respelled-tokens text others t sentence.derivation d k
+    (subst (λ l. AreSame l (map token_of (Significant others))) (sym yield) (tokens-same (Significant items) (Significant others) words))

@@ -1,12 +1,12 @@
 -- What a formatted text has in common with its source.
-use Rattle.std.specs.Prelude.{◌≡◌, ℕ, ◌≤◌, true, List}
+use Rattle.std.specs.Prelude.{ℕ, ◌≤◌, List}
 use Rattle.lexical_grammar.specs.Answers.{usize_max}
-use Rattle.lexical_grammar.specs.Cut.{Item, Cut, are_tokens}
 use Rattle.lexical_grammar.specs.Kept.{Kept}
 use Rattle.document_grammar.specs.Tree.{Tree}
 use Rattle.document_grammar.specs.Derivation.{document}
 use Rattle.document_grammar.specs.Sentence.{Sentence, Within}
-use Rattle.format_layout.specs.Respelled.{AreSameWords, Respelled}
+use Rattle.format_layout.specs.Respelled.{Alike, AreSameWords}
+use Rattle.format_layout.specs.Signs.{signs, unsigned, without_marked}
 
 -- The text is a document, of no more items than a number of the target counts.
 pub record IsSentence (source : List ℕ) : Type 0 where
@@ -14,19 +14,15 @@ pub record IsSentence (source : List ℕ) : Type 0 where
   pub sentence : Sentence source tree document
   pub within : (r : ℕ) × (k : ℕ) × (k ≤ usize_max) × Within source tree r k
 
--- Both texts have a cut without bad text. The significant tokens and the comments of the cuts, in one list, are the same, but that block strings
--- may be others with the same values.
-pub record SameWords (source text : List ℕ) : Type 0 where
-  pub items : List Item
-  pub cut : Cut source items
-  pub tokens : are_tokens items ≡ true
-  pub others : List Item
-  pub other_cut : Cut text others
-  pub other_tokens : are_tokens others ≡ true
-  pub same : AreSameWords (Kept items) (Kept others)
+-- The text is a document. Two things may differ: the optional sign before a first member may come or go, and block strings may have other texts with the
+-- same values. But for these the text has the source's derivation, and the source's significant tokens and comments in one list: so each comment is between
+-- the same two tokens.
+pub record HasLayoutOf (source : List ℕ) (t : Tree) (own : Sentence source t document) (text : List ℕ) : Type 0 where
+  pub tree : Tree
+  pub sentence : Sentence text tree document
+  pub alike : Alike (unsigned t) (unsigned tree)
+  pub words : AreSameWords (without_marked (signs t) (Kept own.items)) (without_marked (signs tree) (Kept sentence.items))
 
--- The text has the tokens and comments of its source, so each comment is between the same two tokens, and it is a document with the same derivation,
--- but for the spelling of block strings.
+-- It is so of the source's derivation.
 pub record Formatted (source text : List ℕ) : Type 0 where
-  pub words : SameWords source text
-  pub sentence : (t : Tree) → Sentence source t document → Respelled text t
+  pub layout : (t : Tree) → (own : Sentence source t document) → HasLayoutOf source t own text

@@ -7,9 +7,10 @@ abbrev pub deepest_indent : ℕ → ℕ
 deepest_indent recursion = min (2 * (recursion + 16)) 65535
 
 -- The most bytes that are written for each byte of the source, where a line begins with at most this many spaces: the byte, and if it is the first one of a
--- token, a comma, two line feeds and the spaces before it, a space that keeps it from the token before, and the line feed behind a comment.
+-- token, a comma, two line feeds and the spaces before it, a sign and a space that come before it, spaces that keep both from the token before, and the line
+-- feed behind a comment.
 abbrev pub bytes_for_each : ℕ → ℕ
-bytes_for_each indent = indent + 6
+bytes_for_each indent = indent + 10
 
 -- The most bytes that a formatted text can have, where its source nests at most this deep and has this many bytes: those for each of them, and a line feed
 -- at the end.

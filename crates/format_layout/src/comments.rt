@@ -134,7 +134,10 @@ impl CommentState {
 
     /// The slot before a child of a node that is no comment, after a comment: a line ends there, and a construct goes on in a line of its own.
     pub fn slot_after_comment(parent: &Frame, child: SyntaxKind, slot: Slot) -> Slot {
-        if slot.separator.is_line() || slot.separator.is_soft() {
+        if slot.separator.is_line()
+            || slot.separator.is_soft()
+            || matches!(slot.separator, Separator::NoSign)
+        {
             return slot;
         }
         if parent.inside.has_brackets() {

@@ -30,11 +30,37 @@ pub struct Gaps<A: Allocator> {
     broken_count: u16,
 }
 
+/// What becomes of the optional sign before a first member.
+#[derive(Clone, Copy)]
+pub enum SignAdvice {
+    /// The token is written, and nothing else.
+    Stays,
+    /// The token is such a sign, and is left out.
+    LeftOut,
+    /// The token is the first member, and a sign is put in before it.
+    PutIn,
+}
+
+impl SignAdvice {
+    // What it is after a gap that was made of a separator.
+    #[inline(always)]
+    fn of(separator: Separator, gap: Gap) -> SignAdvice {
+        match separator {
+            Separator::NoSign => SignAdvice::LeftOut,
+            Separator::FirstSign if gap.lines == 0 => SignAdvice::LeftOut,
+            Separator::FirstMember if gap.lines > 0 => SignAdvice::PutIn,
+            _ => SignAdvice::Stays,
+        }
+    }
+}
+
 /// The advice for a token: what is between it and the one before it.
 #[derive(Clone, Copy)]
 pub struct Advice {
     /// What is there.
     pub gap: Gap,
+    /// Whether a sign comes or goes.
+    pub sign: SignAdvice,
     /// Whether the token stays letter by letter.
     pub is_written: bool,
 }
@@ -166,6 +192,7 @@ impl<A: Allocator + Copy> Gaps<A> {
         let Some(slot) = self.slots.get(self.next).copied() else {
             return Ok(Advice {
                 gap: Gap::SPACE,
+                sign: SignAdvice::Stays,
                 is_written: false,
             });
         };
@@ -180,6 +207,7 @@ impl<A: Allocator + Copy> Gaps<A> {
         };
         Ok(Advice {
             gap,
+            sign: SignAdvice::of(slot.separator, gap),
             is_written: matches!(slot.part, Part::Written),
         })
     }

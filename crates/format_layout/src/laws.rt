@@ -7,6 +7,7 @@ ghost use Rattle.document_grammar.specs.Tree.{Tree};
 ghost use Rattle.document_grammar.specs.Derivation.{document, nest};
 ghost use Rattle.document_grammar.specs.Sentence.{Sentence};
 ghost use Rattle.format_layout.specs.Respelled.{Alike, AreSameWords, Respelled};
+ghost use Rattle.format_layout.specs.Signs.{unsigned};
 
 /// A text that has the tokens and comments of a sentence, but that block strings may be others with the same values, is a sentence. Its
 /// derivation is the first one's but for these strings.
@@ -15,7 +16,7 @@ pub fn respelled()
         → AreSameWords (Kept items) (Kept others) → Sentence source t document → Respelled text t }
 {}
 
-/// The spelling of block strings changes no nesting.
+/// Neither the spelling of block strings nor an optional sign before a first member changes the nesting.
 pub fn same_nesting()
-    ensures { (t u : Tree) → Alike t u → nest u ≡ nest t }
+    ensures { (t u : Tree) → Alike (unsigned t) (unsigned u) → nest u ≡ nest t }
 {}

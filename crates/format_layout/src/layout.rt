@@ -96,6 +96,14 @@ impl<A: Allocator> Layout<A> {
         Ok(())
     }
 
+    /// Writes a space. It fails only where memory is refused.
+    pub fn space(&mut self) -> Result<(), AllocError>
+        ensures keeps { OnOk result (Keeps (string_bytes self.old.text) self.old.edge (string_bytes self.new.text) self.new.edge) }
+        ensures short { OnOk result (ended_length (string_bytes self.new.text) self.new.edge ≤ ended_length (string_bytes self.old.text) self.old.edge + 1) }
+    {
+        self.blanks(" ")
+    }
+
     // So many spaces.
     #[inline(always)]
     fn spaces(&mut self, count: usize) -> Result<(), AllocError>

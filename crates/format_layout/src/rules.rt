@@ -13,7 +13,7 @@ pub enum Inside {
     Values,
     /// Directives, in one line or with a line each.
     Directives,
-    /// The members of a union or the locations of a directive, in one line or with a line each.
+    /// The members of a union, in one line or with a line each.
     Members,
     /// Between braces, with a line for each of them.
     Braces,
@@ -38,7 +38,7 @@ impl Inside {
             | SyntaxKind::OBJECT_VALUE => Inside::Entries,
             SyntaxKind::LIST_VALUE => Inside::Values,
             SyntaxKind::DIRECTIVES => Inside::Directives,
-            SyntaxKind::UNION_MEMBER_TYPES | SyntaxKind::DIRECTIVE_LOCATIONS => Inside::Members,
+            SyntaxKind::UNION_MEMBER_TYPES => Inside::Members,
             SyntaxKind::SCHEMA_DEFINITION | SyntaxKind::SCHEMA_EXTENSION => Inside::Schema,
             SyntaxKind::DOCUMENT => Inside::Document,
             _ => Inside::Construct,
@@ -152,6 +152,17 @@ fn in_brackets(parent: SyntaxKind, left: SyntaxKind, right: SyntaxKind) -> Separ
     }
 }
 
+// What is between two neighbours in the members of a union, or between the equals sign and its neighbour.
+#[inline(always)]
+fn in_members(left: SyntaxKind, right: SyntaxKind) -> Separator {
+    match (left, right) {
+        (SyntaxKind::EQ, SyntaxKind::PIPE) => Separator::FirstSign,
+        (SyntaxKind::EQ, _) => Separator::FirstMember,
+        (_, SyntaxKind::PIPE) => Separator::SoftSpace,
+        _ => Separator::Space,
+    }
+}
+
 /// What is between two neighbours below a node of this kind.
 #[inline(always)]
 pub fn between(
@@ -164,11 +175,11 @@ pub fn between(
         Inside::Document => Separator::Line,
         Inside::Entries | Inside::Values => in_brackets(parent, left, right),
         Inside::Directives => Separator::SoftSpace,
-        Inside::Members if right == SyntaxKind::PIPE => Separator::SoftSpace,
-        Inside::Members => Separator::Space,
+        Inside::Members => in_members(left, right),
         _ if left == SyntaxKind::DESCRIPTION || is_in_braces(inside, left) => Separator::Line,
         _ if is_tight(parent, left, right) => Separator::Nothing,
         _ if right == SyntaxKind::DIRECTIVES => Separator::SoftSpace,
+        _ if left == SyntaxKind::implements_KW && right == SyntaxKind::AMP => Separator::NoSign,
         _ => Separator::Space,
     }
 }

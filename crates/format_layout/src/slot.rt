@@ -22,6 +22,12 @@ pub enum Separator {
     Comma,
     /// A comma and a space, or the end of a line and an empty line where the group breaks.
     BlankComma,
+    /// A sign before the first member of a union, which is left out. Where the group breaks, it stays after the end of a line.
+    FirstSign,
+    /// A space before the first member of a union, which has no sign. Where the group breaks, the end of a line and a sign.
+    FirstMember,
+    /// A sign before the first interface or location, which is left out.
+    NoSign,
     /// The end of a line.
     Line,
     /// The end of a line, and an empty line.
@@ -55,7 +61,12 @@ impl Separator {
     pub fn is_soft(self) -> bool {
         matches!(
             self,
-            Separator::SoftNothing | Separator::SoftSpace | Separator::Comma | Separator::BlankComma
+            Separator::SoftNothing
+                | Separator::SoftSpace
+                | Separator::Comma
+                | Separator::BlankComma
+                | Separator::FirstSign
+                | Separator::FirstMember
         )
     }
 
@@ -64,7 +75,7 @@ impl Separator {
     pub fn width(self) -> usize {
         match self {
             Separator::Comma | Separator::BlankComma => 2,
-            Separator::Space | Separator::SoftSpace => 1,
+            Separator::Space | Separator::SoftSpace | Separator::FirstMember => 1,
             _ => 0,
         }
     }
@@ -73,8 +84,12 @@ impl Separator {
     #[inline(always)]
     pub fn flat(self, level: u16) -> Gap {
         match self {
-            Separator::Nothing | Separator::SoftNothing | Separator::Written => Gap::NONE,
-            Separator::Space | Separator::SoftSpace => Gap::SPACE,
+            Separator::Nothing
+            | Separator::SoftNothing
+            | Separator::FirstSign
+            | Separator::Written => Gap::NONE,
+            Separator::Space | Separator::SoftSpace | Separator::FirstMember | Separator::NoSign =>
+                Gap::SPACE,
             Separator::Comma | Separator::BlankComma => Gap {
                 comma: true,
                 ..Gap::SPACE
@@ -92,9 +107,13 @@ impl Separator {
     {
         match self {
             Separator::Nothing | Separator::Written => Gap::NONE,
-            Separator::Space => Gap::SPACE,
-            Separator::SoftNothing | Separator::SoftSpace | Separator::Comma | Separator::Line =>
-                line(1, level),
+            Separator::Space | Separator::NoSign => Gap::SPACE,
+            Separator::SoftNothing
+            | Separator::SoftSpace
+            | Separator::Comma
+            | Separator::FirstSign
+            | Separator::FirstMember
+            | Separator::Line => line(1, level),
             Separator::BlankComma | Separator::BlankLine => line(2, level),
         }
     }

@@ -204,18 +204,10 @@ impl<'t, A: Allocator + Copy> Walk<'t, A> {
         self.comments.line_ends(self.source, self.here)
     }
 
-    // Whether the locations of a directive begin here with a sign.
-    fn begins_with_sign(&self) -> bool {
-        self.source.as_bytes().get(self.here).copied() == Some(b'|')
-    }
-
     // What separates a child, which is no comment, from the text before it.
     #[inline(always)]
     fn separator(&self, parent: &Frame, child: SyntaxKind) -> Separator {
         let separator = match parent.previous {
-            Some(_) if child == SyntaxKind::DIRECTIVE_LOCATIONS && self.begins_with_sign() => {
-                Separator::SoftSpace
-            }
             Some(left) => between(parent.inside, parent.kind, left, child),
             None if self.slots.is_empty() => Separator::Nothing,
             None => Separator::Line,
@@ -300,6 +292,12 @@ impl<'t, A: Allocator + Copy> Walk<'t, A> {
         if parent.inside.has_brackets() {
             self.bracket(kind);
         }
+        if self.is_left_out(kind, parent) {
+            // a comment before it is before the next token
+            self.is_pending = false;
+            parent.previous = Some(kind);
+            return Ok(());
+        }
         if self.is_counting() {
             self.uncounted = match kind {
                 SyntaxKind::STRING_VALUE | SyntaxKind::DESCRIPTION => Uncounted::String,
@@ -311,6 +309,21 @@ impl<'t, A: Allocator + Copy> Walk<'t, A> {
         self.comments.meet_token();
         parent.previous = Some(kind);
         Ok(())
+    }
+
+    // Whether the token, which has the last slot, is left out: a sign before the first interface or location.
+    #[inline(always)]
+    fn is_left_out(&mut self, kind: SyntaxKind, parent: &Frame) -> bool {
+        if kind != SyntaxKind::PIPE && kind != SyntaxKind::AMP {
+            return false;
+        }
+        let Some(slot) = self.slots.last_mut() else {
+            return false;
+        };
+        if parent.kind == SyntaxKind::DIRECTIVE_LOCATIONS && parent.previous.is_none() {
+            slot.separator = Separator::NoSign;
+        }
+        matches!(slot.separator, Separator::NoSign)
     }
 
     // A token of a group between brackets: notes a bracket.

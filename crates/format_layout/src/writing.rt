@@ -9,13 +9,16 @@ ghost use Rattle.format_layout.specs.Respelled.{SameBlock};
 ghost use Rattle.format_layout.specs.declared.style.WriteError.TheVariants.{Memory, TooLong};
 ghost use Rattle.format_layout.specs.Formatted.{Formatted, IsSentence};
 ghost use Rattle.format_layout.specs.Lengths.{bytes_for_each, deepest_indent, longest_layout};
-ghost use Rattle.format_layout.specs.Written.{AddsSame, HoldsSame};
+ghost use Rattle.format_layout.specs.Written.{AddsChosen, AddsSame, AddsSigned, HoldsChosen};
+ghost use Rattle.format_layout.specs.Chosen.{pipe_word};
+ghost use Rattle.format_layout.specs.Leads.{lead_after};
 
 use crate::block_text::Indented;
 use crate::gap::Gap;
-use crate::gaps::{Gaps, column_after};
+use crate::gaps::{Advice, Gaps, SignAdvice, column_after};
 use crate::kept::is_kept;
 use crate::layout::Layout;
+use crate::lead::Lead;
 use crate::size::{QUOTES, columns, has_lines};
 use crate::spelling::spelled;
 use crate::style::WriteError;
@@ -34,7 +37,7 @@ const OTHER_LEVELS: usize = 16;
 const MOST_LINES: u8 = 2;
 
 // How many bytes are written for each byte of the source at most, besides the spaces before it.
-const OTHER_BYTES: usize = 6;
+const OTHER_BYTES: usize = 10;
 
 // How many spaces a line begins with at most, in a document that nests at most this deep.
 fn deepest_indent(recursion: usize) -> u16
@@ -55,10 +58,10 @@ struct Bounds {
 }
 
 impl Bounds {
-    // How many bytes there are for a token that has this text in the source, besides those for the gap before it, a space and a line feed.
+    // How many bytes there are for a token that has this text in the source, besides those for the gap before it, a sign, spaces and a line feed.
     fn room(self, text: &str) -> usize
         requires { 0 < length text.now }
-        ensures { result + self.deepest + 5 ≤ bytes_for_each self.deepest * length text.now }
+        ensures { result + self.deepest + 9 ≤ bytes_for_each self.deepest * length text.now }
     {
         let each = usize::from(self.deepest) + OTHER_BYTES;
         each.saturating_mul(text.len()).saturating_sub(each - 1)
@@ -85,6 +88,8 @@ struct Writer<A: Allocator> {
     layout: Layout<A>,
     gaps: Gaps<A>,
     bounds: Bounds,
+    // what the last tokens say of an optional sign
+    lead: Lead,
     // how many spaces the line begins with
     indent: u16,
     // the column in which the last token ends
@@ -98,7 +103,7 @@ impl<A: Allocator + Copy> Writer<A> {
         requires { IsString text.now }
         ensures string { IfOk result (λ o. IfSome o (λ other. IsString (string_bytes other))) }
         ensures same { IfOk result (λ o. IfSome o (λ other. SameBlock text.now (string_bytes other))) }
-        ensures short { IfOk result (λ o. IfSome o (λ other. length (string_bytes other) + self.now.bounds.deepest + 5 ≤ bytes_for_each self.now.bounds.deepest * length text.now)) }
+        ensures short { IfOk result (λ o. IfSome o (λ other. length (string_bytes other) + self.now.bounds.deepest + 9 ≤ bytes_for_each self.now.bounds.deepest * length text.now)) }
         ensures long { IfErr result (λ error. error ≡ TooLong → self.now.bounds.most < bytes_for_each self.now.bounds.deepest * length text.now) }
     {
         let room = self.bounds.room(text);
@@ -118,11 +123,12 @@ impl<A: Allocator + Copy> Writer<A> {
         requires token { Tok kind text.now }
         requires kept { is_kept_kind kind ≡ true }
         ensures adds { OnOk result (AddsSame (string_bytes self.old.layout.text) self.old.layout.edge (record { kind = kind; text = text.now }) (string_bytes self.new.layout.text) self.new.layout.edge) }
-        ensures short { OnOk result (ended_length (string_bytes self.new.layout.text) self.new.layout.edge + self.old.bounds.deepest + 3
+        ensures short { OnOk result (ended_length (string_bytes self.new.layout.text) self.new.layout.edge + self.old.bounds.deepest + 7
             ≤ ended_length (string_bytes self.old.layout.text) self.old.layout.edge + bytes_for_each self.old.bounds.deepest * length text.now) }
         ensures long { IfErr result (λ error. error ≡ TooLong → self.old.bounds.most < bytes_for_each self.old.bounds.deepest * length text.now) }
         ensures bounds { self.new.bounds ≡ self.old.bounds }
     {
+        self.column = self.column_after_token(kind, text, self.column);
         if kind == TokenKind::StringValue && !stays && has_lines(text) {
             if let Some(other) = self.other_words(text)? {
                 self.layout.token(TokenKind::StringValue, other.as_str())?;
@@ -141,6 +147,7 @@ impl<A: Allocator + Copy> Writer<A> {
         ensures short { OnOk result (ended_length (string_bytes self.new.layout.text) self.new.layout.edge ≤ ended_length (string_bytes self.old.layout.text) self.old.layout.edge + 2 * length text.now) }
         ensures memory { IfErr result (λ error. error ≡ Memory) }
         ensures bounds { self.new.bounds ≡ self.old.bounds }
+        ensures lead { self.new.lead ≡ self.old.lead }
     {
         if kind == TokenKind::Eof || !self.gaps.keeps_blanks() {
             return Ok(());
@@ -178,10 +185,82 @@ impl<A: Allocator + Copy> Writer<A> {
         Ok(())
     }
 
+    // Writes a significant token or a comment with the gap before it.
+    fn write_token(&mut self, kind: TokenKind, text: &str, advice: Advice) -> Result<(), WriteError>
+        requires token { Tok kind text.now }
+        requires kept { is_kept_kind kind ≡ true }
+        ensures adds { OnOk result (AddsSame (string_bytes self.old.layout.text) self.old.layout.edge (record { kind = kind; text = text.now }) (string_bytes self.new.layout.text) self.new.layout.edge) }
+        ensures short { OnOk result (ended_length (string_bytes self.new.layout.text) self.new.layout.edge ≤ ended_length (string_bytes self.old.layout.text) self.old.layout.edge + bytes_for_each self.old.bounds.deepest * length text.now) }
+        ensures long { IfErr result (λ error. error ≡ TooLong → self.old.bounds.most < bytes_for_each self.old.bounds.deepest * length text.now) }
+        ensures bounds { self.new.bounds ≡ self.old.bounds }
+    {
+        self.write_gap(advice.gap)?;
+        self.spell(kind, text, advice.is_written)?;
+        Ok(())
+    }
+
+    // Writes a sign with the gap before it, and a space.
+    fn write_sign(&mut self, gap: Gap) -> Result<(), WriteError>
+        ensures adds { OnOk result (AddsSame (string_bytes self.old.layout.text) self.old.layout.edge pipe_word (string_bytes self.new.layout.text) self.new.layout.edge) }
+        ensures short { OnOk result (ended_length (string_bytes self.new.layout.text) self.new.layout.edge ≤ ended_length (string_bytes self.old.layout.text) self.old.layout.edge + self.old.bounds.deepest + 7) }
+        ensures memory { IfErr result (λ error. error ≡ Memory) }
+        ensures bounds { self.new.bounds ≡ self.old.bounds }
+    {
+        self.write_gap(gap)?;
+        self.layout.token(TokenKind::Pipe, "|")?;
+        self.layout.space()?;
+        self.column = self.column.saturating_add(2);
+        Ok(())
+    }
+
+    // Writes a token with a sign before it.
+    fn write_signed(
+        &mut self,
+        kind: TokenKind,
+        text: &str,
+        advice: Advice,
+    ) -> Result<(), WriteError>
+        requires token { Tok kind text.now }
+        requires kept { is_kept_kind kind ≡ true }
+        ensures adds { OnOk result (AddsSigned (string_bytes self.old.layout.text) self.old.layout.edge (record { kind = kind; text = text.now }) (string_bytes self.new.layout.text) self.new.layout.edge) }
+        ensures short { OnOk result (ended_length (string_bytes self.new.layout.text) self.new.layout.edge ≤ ended_length (string_bytes self.old.layout.text) self.old.layout.edge + bytes_for_each self.old.bounds.deepest * length text.now) }
+        ensures long { IfErr result (λ error. error ≡ TooLong → self.old.bounds.most < bytes_for_each self.old.bounds.deepest * length text.now) }
+        ensures bounds { self.new.bounds ≡ self.old.bounds }
+    {
+        self.write_sign(advice.gap)?;
+        self.spell(kind, text, advice.is_written)?;
+        Ok(())
+    }
+
+    // Writes a significant token or a comment with the gap before it. An optional sign is left out, or put in before it, where that is advised and its
+    // lead allows it.
+    fn put(&mut self, kind: TokenKind, text: &str) -> Result<(), WriteError>
+        requires token { Tok kind text.now }
+        requires kept { is_kept_kind kind ≡ true }
+        ensures adds { OnOk result (AddsChosen (string_bytes self.old.layout.text) self.old.layout.edge self.old.lead (record { kind = kind; text = text.now })
+            (string_bytes self.new.layout.text) self.new.layout.edge (lead_after self.old.lead kind text.now)) }
+        ensures short { OnOk result (ended_length (string_bytes self.new.layout.text) self.new.layout.edge ≤ ended_length (string_bytes self.old.layout.text) self.old.layout.edge + bytes_for_each self.old.bounds.deepest * length text.now) }
+        ensures long { IfErr result (λ error. error ≡ TooLong → self.old.bounds.most < bytes_for_each self.old.bounds.deepest * length text.now) }
+        ensures bounds { self.new.bounds ≡ self.old.bounds }
+    {
+        let advice = self.gaps.next_advice(self.column)?;
+        match advice.sign {
+            SignAdvice::LeftOut if self.lead.may_go(kind) => return Ok(()),
+            SignAdvice::PutIn if self.lead.may_come(kind) => {
+                self.write_signed(kind, text, advice)?;
+                return Ok(());
+            }
+            _ => {}
+        }
+        self.write_token(kind, text, advice)?;
+        Ok(())
+    }
+
     // Writes a token with the gap before it, unless it is white space, a comma or the end.
     fn write(&mut self, token: Token<'_>) -> Result<(), WriteError>
         requires { IsTokenText token.kind token.text.now }
-        ensures adds { OnOk result (AddsSame (string_bytes self.old.layout.text) self.old.layout.edge (record { kind = token.entry.kind; text = token.entry.text.now }) (string_bytes self.new.layout.text) self.new.layout.edge) }
+        ensures adds { OnOk result (AddsChosen (string_bytes self.old.layout.text) self.old.layout.edge self.old.lead (record { kind = token.entry.kind; text = token.entry.text.now })
+            (string_bytes self.new.layout.text) self.new.layout.edge self.new.lead) }
         ensures short { OnOk result (ended_length (string_bytes self.new.layout.text) self.new.layout.edge ≤ ended_length (string_bytes self.old.layout.text) self.old.layout.edge + bytes_for_each self.old.bounds.deepest * length token.entry.text.now) }
         ensures long { IfErr result (λ error. error ≡ TooLong → self.old.bounds.most < bytes_for_each self.old.bounds.deepest * length token.entry.text.now) }
         ensures bounds { self.new.bounds ≡ self.old.bounds }
@@ -192,10 +271,9 @@ impl<A: Allocator + Copy> Writer<A> {
             self.write_ignored(kind, text)?;
             return Ok(());
         }
-        let advice = self.gaps.next_advice(self.column)?;
-        self.write_gap(advice.gap)?;
-        self.column = self.column_after_token(kind, text, self.column);
-        self.spell(kind, text, advice.is_written)?;
+        let lead = self.lead.after(kind, text);
+        self.put(kind, text)?;
+        self.lead = lead;
         Ok(())
     }
 
@@ -232,7 +310,7 @@ fn write<A: Allocator + Copy>(
     bounds: Bounds,
 ) -> Result<String<A>, WriteError>
     requires { length (items_of source.now) ≤ usize_max }
-    ensures same { IfOk result (λ text. HoldsSame (string_bytes text) (Kept (items_of source.now))) }
+    ensures same { IfOk result (λ text. HoldsChosen (string_bytes text) (Kept (items_of source.now))) }
     ensures longest { IfOk result (λ text. length (string_bytes text) ≤ bytes_for_each bounds.deepest * length source.now + 1) }
     ensures small { IfErr result (λ error. error ≡ TooLong → bounds.most < bytes_for_each bounds.deepest * length source.now + 1) }
 {
@@ -241,6 +319,7 @@ fn write<A: Allocator + Copy>(
         layout: Layout::with_capacity(alloc, source.len())?,
         gaps,
         bounds,
+        lead: Lead::Other,
         indent: 0,
         column: 0,
     };
@@ -266,7 +345,7 @@ pub fn format_text<A: Allocator + Copy>(
     most: usize,
 ) -> Result<String<A>, WriteError>
     requires { length (items_of source.now) ≤ usize_max }
-    ensures same { IfOk result (λ text. HoldsSame (string_bytes text) (Kept (items_of source.now))) }
+    ensures same { IfOk result (λ text. HoldsChosen (string_bytes text) (Kept (items_of source.now))) }
     ensures most { IfOk result (λ text. length (string_bytes text) ≤ most) }
     ensures longest { IfOk result (λ text. length (string_bytes text) ≤ longest_layout recursion (length source.now)) }
     ensures small { IfErr result (λ error. error ≡ TooLong → most < longest_layout recursion (length source.now)) }

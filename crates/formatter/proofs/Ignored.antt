@@ -21,7 +21,12 @@ use Rattle.apollo_lexer.specs.declared.lex_error.LexError.{LexError}
 use Rattle.apollo_lexer.specs.Answers.{answers_left, answer_of, error_answer}
 use Rattle.apollo_lexer.proofs.Law.{answers-fit, limited-length}
 use Rattle.format_layout.specs.Respelled.{SameWord, AreSameWords}
-use Rattle.format_layout.specs.Written.{HoldsSame}
+use Rattle.format_layout.specs.declared.lead.Lead.{Lead}
+use Rattle.format_layout.specs.declared.lead.Lead.TheVariants.{Other}
+use Rattle.format_layout.specs.Leads.{lead_after}
+use Rattle.format_layout.specs.Chosen.{AreAllowed, Choice, chosen, goes, pipe_word, signed, stays}
+use Rattle.format_layout.specs.Written.{HoldsChosen}
+use Rattle.format_layout.proofs.Steps.{significant-comes, significant-goes}
 use Rattle.formatter.specs.Comments.{HasNoDefinitions, HasSameComments}
 
 abbrev pub is_ignored_kind : Option TokenKind → Bool
@@ -174,13 +179,36 @@ pub decided : (source : List ℕ) → IsUtf8 source → (all : Bool) → (all �
 decided source u true tokens none some = no-definitions source u (tokens refl) (none refl)
 decided source u false tokens none some = some refl
 
+no-comment : (kind : TokenKind) → is_comment kind ≡ true → is_significant_kind kind ≡ true → ⊥
+no-comment Comment h e = let no : false ≡ true = e in (cc)
+no-comment _ h e = let no : false ≡ true = h in (cc)
+
+-- comments stay, and no sign comes before one
+chosen-comments : (lead last : Lead) (choices : List Choice) (words : List Word) → are_comments words ≡ true → AreAllowed lead choices words last
+    → chosen pipe_word choices words ≡ words
+chosen-comments lead last [] [] h a = refl
+chosen-comments lead last [] (word ∷ words) h a = absurd a
+chosen-comments lead last (c ∷ choices) [] h a = absurd a
+chosen-comments lead last (stays ∷ choices) (word ∷ words) h a =
+    let q = and_parts _ _ h in
+    ap (λ l. word ∷ l) (chosen-comments (lead_after lead word.kind word.text) last choices words q.1 a.1)
+chosen-comments lead last (goes ∷ choices) (word ∷ words) h a =
+    let q = and_parts _ _ h in
+    absurd (no-comment word.kind q.0 (significant-goes lead word.kind a.0).0)
+chosen-comments lead last (signed ∷ choices) (word ∷ words) h a =
+    let q = and_parts _ _ h in
+    absurd (no-comment word.kind q.0 (significant-comes lead word.kind a.0).0)
+
 pub laid-out : (source text : List ℕ) → IsUtf8 source → are_tokens (items_of source) ≡ true → Significant (items_of source) ≡ []
-    → HoldsSame text (Kept (items_of source)) → HasSameComments source text
-laid-out source text u tokens none h = record {
-  only = no-definitions source u tokens none;
-  same = subst (Holds text) (same-words (Kept (items_of source)) h.others
-      (comments-kept (items_of source) (ignored-of (items_of source) tokens none)) h.same) h.holds;
-}
+    → HoldsChosen text (Kept (items_of source)) → HasSameComments source text
+laid-out source text u tokens none h =
+    let comments = comments-kept (items_of source) (ignored-of (items_of source) tokens none) in
+    let all = chosen-comments Other h.lead h.choices (Kept (items_of source)) comments h.allowed in
+    let same = subst (λ words. AreSameWords words h.holds.others) all h.holds.same in
+    record {
+      only = no-definitions source u tokens none;
+      same = subst (Holds text) (same-words (Kept (items_of source)) h.holds.others comments same) h.holds.holds;
+    }
 
 pub some-there : (source : List ℕ) → IsUtf8 source → are_ignored (items_of source) ≡ false → ¬ HasNoDefinitions source
 some-there source u there d =

@@ -10,7 +10,7 @@ use Rattle.apollo_parser.specs.Parsed.{Parsed}
 use Rattle.lexical_grammar.specs.Cut.{Cut}
 use Rattle.lexical_grammar.specs.Reads.{items_of}
 use Rattle.format_layout.specs.Formatted.{IsSentence, Formatted}
-use Rattle.format_layout.proofs.Nests.{alike-nest}
+use Rattle.format_layout.proofs.Unsigned.{unsigned-nest}
 use Rattle.formatter.specs.Formatted.{IsDocument, IsFormatted, IsRefused}
 
 pub refused : (source : List ℕ) (r k : ℕ) (t : Parsed) (errors : List Diagnostic) → errors ≡ t.errors → errors ≢ [] → Promise source r k t
@@ -41,12 +41,12 @@ formatted-by source text r k d f = record { document = d; formatted = f }
 pub formatted-within : (source text : List ℕ) (r k : ℕ) → Cut text (items_of text) → length (items_of text) ≤ k → IsFormatted source r k text
     → IsDocument text r k
 formatted-within source text r k cut few f =
-    let again = f.formatted.sentence f.document.tree f.document.sentence in
+    let again = f.formatted.layout f.document.tree f.document.sentence in
     record {
       tree = again.tree;
       sentence = again.sentence;
       within = record {
-        nesting = omega (arith, alike-nest f.document.tree again.tree again.alike, f.document.within.nesting);
+        nesting = omega (arith, unsigned-nest f.document.tree again.tree again.alike, f.document.within.nesting);
         items = items_of text;
         cut = cut;
         count = few;

@@ -1,9 +1,9 @@
 //! Formats a GraphQL document: the same document with another layout, or the errors of a text that is no document.
 //!
-//! `format` parses the text and writes it anew. It keeps significant tokens and comments, in their order; only block strings may be spelled
-//! anew, with the same value. `format_within`, which `gqlls_run` and `dumyroke_flat` call, has a bound on the formatted text. `gqlfmt_run` calls `Formatter`
-//! through the trait `DocumentFormatter`, so that it is proved without the code of the parser: one call also gives the errors that it shows, from the same
-//! parse, and another is for texts without definitions.
+//! `format` parses the text and writes it anew. It keeps significant tokens and comments, in their order; only the optional sign before a first member may
+//! come or go, and block strings may be spelled anew, with the same value. `format_within`, which `gqlls_run` and `dumyroke_flat` call, has a bound on the
+//! formatted text. `gqlfmt_run` calls `Formatter` through the trait `DocumentFormatter`, so that it is proved without the code of the parser: one call also
+//! gives the errors that it shows, from the same parse, and another is for texts without definitions.
 #![tactic(auto)]
 
 ghost use Rattle.std.specs.Prelude.{◌≡◌, ◌<◌, ◌≤◌, ℕ, true, false, List, None, length, map, IfErr, IfOk, IfSome, string_bytes};
@@ -74,8 +74,8 @@ pub trait DocumentFormatter {
     ///
     /// The token limit is one on the text, and none on the formatted text (`stays_within`).
     ///
-    /// The layout alone changes: the significant tokens and the comments are those of the text, in their order, but that a block string may be
-    /// spelled anew with the same value, for the indent of its line.
+    /// The layout alone changes: the significant tokens and the comments are those of the text, in their order, but that the optional sign `|` or `&` before
+    /// the first of some members may come or go, and a block string may be spelled anew with the same value, for the indent of its line.
     fn format_or_errors<'s, A: Allocator + Copy>(
         &self,
         alloc: A,

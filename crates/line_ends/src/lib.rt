@@ -107,8 +107,8 @@ pub fn with_line_end<A: Allocator>(
     joined_lines(alloc, text.as_str(), end)
 }
 
-/// A formatted text stays one when its lines end otherwise: it has the same tokens, but that block strings may be others with the same values, and the same
-/// comments. Then its lines end so.
+/// A formatted text stays one when its lines end otherwise: no token comes or goes, and only block strings may be others, with the same values. Then its
+/// lines end so.
 pub fn keeps_document()
     ensures document { (end : End) (source text : List ℕ) (r k : ℕ) → IsFormatted source r k text → IsFormatted source r k (with_line_end end text) }
     ensures comments { (end : End) (source text : List ℕ) → HasSameComments source text → HasSameComments source (with_line_end end text) }

@@ -31,7 +31,7 @@ loop-item-preserved-in_ok-check_length g c =
     let given : answers_left c.loop-item.item-iterator ≡ answer_of c.in-Some.item ∷ answers_left c.next.new.self = c.in-Some.ensures.steps.answers in
     let token = subst (λ item. answers_left c.loop-item.item-iterator ≡ answer_of item ∷ answers_left c.next.new.self) c.in-Ok.is given in
     record {
-      writes = writes-token _ _ _ _ _ _ _ _ _ _ token c.in_ok-write.ensures.adds c.loop-item.invariant.writes;
+      writes = writes-token _ _ _ _ _ _ _ _ _ _ _ _ token c.in_ok-write.ensures.adds c.loop-item.invariant.writes;
       short = written-length (bytes_for_each c.args.bounds.deepest) _ _ _ _ _ _ token (rw c.loop-item.invariant.bounds at c.in_ok-write.ensures.short)
           c.loop-item.invariant.short;
       bounds = c.in_ok-write.ensures.bounds ∙ c.loop-item.invariant.bounds;
@@ -42,14 +42,14 @@ loop-item-preserved g c =
     let given : answers_left c.loop-item.item-iterator ≡ answer_of c.in-Some.item ∷ answers_left c.next.new.self = c.in-Some.ensures.steps.answers in
     let error = subst (λ item. answers_left c.loop-item.item-iterator ≡ answer_of item ∷ answers_left c.next.new.self) c.in_default.is given in
     record {
-      writes = writes-on _ _ _ _ _ _ error (no-word _ _ _) c.loop-item.invariant.writes;
+      writes = writes-on _ _ _ _ _ _ _ error (no-word _ _ _) c.loop-item.invariant.writes;
       short = left-length (bytes_for_each c.args.bounds.deepest) _ _ _ _ _ error c.loop-item.invariant.short;
       bounds = c.loop-item.invariant.bounds;
     }
 
 pub returns-clause-same : goal.returns-clause-same
 returns-clause-same g c =
-    writes-end _ _ _ _ _ _ _ c.in-None.ensures.steps.answers.0 c.loop-item.invariant.writes c.in_ok-finish.ensures.keeps c.finish-2.ensures.holds
+    writes-end _ _ _ _ _ _ _ _ c.in-None.ensures.steps.answers.0 c.loop-item.invariant.writes c.in_ok-finish.ensures.keeps c.finish-2.ensures.holds
 
 pub returns-clause-longest : goal.returns-clause-longest
 returns-clause-longest g c = ended-length _ _ _ _ _ _ c.finish-2.ensures.text c.in_ok-finish.ensures.short c.loop-item.invariant.short

@@ -11,7 +11,8 @@ use Rattle.format_layout.proofs.writing.write.Given as goal
 -- the tokens so far are written, in no more bytes than there are for theirs, and those that are left are to be
 abbrev pub invariant-loop-item : goal.invariant-loop-item
 invariant-loop-item g l = record {
-  writes : Writes (string_bytes l.writer.layout.text) l.writer.layout.edge (kept_answers (answers_left l.item-iterator)) (Kept (items_of l.fn.source));
+  writes : Writes (string_bytes l.writer.layout.text) l.writer.layout.edge l.writer.lead (kept_answers (answers_left l.item-iterator))
+      (Kept (items_of l.fn.source));
   short : ended_length (string_bytes l.writer.layout.text) l.writer.layout.edge
       + bytes_for_each l.fn.bounds.deepest * length (answers_text (answers_left l.item-iterator))
       ≤ bytes_for_each l.fn.bounds.deepest * length l.fn.source;

@@ -1,0 +1,91 @@
+-- One more token written, left out, or written with a sign before it.
+use Rattle.std.proofs.Common.{◌≡◌, ℕ, true, false, List, [], ◌∷◌, ◌++◌, refl, sym, ap, ◌∙◌, subst, append_assoc, append-nil}
+use Rattle.lexical_grammar.specs.declared.TokenKind.{TokenKind}
+use Rattle.lexical_grammar.specs.declared.edge.Edge.{Edge}
+use Rattle.lexical_grammar.specs.Cut.{Word}
+use Rattle.lexical_grammar.specs.Kept.{is_kept_kind, kept_word}
+use Rattle.format_layout.specs.declared.lead.Lead.{Lead}
+use Rattle.format_layout.specs.declared.lead.Lead.TheVariants.{Other}
+use Rattle.format_layout.specs.Leads.{lead_after, may_come, may_go}
+use Rattle.format_layout.specs.Chosen.{Choice, stays, goes, signed, chosen, pipe_word, IsAllowed, AreAllowed}
+use Rattle.format_layout.specs.Laid.{Keeps}
+use Rattle.format_layout.specs.Written.{AddsChosen, AddsSame, AddsSigned, LaidChosen, LaidSame}
+use Rattle.format_layout.proofs.Adding.{kept-alone, keeps-same}
+use Rattle.format_layout.proofs.Steps.{Along, chosen-append}
+
+allowed-along : (s e : Lead) (cs : List Choice) (ws : List Word) → AreAllowed s cs ws e → Along cs ws
+allowed-along s e [] [] a = tt
+allowed-along s e [] (w ∷ ws) a = a
+allowed-along s e (c ∷ cs) [] a = a
+allowed-along s e (c ∷ cs) (w ∷ ws) a = allowed-along (lead_after s w.kind w.text) e cs ws a.1
+
+allowed-more : (s e : Lead) (cs : List Choice) (ws : List Word) (c : Choice) (w : Word) → AreAllowed s cs ws e → IsAllowed e c w
+    → AreAllowed s (cs ++ c ∷ []) (ws ++ w ∷ []) (lead_after e w.kind w.text)
+allowed-more s e [] [] c w a h = (subst (λ l. IsAllowed l c w) (sym a) h, ap (λ l. lead_after l w.kind w.text) a)
+allowed-more s e [] (v ∷ ws) c w a h = absurd a
+allowed-more s e (d ∷ cs) [] c w a h = absurd a
+allowed-more s e (d ∷ cs) (v ∷ ws) c w a h = (a.0, allowed-more (lead_after s v.kind v.text) e cs ws c w a.1 h)
+
+-- one more token, by its choice
+one-more : (text more : List ℕ) (edge next : Edge) (lead : Lead) (word : Word) (c : Choice) → is_kept_kind word.kind ≡ true → IsAllowed lead c word
+    → ((words : List Word) → LaidSame text edge words → LaidSame more next (words ++ chosen pipe_word (c ∷ []) (word ∷ [])))
+    → AddsChosen text edge lead word more next (lead_after lead word.kind word.text)
+one-more text more edge next lead word c k h a words l =
+    let mid = chosen pipe_word l.choices words in
+    let e : chosen pipe_word (l.choices ++ c ∷ []) (words ++ word ∷ []) ≡ mid ++ chosen pipe_word (c ∷ []) (word ∷ []) =
+    chosen-append pipe_word l.choices (c ∷ []) words (word ∷ []) (allowed-along Other lead l.choices words l.allowed) in
+    subst (λ w. LaidChosen more next (lead_after lead word.kind word.text) (words ++ w)) (sym (kept-alone word k)) (record {
+      choices = l.choices ++ c ∷ [];
+      allowed = allowed-more Other lead l.choices words c word l.allowed h;
+      laid = subst (LaidSame more next) (sym e) (a mid l.laid);
+    })
+
+pub stays-there : (text more : List ℕ) (edge next : Edge) (lead : Lead) (word : Word) → is_kept_kind word.kind ≡ true → AddsSame text edge word more next
+    → AddsChosen text edge lead word more next (lead_after lead word.kind word.text)
+stays-there text more edge next lead word k a =
+    one-more text more edge next lead word stays k tt (λ words l. subst (λ w. LaidSame more next (words ++ w)) (kept-alone word k) (a words l))
+
+pub goes-away : (text : List ℕ) (edge : Edge) (lead : Lead) (word : Word) → is_kept_kind word.kind ≡ true → may_go lead word.kind ≡ true
+    → AddsChosen text edge lead word text edge (lead_after lead word.kind word.text)
+goes-away text edge lead word k h =
+    one-more text text edge edge lead word goes k h (λ words l. subst (LaidSame text edge) (sym (append-nil words)) l)
+
+pub comes-before : (text more : List ℕ) (edge next : Edge) (lead : Lead) (word : Word) → is_kept_kind word.kind ≡ true → may_come lead word.kind ≡ true
+    → AddsSigned text edge word more next → AddsChosen text edge lead word more next (lead_after lead word.kind word.text)
+comes-before text more edge next lead word k h a = one-more text more edge next lead word signed k h a
+
+-- a sign, and then a token
+pub sign-then : (text middle more : List ℕ) (edge between next : Edge) (word : Word) → is_kept_kind word.kind ≡ true
+    → AddsSame text edge pipe_word middle between
+    → AddsSame middle between word more next → AddsSigned text edge word more next
+sign-then text middle more edge between next word k a b words l =
+    subst (LaidSame more next) (append_assoc words (pipe_word ∷ []) (word ∷ []))
+    (subst (λ w. LaidSame more next ((words ++ pipe_word ∷ []) ++ w)) (kept-alone word k) (b (words ++ pipe_word ∷ []) (a words l)))
+
+kept-none : (word : Word) → is_kept_kind word.kind ≡ false → kept_word word ≡ []
+kept-none word h = rw h refl
+
+-- a token that is not kept
+pub not-kept : (text more : List ℕ) (edge next : Edge) (lead last : Lead) (word : Word) → is_kept_kind word.kind ≡ false → last ≡ lead
+    → Keeps text edge more next → AddsChosen text edge lead word more next last
+not-kept text more edge next lead last word h e k words l =
+    subst (λ r. LaidChosen more next r (words ++ kept_word word)) (sym e)
+    (subst (LaidChosen more next lead) (sym (ap (λ w. words ++ w) (kept-none word h) ∙ append-nil words)) (record {
+      choices = l.choices;
+      allowed = l.allowed;
+      laid = keeps-same text more edge next (chosen pipe_word l.choices words) k l.laid;
+    }))
+
+-- white space after a token
+pub then-keeps : (text middle more : List ℕ) (edge between next : Edge) (word : Word) → AddsSame text edge word middle between → Keeps middle between more next
+    → AddsSame text edge word more next
+then-keeps text middle more edge between next word a k words l =
+    keeps-same middle more between next (words ++ kept_word word) k (a words l)
+
+-- the same token under other names
+pub same-token : (text more : List ℕ) (edge next : Edge) (lead last : Lead) (kind other : TokenKind) (word spelled : List ℕ) → other ≡ kind → spelled ≡ word
+    → AddsChosen text edge lead (record { kind = other; text = spelled }) more next last
+    → AddsChosen text edge lead (record { kind = kind; text = word }) more next last
+same-token text more edge next lead last kind other word spelled k e a =
+    subst (λ (j : TokenKind). AddsChosen text edge lead (record { kind = j; text = word }) more next last) k
+    (subst (λ (w : List ℕ). AddsChosen text edge lead (record { kind = other; text = w }) more next last) e a)
