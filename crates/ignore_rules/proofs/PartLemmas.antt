@@ -6,7 +6,7 @@ use Rattle.std.specs.Prelude.{◌==◌, MatchOption}
 use Rattle.std.proofs.lemmas.Bool.{cases_Bool, ltb-true, ltb-false}
 use Rattle.std.proofs.lemmas.List.Splits.{slice_split_first}
 use Rattle.std.specs.List.{position, position_or_len, slice_split, onto_first}
-use Rattle.ignore_rules.specs.Lines.{parts}
+use Rattle.ignore_rules.specs.Parts.{parts}
 
 -- what is left of a text, if anything is, and its parts
 abbrev pub parts_left : ℕ → Option (Bor (List ℕ)) → List (List ℕ)

@@ -1,9 +1,11 @@
 -- The lines of an ignore file (gitignore(5), "PATTERN FORMAT").
 use Rattle.std.specs.Prelude.{◌==◌, ◌++◌, ◌+◌, ◌-◌, ◌%◌, eqb, ℕ, Bool, true, false, List, [], ◌∷◌, length, take, drop, map, codes}
 use Rattle.std.specs.Prelude.{Option, Some, None, filter_map, if◌then◌else◌}
-use Rattle.std.specs.List.{starts_with, ends_with, list_any, slice_split, suffix_len}
+use Rattle.std.specs.List.{starts_with, ends_with, list_any, suffix_len}
 use Rattle.ignore_rules.specs.declared.lines.Rule as declared
-use Rattle.ignore_rules.specs.Fits.{Sign, folders, as_sign}
+use Rattle.ignore_rules.specs.Fits.{Sign, byte, folders, as_sign}
+use Rattle.ignore_rules.specs.Paths.{before_names, inner_path}
+use Rattle.ignore_rules.specs.Parts.{parts}
 use Rattle.ignore_rules.specs.Reading.{signs_of}
 
 -- A pattern's rule: whether it takes back what rules before it leave out, and whether it is about folders alone.
@@ -14,10 +16,6 @@ pub record Rule : Type 0 where
 
 abbrev pub as_rule : {A : Type 0} → declared.Rule A → Rule
 as_rule rule = record { keeps = rule.keeps; folders_only = rule.folders_only; signs = map as_sign rule.signs.items }
-
--- the parts of a text before, between and after bytes
-abbrev pub parts : ℕ → List ℕ → List (List ℕ)
-parts b text = slice_split (λ c. c == b) text
 
 -- how many of a byte a text ends with
 abbrev pub ending : ℕ → List ℕ → ℕ
@@ -43,26 +41,32 @@ spelled keeps folders_only before text =
     if length text == 0 then None
     else Some (record { keeps = keeps; folders_only = folders_only; signs = before ++ signs_of text })
 
--- A pattern with a slash at its beginning or in its middle is about paths from the folder of the file on; another is about names at any depth.
-abbrev pub anchored : Bool → Bool → List ℕ → Option Rule
-anchored keeps folders_only text =
-    if list_any (λ b. b == 47) text then spelled keeps folders_only [] (without_slash text) else spelled keeps folders_only (folders ∷ []) text
+-- A pattern with a slash at its beginning or in its middle is about paths from the folder of the file on; another is about names at any depth. Before it
+-- are the signs of that folder.
+abbrev pub anchored : List Sign → Bool → Bool → List ℕ → Option Rule
+anchored folder keeps folders_only text =
+    if list_any (λ b. b == 47) text then spelled keeps folders_only folder (without_slash text)
+    else spelled keeps folders_only (folder ++ folders ∷ []) text
 
 -- one with a slash at its end is about folders alone
-abbrev pub pattern : Bool → List ℕ → Option Rule
-pattern keeps text =
-    if ends_with eqb text (codes "/") then anchored keeps true (take (length text - 1) text) else anchored keeps false text
+abbrev pub pattern : List Sign → Bool → List ℕ → Option Rule
+pattern folder keeps text =
+    if ends_with eqb text (codes "/") then anchored folder keeps true (take (length text - 1) text) else anchored folder keeps false text
 
 -- A line that begins with a hash is a comment, and a pattern after an exclamation mark takes back.
-abbrev pub rule_in : List ℕ → Option Rule
-rule_in text =
+abbrev pub rule_in : List Sign → List ℕ → Option Rule
+rule_in folder text =
     if starts_with eqb text (codes "#") then None
-    else (if starts_with eqb text (codes "!") then pattern true (drop 1 text)
-    else pattern false text)
+    else (if starts_with eqb text (codes "!") then pattern folder true (drop 1 text)
+    else pattern folder false text)
 
-abbrev pub rule_of : List ℕ → Option Rule
-rule_of line = rule_in (without_spaces (without_return line))
+abbrev pub rule_of : List Sign → List ℕ → Option Rule
+rule_of folder line = rule_in folder (without_spaces (without_return line))
 
--- The rules of an ignore file, by its text. Lines end with a line feed (10), and maybe a carriage return before it.
-abbrev pub rules_of : List ℕ → List Rule
-rules_of text = filter_map rule_of (parts 10 text)
+-- The signs of a folder's path, from the root on, and of the slash after it.
+abbrev pub folder_signs : List ℕ → List Sign
+folder_signs folder = map byte (before_names (inner_path folder))
+
+-- The rules of an ignore file in a folder, by the file's text. Lines end with a line feed (10), and maybe a carriage return before it.
+abbrev pub rules_in : List ℕ → List ℕ → List Rule
+rules_in folder text = filter_map (rule_of (folder_signs folder)) (parts 10 text)

@@ -1,7 +1,6 @@
--- Paths in the folder of an ignore file.
-use Rattle.std.specs.Prelude.{◌==◌, ◌++◌, ◌||◌, eqb, ℕ, List, [], ◌∷◌, length, codes, bytes_eq, Option, Some, None, if◌then◌else◌}
-use Rattle.std.specs.List.{starts_with}
-use Rattle.ignore_rules.specs.Lines.{parts}
+-- Paths from the root on.
+use Rattle.std.specs.Prelude.{◌==◌, ◌++◌, ◌||◌, ℕ, List, [], ◌∷◌, length, codes, bytes_eq, Option, Some, None, if◌then◌else◌}
+use Rattle.ignore_rules.specs.Parts.{parts}
 
 -- a name below a path
 abbrev pub below : List ℕ → List ℕ → List ℕ
@@ -15,6 +14,11 @@ path_of path (name ∷ names) =
     else (if length name == 0 || bytes_eq name (codes ".") then path_of path names
     else path_of (below path name) names)
 
--- The path of a file from the folder of the ignore file on. There is none for that folder itself, for a path from the root on, and where a name is `..`.
+-- The names of a path, with a slash between them: `/a//./b` is `a/b`. There are none for the root, and where a name is `..`.
 abbrev pub inner_path : List ℕ → Option (List ℕ)
-inner_path path = if starts_with eqb path (codes "/") then None else path_of [] (parts 47 path)
+inner_path path = path_of [] (parts 47 path)
+
+-- what is before the names in a folder: nothing in the root
+abbrev pub before_names : Option (List ℕ) → List ℕ
+before_names None = []
+before_names (Some path) = path ++ codes "/"

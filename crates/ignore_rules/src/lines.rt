@@ -1,5 +1,6 @@
 // The lines of an ignore file.
-ghost use Rattle.std.specs.Prelude.{◌≡◌, ◌≤◌, IfOk, length, option_map};
+ghost use Rattle.std.specs.Prelude.{◌≡◌, ◌≤◌, IfOk, length, map, option_map};
+ghost use Rattle.ignore_rules.specs.Fits.{as_sign, byte};
 ghost use Rattle.ignore_rules.specs.Lines.{anchored, as_rule, ending, pattern, rule_of, spelled, without_return, without_slash, without_spaces};
 
 use crate::parts::SLASH;
@@ -68,16 +69,28 @@ fn spelled<A: Allocator + Copy>(
     Ok(Some(rule))
 }
 
+// The signs of a folder's path.
+fn folder_signs<A: Allocator>(alloc: A, folder: &[u8]) -> Result<Vec<Sign<A>, A>, AllocError>
+    ensures { IfOk result (λ signs. map (λ sign. as_sign sign) signs.items ≡ map byte folder.now) }
+{
+    let mut signs = Vec::new(alloc);
+    for byte in folder {
+        signs.push(Sign::Byte(*byte))?;
+    }
+    Ok(signs)
+}
+
 // A pattern with a slash at its beginning or in its middle is about paths from the folder of the file on; another is about names at any depth.
 fn anchored<A: Allocator + Copy>(
     alloc: A,
+    folder: &[u8],
     keeps: bool,
     folders_only: bool,
     text: &[u8],
 ) -> Result<Option<Rule<A>>, AllocError>
-    ensures { IfOk result (λ rule. option_map as_rule rule ≡ anchored keeps folders_only text.now) }
+    ensures { IfOk result (λ rule. option_map as_rule rule ≡ anchored (map byte folder.now) keeps folders_only text.now) }
 {
-    let mut signs = Vec::new(alloc);
+    let mut signs = folder_signs(alloc, folder)?;
     if text.contains(&SLASH) {
         let rule = Rule {
             keeps,
@@ -99,28 +112,33 @@ fn anchored<A: Allocator + Copy>(
 // A pattern with a slash at its end is about folders alone.
 fn pattern<A: Allocator + Copy>(
     alloc: A,
+    folder: &[u8],
     keeps: bool,
     text: &[u8],
 ) -> Result<Option<Rule<A>>, AllocError>
-    ensures { IfOk result (λ rule. option_map as_rule rule ≡ pattern keeps text.now) }
+    ensures { IfOk result (λ rule. option_map as_rule rule ≡ pattern (map byte folder.now) keeps text.now) }
 {
     if text.ends_with(b"/") {
-        anchored(alloc, keeps, true, &text[..text.len() - 1])
+        anchored(alloc, folder, keeps, true, &text[..text.len() - 1])
     } else {
-        anchored(alloc, keeps, false, text)
+        anchored(alloc, folder, keeps, false, text)
     }
 }
 
-/// The rule of a line, if it is neither blank nor a comment.
-pub fn rule_of<A: Allocator + Copy>(alloc: A, line: &[u8]) -> Result<Option<Rule<A>>, AllocError>
-    ensures { IfOk result (λ rule. option_map as_rule rule ≡ rule_of line.now) }
+/// The rule of a line, if it is neither blank nor a comment. The pattern is about paths in a folder, whose path is before their names.
+pub fn rule_of<A: Allocator + Copy>(
+    alloc: A,
+    folder: &[u8],
+    line: &[u8],
+) -> Result<Option<Rule<A>>, AllocError>
+    ensures { IfOk result (λ rule. option_map as_rule rule ≡ rule_of (map byte folder.now) line.now) }
 {
     let text = without_spaces(without_return(line));
     if text.starts_with(b"#") {
         Ok(None)
     } else if text.starts_with(b"!") {
-        pattern(alloc, true, &text[1..])
+        pattern(alloc, folder, true, &text[1..])
     } else {
-        pattern(alloc, false, text)
+        pattern(alloc, folder, false, text)
     }
 }

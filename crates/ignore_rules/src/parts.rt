@@ -1,6 +1,6 @@
 // The parts of a text between bytes.
 ghost use Rattle.std.specs.Prelude.{◌≡◌, ◌==◌, ◌<◌, ◌∷◌, [], IfSome, MatchOption, length, position};
-ghost use Rattle.ignore_rules.specs.Lines.{parts};
+ghost use Rattle.ignore_rules.specs.Parts.{parts};
 
 /// What separates the names of a path.
 pub const SLASH: u8 = b'/';

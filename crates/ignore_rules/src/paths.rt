@@ -1,6 +1,6 @@
-// Paths in the folder of an ignore file.
+// Paths from the root on.
 ghost use Rattle.std.specs.Prelude.{◌≡◌, IfOk, OnOk, option_map};
-ghost use Rattle.ignore_rules.specs.Paths.{below, inner_path};
+ghost use Rattle.ignore_rules.specs.Paths.{before_names, below, inner_path};
 
 use crate::parts::{SLASH, cut};
 use std::alloc::{AllocError, Allocator};
@@ -15,13 +15,10 @@ fn put_name<A: Allocator>(path: &mut Vec<u8, A>, name: &[u8]) -> Result<(), Allo
     path.extend_from_slice(name)
 }
 
-/// The path of a file from the folder of the ignore file on, if it has one.
+/// The names of a path, with a slash between them: `/a//./b` is `a/b`. There are none for the root, and where a name is `..`.
 pub fn inner_path<A: Allocator>(alloc: A, path: &[u8]) -> Result<Option<Vec<u8, A>>, AllocError>
     ensures { IfOk result (λ inner. option_map (λ it. it.items) inner ≡ inner_path path.now) }
 {
-    if path.starts_with(b"/") {
-        return Ok(None);
-    }
     let mut inner = Vec::new(alloc);
     let mut rest = Some(path);
     while let Some(left) = rest {
@@ -38,4 +35,17 @@ pub fn inner_path<A: Allocator>(alloc: A, path: &[u8]) -> Result<Option<Vec<u8, 
         return Ok(None);
     }
     Ok(Some(inner))
+}
+
+/// What is before the names in a folder: its path with a slash after it, and nothing in the root.
+pub fn before_names<A: Allocator + Copy>(alloc: A, folder: &[u8]) -> Result<Vec<u8, A>, AllocError>
+    ensures { IfOk result (λ path. path.items ≡ before_names (inner_path folder.now)) }
+{
+    match inner_path(alloc, folder)? {
+        Some(mut path) => {
+            path.push(SLASH)?;
+            Ok(path)
+        }
+        None => Ok(Vec::new(alloc)),
+    }
 }

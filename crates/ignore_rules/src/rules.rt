@@ -1,16 +1,16 @@
-// What the rules of an ignore file leave out.
-ghost use Rattle.std.specs.Prelude.{◌≡◌, ◌<◌, [], IfOk, false, length};
-ghost use Rattle.ignore_rules.specs.Lines.{as_rule, rules_of};
+// What the rules of ignore files leave out.
+ghost use Rattle.std.specs.Prelude.{◌≡◌, ◌<◌, ◌++◌, [], IfOk, OnOk, false, length};
+ghost use Rattle.ignore_rules.specs.Lines.{as_rule, rules_in};
 ghost use Rattle.ignore_rules.specs.Ignored.{as_rules, decided, ignores, is_about, is_below};
 ghost use Rattle.ignore_rules.specs.Tables.{IsClear};
 
 use crate::lines::{Rule, rule_of};
 use crate::matching::fit;
 use crate::parts::{SLASH, cut};
-use crate::paths::inner_path;
+use crate::paths::{before_names, inner_path};
 use std::alloc::{AllocError, Allocator};
 
-/// The rules of an ignore file, in order.
+/// The rules of ignore files, in order. A rule decides before those above it.
 #[derive(Drop)]
 pub struct Rules<A: Allocator> {
     alloc: A,
@@ -31,20 +31,31 @@ fn is_about<A: Allocator>(table: &mut [bool], rule: &Rule<A>, path: &[u8], is_fo
 }
 
 impl<A: Allocator + Copy> Rules<A> {
-    /// The rules of an ignore file with this text. Lines end with a line feed, and maybe a carriage return before it.
-    pub fn read(alloc: A, text: &[u8]) -> Result<Rules<A>, AllocError>
-        ensures { IfOk result (λ rules. as_rules rules ≡ rules_of text.now) }
+    /// No rules.
+    pub fn new(alloc: A) -> Rules<A>
+        ensures { as_rules result ≡ [] }
     {
-        let mut rules = Vec::new(alloc);
+        Rules {
+            alloc,
+            rules: Vec::new(alloc),
+        }
+    }
+
+    /// Adds the rules of an ignore file in a folder, by the path of the folder from the root on and the text of the file. Lines end with a line feed, and
+    /// maybe a carriage return before it.
+    pub fn add(&mut self, folder: &str, text: &[u8]) -> Result<(), AllocError>
+        ensures { OnOk result (as_rules self.new ≡ as_rules self.old ++ rules_in folder.now text.now) }
+    {
+        let before = before_names(self.alloc, folder.as_bytes())?;
         let mut rest = Some(text);
         while let Some(left) = rest {
             let (line, more) = cut(left, b'\n');
-            if let Some(rule) = rule_of(alloc, line)? {
-                rules.push(rule)?;
+            if let Some(rule) = rule_of(self.alloc, before.as_slice(), line)? {
+                self.rules.push(rule)?;
             }
             rest = more;
         }
-        Ok(Rules { alloc, rules })
+        Ok(())
     }
 
     // The last rule about a path decides. The table is a clear one with more places than the path.
@@ -78,8 +89,8 @@ impl<A: Allocator + Copy> Rules<A> {
         false
     }
 
-    /// Whether the rules leave out the file or the folder at a path, or a folder above it. The path is one from the folder of the ignore file on: one from
-    /// the root on, or with a name `..`, is not left out, and nor is that folder itself.
+    /// Whether the rules leave out the file or the folder at a path from the root on, or a folder above it. One with a name `..`, or the root, is not
+    /// left out.
     pub fn ignore(&self, path: &str, is_folder: bool) -> Result<bool, AllocError>
         ensures { IfOk result (λ it. it ≡ ignores (as_rules self.now) path.now is_folder) }
     {

@@ -1,5 +1,5 @@
 use Rattle.std.proofs.Common.{◌≡◌, []}
-use Rattle.ignore_rules.specs.Lines.{parts}
+use Rattle.ignore_rules.specs.Parts.{parts}
 use Rattle.ignore_rules.specs.Paths.{path_of}
 use Rattle.ignore_rules.proofs.PartLemmas.{parts_left, size_left}
 use Rattle.ignore_rules.proofs.paths.inner_path.Given as goal
