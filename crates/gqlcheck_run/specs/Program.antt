@@ -139,7 +139,7 @@ module _ {S : Type 0} (lists : S → List ℕ → Listing → S → Type 0) (rea
   pub record ChecksNamed (asked : Asked) (figures : Bool) (path : List ℕ) (status : ℕ) (old new : Desk S) : Type 0 where
     pub found : List FoundPath
     pub middle : S
-    pub named : IsNamed lists [] path found old.files middle
+    pub named : IsNamed lists path found old.files middle
     pub checked : ChecksFiles reads asked figures found status (record old { files = middle }) new
 
   -- Memory is refused before they are all found, and nothing is done with them.

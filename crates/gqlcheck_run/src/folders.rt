@@ -24,8 +24,7 @@ impl<A: Allocator + Copy, C: DocumentChecker> Job<'_, '_, A, C> {
             (record { files = files.old; output = W.account writer.old; complaints = E.account complaints.old })
             (record { files = files.new; output = W.account writer.new; complaints = E.account complaints.new }) }
     {
-        let ignored = Vec::new(self.alloc);
-        match named_files(self.alloc, files, ignored.as_slice(), path) {
+        match named_files(self.alloc, files, path) {
             Ok(found) => self.check_files(files, writer, complaints, found.as_slice()),
             Err(_) => {
                 tell_fault(self.alloc, complaints, path, Fault::Memory);

@@ -116,7 +116,7 @@ impl<F: Files> FolderServer<F> {
         ensures { OnOk result (Reads F.lists F.reads (folder_dialogue_of self.old) (folder_dialogue_of self.new)) }
     {
         self.files.begin();
-        let found = named_files(alloc, &mut self.files, &[], folder)?;
+        let found = named_files(alloc, &mut self.files, folder)?;
         for named in found.iter().take(MOST_FILES) {
             let Named::File(path) = named else {
                 continue;

@@ -1,11 +1,9 @@
 -- The files that a path names: those below it where it is a folder's.
-use Rattle.std.specs.Prelude.{◌≡◌, ◌++◌, ◌||◌, ℕ, Bool, true, false, List, [], ◌∷◌, Option, Some, None, string_bytes, if◌then◌else◌}
-use Rattle.std.specs.List.{cons_option, filter_map, list_any}
+use Rattle.std.specs.Prelude.{◌≡◌, ◌++◌, ℕ, List, [], ◌∷◌, Option, Some, None, string_bytes, if◌then◌else◌}
+use Rattle.std.specs.List.{filter_map}
 use Rattle.gqlfmt_files.specs.Listing.{Entry, Listing, unlisted, no_folder, entries}
 use Rattle.gqlfmt_files.specs.declared.listing.Kind.{Kind}
 use Rattle.gqlfmt_files.specs.declared.listing.Kind.TheVariants as kind
-use Rattle.ignore_rules.specs.Ignored.{ignores}
-use Rattle.ignore_rules.specs.Lines.{Rule}
 use Rattle.named_files.specs.declared.finding.Named.{Named}
 use Rattle.named_files.specs.declared.finding.Named.TheVariants as variant
 use Rattle.named_files.specs.Names.{is_hidden, is_of_others, is_graphql, path_in}
@@ -25,32 +23,25 @@ path_of (file path) = path
 path_of (folder path) = path
 path_of (unreadable path) = path
 
--- Whether the rules of an ignore file, among these, leave out a file or a folder.
-abbrev pub is_left_out : List (List Rule) → List ℕ → Bool → Bool
-is_left_out ignored path is_folder = list_any (λ rules. ignores rules path is_folder) ignored
-
-abbrev pub unless : Bool → FoundPath → Option FoundPath
-unless left_out found_path = if left_out then None else Some found_path
-
--- What is looked at, by a path, a name and its kind: a folder that package managers do not fill, or a file whose name is a GraphQL file's,
--- unless it is left out. Symbolic links, pipes and devices never are looked at.
-abbrev pub found_path_of : List (List Rule) → List ℕ → List ℕ → Kind → Option FoundPath
-found_path_of ignored path name kind.File = if is_graphql name then unless (is_left_out ignored path false) (file path) else None
-found_path_of ignored path name kind.Folder = if is_of_others name then None else unless (is_left_out ignored path true) (folder path)
-found_path_of ignored path name kind.Other = None
-found_path_of ignored path name (kind.Failed error) = Some (unreadable path)
+-- What is looked at, by a path, a name and its kind: a folder that package managers do not fill, or a file whose name is a GraphQL file's.
+-- Symbolic links, pipes and devices never are looked at.
+abbrev pub found_path_of : List ℕ → List ℕ → Kind → Option FoundPath
+found_path_of path name kind.File = if is_graphql name then Some (file path) else None
+found_path_of path name kind.Folder = if is_of_others name then None else Some (folder path)
+found_path_of path name kind.Other = None
+found_path_of path name (kind.Failed error) = Some (unreadable path)
 
 -- the same of an entry of a folder, if it is not hidden
-abbrev pub found_path_in : List (List Rule) → List ℕ → Entry → Option FoundPath
-found_path_in ignored path entry = if is_hidden entry.name then None else found_path_of ignored (path_in path entry.name) entry.name entry.kind
+abbrev pub found_path_in : List ℕ → Entry → Option FoundPath
+found_path_in path entry = if is_hidden entry.name then None else found_path_of (path_in path entry.name) entry.name entry.kind
 
--- What is found at a path. Where that is nothing, the path counts as unreadable, unless it is left out itself.
-abbrev pub named : List (List Rule) → List ℕ → List FoundPath → List FoundPath
-named ignored path [] = if is_left_out ignored path false || is_left_out ignored path true then [] else unreadable path ∷ []
-named ignored path (found_path ∷ found) = found_path ∷ found
+-- What is found at a path. Where that is nothing, the path counts as unreadable.
+abbrev pub named : List ℕ → List FoundPath → List FoundPath
+named path [] = unreadable path ∷ []
+named path (found_path ∷ found) = found_path ∷ found
 
--- the folders, as a trait tells what listing one does, and the rules of each ignore file
-module _ {S : Type 0} (lists : S → List ℕ → Listing → S → Type 0) (ignored : List (List Rule)) where
+-- the folders, as a trait tells what listing one does
+module _ {S : Type 0} (lists : S → List ℕ → Listing → S → Type 0) where
   -- `Finds waiting found old new`: what is found at the paths that wait, one after the other, and below them: files, and what could not be read.
   pub data Finds : List FoundPath → List FoundPath → S → S → Type 0 where
     nothing : {state : S} → Finds [] [] state state
@@ -60,19 +51,19 @@ module _ {S : Type 0} (lists : S → List ℕ → Listing → S → Type 0) (ign
         → Finds waiting found old new → Finds (unreadable path ∷ waiting) (unreadable path ∷ found) old new
     at_folder : {path : List ℕ} {has : List Entry} {waiting found : List FoundPath} {old middle new : S}
         → lists old path (entries has) middle
-        → Finds (filter_map (found_path_in ignored path) has ++ waiting) found middle new → Finds (folder path ∷ waiting) found old new
+        → Finds (filter_map (found_path_in path) has ++ waiting) found middle new → Finds (folder path ∷ waiting) found old new
     at_no_folder : {path : List ℕ} {waiting found : List FoundPath} {old middle new : S}
         → lists old path no_folder middle → Finds waiting found middle new
-        → Finds (folder path ∷ waiting) (cons_option (unless (is_left_out ignored path false) (file path)) found) old new
+        → Finds (folder path ∷ waiting) (file path ∷ found) old new
     at_unlisted : {path : List ℕ} {waiting found : List FoundPath} {old middle new : S}
         → lists old path unlisted middle → Finds waiting found middle new
-        → Finds (folder path ∷ waiting) (cons_option (unless (is_left_out ignored path true) (unreadable path)) found) old new
+        → Finds (folder path ∷ waiting) (unreadable path ∷ found) old new
 
   -- these are the files that a path names
   pub record IsNamed (path : List ℕ) (found : List FoundPath) (old new : S) : Type 0 where
     pub all : List FoundPath
     pub finds : Finds (folder path ∷ []) all old new
-    pub is : found ≡ named ignored path all
+    pub is : found ≡ named path all
 
 module _ {S : Type 0} (lists : S → List ℕ → Listing → S → Type 0) where
   -- Folders were listed, and nothing else was done.

@@ -1,7 +1,6 @@
 -- How far a search for files has come.
 use Rattle.std.specs.Prelude.{◌≡◌, ◌++◌, ℕ, List, map, reverse, string_bytes}
 use Rattle.gqlfmt_files.specs.Listing.{Listing}
-use Rattle.ignore_rules.specs.Lines.{Rule}
 use Rattle.named_files.specs.declared.finding.FoundPath.{FoundPath as WaitingPath}
 use Rattle.named_files.specs.declared.finding.FoundPath.TheVariants as found_path
 use Rattle.named_files.specs.declared.finding.Search.{Search}
@@ -19,8 +18,8 @@ abbrev pub found_by : {A : Type 0} → Search A → List FoundPath
 found_by search = map as_named search.found.items
 
 -- From paths that wait and what was found before, a search came to others and has found more: what is found from there on is found after that.
-pub record Advances {S : Type 0} (lists : S → List ℕ → Listing → S → Type 0) (ignored : List (List Rule))
+pub record Advances {S : Type 0} (lists : S → List ℕ → Listing → S → Type 0)
     (waiting found : List FoundPath) (old : S) (waiting' found' : List FoundPath) (new : S) : Type 0 where
   pub added : List FoundPath
   pub is : found' ≡ found ++ added
-  pub onward : (rest : List FoundPath) (final : S) → Finds lists ignored waiting' rest new final → Finds lists ignored waiting (added ++ rest) old final
+  pub onward : (rest : List FoundPath) (final : S) → Finds lists waiting' rest new final → Finds lists waiting (added ++ rest) old final

@@ -2,13 +2,11 @@
 ghost use Rattle.std.specs.Prelude.{◌≡◌, ◌++◌, [], ◌∷◌, map, IfOk, OnOk, option_map, string_bytes};
 ghost use Rattle.std.specs.List.{cons_option, filter_map};
 ghost use Rattle.gqlfmt_files.specs.Listing.{as_entry};
-ghost use Rattle.ignore_rules.specs.Ignored.{as_rules};
-ghost use Rattle.named_files.specs.Finding.{Finds, IsNamed, Lists, as_named, folder, is_left_out, named, path_of, found_path_in, found_path_of, unless};
+ghost use Rattle.named_files.specs.Finding.{Finds, IsNamed, Lists, as_named, folder, named, path_of, found_path_in, found_path_of};
 ghost use Rattle.named_files.specs.Search.{Advances, as_found_path, found_by, waiting_of};
 
 use crate::names::{is_graphql, is_hidden, is_of_others, path_in};
 use gqlfmt_files::{Entry, Files, Kind};
-use ignore_rules::Rules;
 use std::alloc::{AllocError, Allocator};
 use std::io::{self, ErrorKind};
 
@@ -41,64 +39,32 @@ enum FoundPath<A: Allocator> {
     Failed(String<A>, io::Error),
 }
 
-// Whether the rules of an ignore file, among these, leave out a file or a folder.
-fn is_left_out<A: Allocator + Copy>(
-    ignored: &[Rules<A>],
-    path: &str,
-    is_folder: bool,
-) -> Result<bool, AllocError>
-    ensures { IfOk result (λ it. it ≡ is_left_out (map as_rules ignored.now) path.now is_folder) }
-{
-    for rules in ignored {
-        if rules.ignore(path, is_folder)? {
-            return Ok(true);
-        }
-    }
-    Ok(false)
-}
-
 // What has this path and name, if it is looked at.
-fn found_path_of<A: Allocator + Copy>(
-    ignored: &[Rules<A>],
-    path: String<A>,
-    name: &str,
-    kind: Kind,
-) -> Result<Option<FoundPath<A>>, AllocError>
-    ensures { IfOk result (λ found_path. option_map as_found_path found_path ≡ found_path_of (map as_rules ignored.now) (string_bytes path) name.now kind) }
+fn found_path_of<A: Allocator>(path: String<A>, name: &str, kind: Kind) -> Option<FoundPath<A>>
+    ensures { option_map as_found_path result ≡ found_path_of (string_bytes path) name.now kind }
 {
     match kind {
-        Kind::File if is_graphql(name) => {
-            if is_left_out(ignored, path.as_str(), false)? {
-                return Ok(None);
-            }
-            Ok(Some(FoundPath::File(path)))
-        }
-        Kind::Folder if !is_of_others(name) => {
-            if is_left_out(ignored, path.as_str(), true)? {
-                return Ok(None);
-            }
-            Ok(Some(FoundPath::Folder(path)))
-        }
-        Kind::Failed(error) => Ok(Some(FoundPath::Failed(path, error))),
-        Kind::File | Kind::Folder | Kind::Other => Ok(None),
+        Kind::File if is_graphql(name) => Some(FoundPath::File(path)),
+        Kind::Folder if !is_of_others(name) => Some(FoundPath::Folder(path)),
+        Kind::Failed(error) => Some(FoundPath::Failed(path, error)),
+        Kind::File | Kind::Folder | Kind::Other => None,
     }
 }
 
 // The path of an entry of a folder, if it is looked at.
 fn found_path_in<A: Allocator + Copy, B: Allocator>(
     alloc: A,
-    ignored: &[Rules<A>],
     folder: &str,
     entry: &Entry<B>,
 ) -> Result<Option<FoundPath<A>>, AllocError>
-    ensures { IfOk result (λ found_path. option_map as_found_path found_path ≡ found_path_in (map as_rules ignored.now) folder.now (as_entry entry.now)) }
+    ensures { IfOk result (λ found_path. option_map as_found_path found_path ≡ found_path_in folder.now (as_entry entry.now)) }
 {
     let name = entry.name.as_str();
     if is_hidden(name) {
         return Ok(None);
     }
     let path = path_in(alloc, folder, name)?;
-    found_path_of(ignored, path, name, entry.kind)
+    Ok(found_path_of(path, name, entry.kind))
 }
 
 // What is found, and the paths that wait to be looked at, the next one last.
@@ -128,17 +94,12 @@ impl<A: Allocator + Copy> Search<A> {
 
     // Has an entry of a folder looked at next.
     #[tactic(auto, using(crate::proofs::SearchLemmas::reverse_more))]
-    fn put(
-        &mut self,
-        ignored: &[Rules<A>],
-        folder: &str,
-        entry: &Entry<A>,
-    ) -> Result<(), AllocError>
+    fn put(&mut self, folder: &str, entry: &Entry<A>) -> Result<(), AllocError>
         ensures waiting { OnOk result (waiting_of self.new
-            ≡ cons_option (found_path_in (map as_rules ignored.now) folder.now (as_entry entry.now)) (waiting_of self.old)) }
+            ≡ cons_option (found_path_in folder.now (as_entry entry.now)) (waiting_of self.old)) }
         ensures found { found_by self.new ≡ found_by self.old }
     {
-        if let Some(found_path) = found_path_in(self.alloc, ignored, folder, entry)? {
+        if let Some(found_path) = found_path_in(self.alloc, folder, entry)? {
             self.waiting.push(found_path)?;
         }
         Ok(())
@@ -146,18 +107,13 @@ impl<A: Allocator + Copy> Search<A> {
 
     // Has the entries of a folder looked at next.
     #[tactic(auto, using(crate::proofs::SearchLemmas::filter_map_last))]
-    fn put_all(
-        &mut self,
-        ignored: &[Rules<A>],
-        folder: &str,
-        mut entries: Vec<Entry<A>, A>,
-    ) -> Result<(), AllocError>
+    fn put_all(&mut self, folder: &str, mut entries: Vec<Entry<A>, A>) -> Result<(), AllocError>
         ensures waiting { OnOk result (waiting_of self.new
-            ≡ filter_map (found_path_in (map as_rules ignored.now) folder.now) (map as_entry entries.items) ++ waiting_of self.old) }
+            ≡ filter_map (found_path_in folder.now) (map as_entry entries.items) ++ waiting_of self.old) }
         ensures found { found_by self.new ≡ found_by self.old }
     {
         while let Some(entry) = entries.pop() {
-            self.put(ignored, folder, &entry)?;
+            self.put(folder, &entry)?;
         }
         Ok(())
     }
@@ -171,31 +127,9 @@ impl<A: Allocator + Copy> Search<A> {
         Ok(())
     }
 
-    // Adds what is found, unless it is left out.
-    fn keep(
-        &mut self,
-        ignored: &[Rules<A>],
-        named: Named<A>,
-        is_folder: bool,
-    ) -> Result<(), AllocError>
-        ensures waiting { waiting_of self.new ≡ waiting_of self.old }
-        ensures found { OnOk result (found_by self.new ≡ found_by self.old
-            ++ cons_option (unless (is_left_out (map as_rules ignored.now) (path_of (as_named named)) is_folder) (as_named named)) []) }
-    {
-        if is_left_out(ignored, named.path(), is_folder)? {
-            return Ok(());
-        }
-        self.add(named)
-    }
-
     // Looks at a path: adds what is found there, or has the entries of a folder looked at next.
-    fn look<F: Files>(
-        &mut self,
-        files: &mut F,
-        ignored: &[Rules<A>],
-        found_path: FoundPath<A>,
-    ) -> Result<(), AllocError>
-        ensures ok { OnOk result (Advances F.lists (map as_rules ignored.now) (as_found_path found_path ∷ waiting_of self.old) (found_by self.old) files.old
+    fn look<F: Files>(&mut self, files: &mut F, found_path: FoundPath<A>) -> Result<(), AllocError>
+        ensures ok { OnOk result (Advances F.lists (as_found_path found_path ∷ waiting_of self.old) (found_by self.old) files.old
             (waiting_of self.new) (found_by self.new) files.new) }
         ensures lists { Lists F.lists files.old files.new }
     {
@@ -203,9 +137,9 @@ impl<A: Allocator + Copy> Search<A> {
             FoundPath::File(path) => self.add(Named::File(path)),
             FoundPath::Failed(path, error) => self.add(Named::Failed(path, error)),
             FoundPath::Folder(path) => match files.list(self.alloc, path.as_str()) {
-                Ok(Some(entries)) => self.put_all(ignored, path.as_str(), entries),
-                Ok(None) => self.keep(ignored, Named::File(path), false),
-                Err(error) => self.keep(ignored, Named::Failed(path, error), true),
+                Ok(Some(entries)) => self.put_all(path.as_str(), entries),
+                Ok(None) => self.add(Named::File(path)),
+                Err(error) => self.add(Named::Failed(path, error)),
             },
         }
     }
@@ -215,10 +149,9 @@ impl<A: Allocator + Copy> Search<A> {
 fn find<F: Files, A: Allocator + Copy>(
     alloc: A,
     files: &mut F,
-    ignored: &[Rules<A>],
     path: &str,
 ) -> Result<Vec<Named<A>, A>, AllocError>
-    ensures ok { IfOk result (λ found. Finds F.lists (map as_rules ignored.now) (folder path.now ∷ []) (map as_named found.items) files.old files.new) }
+    ensures ok { IfOk result (λ found. Finds F.lists (folder path.now ∷ []) (map as_named found.items) files.old files.new) }
     ensures lists { Lists F.lists files.old files.new }
 {
     let mut search = Search::from(alloc, path)?;
@@ -226,22 +159,21 @@ fn find<F: Files, A: Allocator + Copy>(
         let Some(found_path) = search.waiting.pop() else {
             return Ok(search.found);
         };
-        search.look(files, ignored, found_path)?;
+        search.look(files, found_path)?;
     }
     // never reached: no memory has room for 2^64 paths
     Err(AllocError)
 }
 
-// Where nothing is found, the path counts as unreadable, unless it is left out itself.
+// Where nothing is found, the path counts as unreadable.
 fn or_failed<A: Allocator + Copy>(
     alloc: A,
-    ignored: &[Rules<A>],
     path: &str,
     mut found: Vec<Named<A>, A>,
 ) -> Result<Vec<Named<A>, A>, AllocError>
-    ensures { IfOk result (λ it. map as_named it.items ≡ named (map as_rules ignored.now) path.now (map as_named found.items)) }
+    ensures { IfOk result (λ it. map as_named it.items ≡ named path.now (map as_named found.items)) }
 {
-    if found.len() != 0 || is_left_out(ignored, path, false)? || is_left_out(ignored, path, true)? {
+    if found.len() != 0 {
         return Ok(found);
     }
     let path = String::from_str(alloc, path)?;
@@ -251,18 +183,16 @@ fn or_failed<A: Allocator + Copy>(
 }
 
 /// The files that a path names: its own, or the GraphQL files below a folder in the order of their paths, one name after the other. What could not be
-/// read is among them, and the path itself where there are none. Hidden names, `node_modules` and symbolic links below the folder are left out,
-/// and what the rules of an ignore file leave out, the path itself too.
+/// read is among them, and the path itself where there are none. Hidden names, `node_modules` and symbolic links below the folder are left out.
 pub fn named_files<F: Files, A: Allocator + Copy>(
     alloc: A,
     files: &mut F,
-    ignored: &[Rules<A>],
     path: &str,
 ) -> Result<Vec<Named<A>, A>, AllocError>
-    ensures ok { IfOk result (λ found. IsNamed F.lists (map as_rules ignored.now) path.now (map as_named found.items) files.old files.new) }
+    ensures ok { IfOk result (λ found. IsNamed F.lists path.now (map as_named found.items) files.old files.new) }
     ensures lists { Lists F.lists files.old files.new }
 {
-    let found = find(alloc, files, ignored, path)?;
-    let found = or_failed(alloc, ignored, path, found)?;
+    let found = find(alloc, files, path)?;
+    let found = or_failed(alloc, path, found)?;
     Ok(found)
 }
