@@ -3,6 +3,7 @@ use Rattle.std.specs.Prelude.{ℕ, List, map, Option, Some, None, Result, Ok, Er
 use Rattle.std.specs.List.Sorted.{IsSortedBy}
 use Rattle.std.specs.Cmp.Lexicographic.{slice_cmp}
 use Rattle.std.specs.Ordering.{is_lt, nat_cmp}
+use Rattle.std.specs.declared.io.Error.{Error}
 use Rattle.std.specs.declared.vec.Vec.{Vec}
 use Rattle.gqlfmt_files.specs.declared.listing.Entry as declared
 use Rattle.gqlfmt_files.specs.declared.listing.Kind.{Kind}
@@ -12,19 +13,19 @@ pub record Entry : Type 0 where
   pub name : List ℕ
   pub kind : Kind
 
--- It could not be listed; there is no folder; or these are its entries.
+-- It could not be listed, for this error; there is no folder; or these are its entries.
 pub data Listing : Type 0 where
-  unlisted : Listing
+  unlisted : Error → Listing
   no_folder : Listing
   entries : List Entry → Listing
 
 abbrev pub as_entry : {A : Type 0} → declared.Entry A → Entry
 as_entry entry = record { name = string_bytes entry.name; kind = entry.kind }
 
-abbrev pub listing_of : {A E : Type 0} → Result (Option (Vec (declared.Entry A) A)) E → Listing
+abbrev pub listing_of : {A : Type 0} → Result (Option (Vec (declared.Entry A) A)) Error → Listing
 listing_of (Ok (Some found)) = entries (map as_entry found.items)
 listing_of (Ok None) = no_folder
-listing_of (Err error) = unlisted
+listing_of (Err error) = unlisted error
 
 -- in the bytewise order of the names
 abbrev pub AreInOrder : {A : Type 0} → List (declared.Entry A) → Type 0

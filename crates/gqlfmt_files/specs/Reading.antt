@@ -1,5 +1,5 @@
 -- What reading a file gives.
-use Rattle.std.specs.Prelude.{◌≡◌, ℕ, List, Result, Ok, Err, Vec}
+use Rattle.std.specs.Prelude.{◌≡◌, ℕ, List, Result, Ok, Err, String, Vec, string_bytes}
 use Rattle.std.specs.IoError.{error_kind}
 use Rattle.std.specs.declared.io.Error.{Error}
 use Rattle.std.specs.declared.io.ErrorKind.TheVariants.{NotFound}
@@ -8,6 +8,11 @@ use Rattle.std.specs.declared.io.ErrorKind.TheVariants.{NotFound}
 abbrev pub bytes_of : {A : Type 0} → Result (Vec ℕ A) Error → Result (List ℕ) Error
 bytes_of (Ok bytes) = Ok bytes.items
 bytes_of (Err error) = Err error
+
+-- the bytes of a text, or why there is none
+abbrev pub text_of : {A : Type 0} → Result (String A) Error → Result (List ℕ) Error
+text_of (Ok text) = Ok (string_bytes text)
+text_of (Err error) = Err error
 
 -- since no file is there
 abbrev pub IsAbsent : Error → Type 0

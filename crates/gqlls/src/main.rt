@@ -8,7 +8,7 @@ mod command;
 
 use byte_devices::{Fault, StdSink, StdSource, views, words};
 use command::{HELP, USAGE, VERSION};
-use gqlls_files::{Limits, MOST_BYTES, run};
+use gqlls_files::{Limits, run};
 use program_words::gqlfmt::Request;
 use program_words::gqlls::options;
 use program_words::information::Information;
@@ -30,7 +30,7 @@ fn print(rt: &HostRuntime, information: Information) -> Result<u8, Fault> {
 fn serve(rt: &HostRuntime, limits: Limits) -> Result<u8, Fault> {
     let mut reader = StdSource::new(rt.stdin());
     let mut writer = StdSink::new(rt.stdout());
-    let files = StdFiles::up_to(rt, MOST_BYTES as u64);
+    let files = StdFiles::new(rt);
     run(rt.alloc(), &mut reader, &mut writer, files, limits)
 }
 

@@ -10,7 +10,7 @@ use std::io;
 pub(crate) const MOST_FILES: usize = 10_000;
 
 /// How many bytes the files have together at most in which names are looked for: with their trees they take some 23 times as much memory.
-pub const MOST_BYTES: usize = 1 << 24;
+pub(crate) const MOST_BYTES: usize = 1 << 24;
 
 /// How many tokens a file has at most in which names are looked for, ignored ones and bad text among them.
 pub(crate) const MOST_TOKENS: usize = 1 << 21;
@@ -53,6 +53,10 @@ impl<F: Files> Files for Bounded<F> {
 
     ghost reads = { λ old path given new. F.reads old.files path given new.files };
 
+    ghost locates = { λ old path given new. F.locates old.files path given new.files };
+
+    ghost omits = { λ old path answer new. F.omits old.files path answer new.files };
+
     ghost replaces = { λ old path text is_done new. F.replaces old.files path text is_done new.files };
 
     fn list<A: Allocator + Copy>(
@@ -69,6 +73,23 @@ impl<F: Files> Files for Bounded<F> {
 
     fn read<A: Allocator>(&mut self, alloc: A, path: &str) -> io::Result<Vec<u8, A>> {
         self.files.read(alloc, path)
+    }
+
+    fn read_up_to<A: Allocator>(
+        &mut self,
+        alloc: A,
+        path: &str,
+        most: usize,
+    ) -> io::Result<Vec<u8, A>> {
+        self.files.read_up_to(alloc, path, most)
+    }
+
+    fn locate<A: Allocator + Copy>(&mut self, alloc: A, path: &str) -> io::Result<String<A>> {
+        self.files.locate(alloc, path)
+    }
+
+    fn leaves_out<A: Allocator + Copy>(&mut self, alloc: A, path: &str) -> io::Result<bool> {
+        self.files.leaves_out(alloc, path)
     }
 
     fn replace(&mut self, path: &str, text: &str) -> io::Result<()> {

@@ -78,8 +78,9 @@ impl<F: Files> FolderServer<F> {
         ensures given { (given : Result (List ℕ) Error) × F.reads self.old.files.files path.now given self.new.files.files
             × IfSome result (λ text. given ≡ Ok (string_bytes text)) }
     {
-        match self.files.read(alloc, path) {
-            Ok(bytes) if bytes.len() <= self.room() => text_of(bytes),
+        let room = self.room();
+        match self.files.read_up_to(alloc, path, room) {
+            Ok(bytes) if bytes.len() <= room => text_of(bytes),
             Ok(_) | Err(_) => None,
         }
     }

@@ -11,6 +11,5 @@ mod bounds;
 mod folder;
 mod running;
 
-pub use bounds::MOST_BYTES;
 pub use gqlls_run::Limits;
 pub use running::run;

@@ -6,21 +6,9 @@ use Rattle.std.proofs.lemmas.Result.{on_ok_weaker}
 use Rattle.std.proofs.lemmas.List.{map-append, reverse-append}
 use Rattle.std.proofs.lemmas.List.Elements.{filter_map-append}
 use Rattle.gqlfmt_files.specs.Listing.{Listing, Entry, entries}
+pub use Rattle.gqlfmt_files.proofs.Stacks.{reverse_more, popped, drained}
 use Rattle.named_files.specs.Finding.{FoundPath, folder, found_path_in, Finds, nothing, at_folder, Lists, none, more}
 use Rattle.named_files.specs.Search.{Advances}
-
--- one path more
-pub reverse_more : {X Y : Type 0} (f : X → Y) (items : List X) (x : X) → reverse (map f (items ++ x ∷ [])) ≡ f x ∷ reverse (map f items)
-reverse_more f items x = ap reverse (map-append f items (x ∷ [])) ∙ reverse-append (map f items) (f x ∷ [])
-
--- the last path is the next one
-pub popped : {X Y : Type 0} (f : X → Y) (items before : List X) (x : X) → items ≡ before ++ x ∷ [] → reverse (map f items) ≡ f x ∷ reverse (map f before)
-popped f items before x is = ap (λ xs. reverse (map f xs)) is ∙ reverse_more f before x
-
--- no path is left
-pub drained : {X Y : Type 0} (f : X → Y) (items after : List X) (n : ℕ) → items ≡ after ++ [] → after ≡ take (n - 1) items → n ≡ 0 → reverse (map f items) ≡ []
-drained f items after n all front empty =
-    ap (λ xs. reverse (map f xs)) (all ∙ append-nil after ∙ front ∙ ap (λ k. take (k - 1) items) empty)
 
 pub cons-append : {Y : Type 0} (y : Option Y) (rest : List Y) → cons_option y [] ++ rest ≡ cons_option y rest
 cons-append None rest = refl

@@ -1,6 +1,7 @@
 -- The files that a path names: those below it where it is a folder's.
 use Rattle.std.specs.Prelude.{◌≡◌, ◌++◌, ℕ, List, [], ◌∷◌, Option, Some, None, string_bytes, if◌then◌else◌}
 use Rattle.std.specs.List.{filter_map}
+use Rattle.std.specs.declared.io.Error.{Error}
 use Rattle.gqlfmt_files.specs.Listing.{Entry, Listing, unlisted, no_folder, entries}
 use Rattle.gqlfmt_files.specs.declared.listing.Kind.{Kind}
 use Rattle.gqlfmt_files.specs.declared.listing.Kind.TheVariants as kind
@@ -55,8 +56,8 @@ module _ {S : Type 0} (lists : S → List ℕ → Listing → S → Type 0) wher
     at_no_folder : {path : List ℕ} {waiting found : List FoundPath} {old middle new : S}
         → lists old path no_folder middle → Finds waiting found middle new
         → Finds (folder path ∷ waiting) (file path ∷ found) old new
-    at_unlisted : {path : List ℕ} {waiting found : List FoundPath} {old middle new : S}
-        → lists old path unlisted middle → Finds waiting found middle new
+    at_unlisted : {path : List ℕ} {error : Error} {waiting found : List FoundPath} {old middle new : S}
+        → lists old path (unlisted error) middle → Finds waiting found middle new
         → Finds (folder path ∷ waiting) (unreadable path ∷ found) old new
 
   -- these are the files that a path names

@@ -9,12 +9,14 @@ ghost use Rattle.std.specs.Prelude.{◌≡◌, None};
 
 mod copies;
 mod listing;
+mod locating;
 mod replacing;
 mod state;
 
 use copies::{Beside, copy_path, is_file};
 use gqlfmt_files::{Entry, Files};
 use listing::{entries_of, not_utf8};
+use locating::located;
 use replacing::{is_alone, open_writable, overwrite, readable, restore};
 use state::State;
 use std::alloc::Allocator;
@@ -29,8 +31,6 @@ pub struct StdFiles<'a, R> {
     runtime: &'a R,
     // whether pipes and devices are read too
     any: bool,
-    // how many bytes a regular file has at most that is read
-    most: u64,
     // the file that was read last, as it was then
     seen: Option<State>,
 }
@@ -40,17 +40,9 @@ impl<'a, R> StdFiles<'a, R> {
     pub fn new(runtime: &'a R) -> Self
         ensures { result.runtime ≡ runtime.entry }
     {
-        StdFiles::up_to(runtime, u64::MAX)
-    }
-
-    /// The regular files of this runtime, of which those with more bytes than `most` are not read.
-    pub fn up_to(runtime: &'a R, most: u64) -> Self
-        ensures { result.runtime ≡ runtime.entry }
-    {
         StdFiles {
             runtime,
             any: false,
-            most,
             seen: None,
         }
     }
@@ -62,7 +54,6 @@ impl<'a, R> StdFiles<'a, R> {
         StdFiles {
             runtime,
             any: true,
-            most: u64::MAX,
             seen: None,
         }
     }
@@ -132,6 +123,10 @@ impl<'a, R: rt::Files<File = File> + Alloc + Clone + Drop> Files for StdFiles<'a
 
     ghost reads = { λ old path given new. ⊤ };
 
+    ghost locates = { λ old path given new. ⊤ };
+
+    ghost omits = { λ old path given new. ⊤ };
+
     ghost replaces = { λ old path text done new. ⊤ };
 
     fn list<A: Allocator + Copy>(
@@ -143,17 +138,39 @@ impl<'a, R: rt::Files<File = File> + Alloc + Clone + Drop> Files for StdFiles<'a
     }
 
     fn read<A: Allocator>(&mut self, alloc: A, path: &str) -> io::Result<Vec<u8, A>> {
+        self.read_up_to(alloc, path, usize::MAX)
+    }
+
+    fn read_up_to<A: Allocator>(
+        &mut self,
+        alloc: A,
+        path: &str,
+        most: usize,
+    ) -> io::Result<Vec<u8, A>> {
         if path.contains('\0') {
             return Err(not_utf8());
         }
-        if !self.any && readable(self.runtime, Path::new(path))?.len() > self.most {
-            return Err(Error::from(ErrorKind::FileTooLarge));
+        if !self.any {
+            readable(self.runtime, Path::new(path))?;
         }
         let mut file = File::open(self.runtime, path)?;
-        self.seen = Some(State::of(&file.metadata()?));
+        let metadata = file.metadata()?;
+        if metadata.len() > most as u64 {
+            return Err(Error::from(ErrorKind::FileTooLarge));
+        }
+        self.seen = Some(State::of(&metadata));
         let mut bytes = Vec::new(alloc);
         file.read_to_end(&mut bytes)?;
         Ok(bytes)
+    }
+
+    fn locate<A: Allocator + Copy>(&mut self, alloc: A, path: &str) -> io::Result<String<A>> {
+        located(self.runtime, alloc, path)
+    }
+
+    // no file is left alone
+    fn leaves_out<A: Allocator + Copy>(&mut self, _alloc: A, _path: &str) -> io::Result<bool> {
+        Ok(false)
     }
 
     fn replace(&mut self, path: &str, text: &str) -> io::Result<()> {

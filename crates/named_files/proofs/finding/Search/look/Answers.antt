@@ -43,8 +43,8 @@ returns-in-Ok-None-clause-lists g c = more none c.list.ensures.lists
 pub returns-in-Err-clause-ok : goal.returns-in-Err-clause-ok
 returns-in-Err-clause-ok g c =
     rw c.in-Folder.is (advances_by g.F.Files.lists c.add-in-Err.result _ (Some (unreadable (string_bytes c.in-Folder.path))) _ _ _ _ _ _
-    (λ rest final h. at_unlisted (subst (λ (path : List ℕ). g.F.Files.lists c.args.files.now path unlisted c.list.new.self) c.as_str.ensures.value
-    c.in-Err.ensures.lists) h) c.add-in-Err.ensures.waiting c.add-in-Err.ensures.found)
+    (λ rest final h. at_unlisted (subst (λ (path : List ℕ). g.F.Files.lists c.args.files.now path (unlisted c.in-Err.error) c.list.new.self)
+    c.as_str.ensures.value c.in-Err.ensures.lists) h) c.add-in-Err.ensures.waiting c.add-in-Err.ensures.found)
 
 pub returns-in-Err-clause-lists : goal.returns-in-Err-clause-lists
 returns-in-Err-clause-lists g c = more none c.list.ensures.lists
