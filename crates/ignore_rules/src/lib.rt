@@ -1,6 +1,6 @@
 //! Which paths an ignore file leaves out, by gitignore(5), "PATTERN FORMAT".
 //!
-//! `named_files` asks the `Rules` of each ignore file about the paths that it finds. Nothing here knows files. A `?`, a `*` and a set in brackets take
+//! `unignored_files` asks the `Rules` of the ignore files that it reads about paths. Nothing here knows files. A `?`, a `*` and a set in brackets take
 //! bytes, and not characters; classes, as `[:alpha:]`, are unknown.
 #![tactic(auto)]
 

@@ -1,0 +1,3 @@
+pub mod AboveLemmas
+pub mod ReadingLemmas
+pub mod UnignoredLemmas
