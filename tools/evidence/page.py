@@ -15,7 +15,7 @@ PARTS = {
     "the lexer": """apollo_lexer/src/lexer.rt apollo_lexer/src/limit.rt apollo_lexer/src/error.rt apollo_lexer/src/token.rt apollo_lexer/src/lex_error.rt""",
     "`gqlcst`": "byte_devices/src gqlcst_run/src/program.rt gqlcst_run/src/ending.rt program_words/src/gqlcst.rt",
     "`format`": "formatter/src/lib.rt",
-    "`gqlfmt`": """ignore_rules/src/rules.rt named_files/src/finding.rt gqlfmt_files/src/settling.rt program_words/src/gqlfmt.rt gqlfmt_run/src/formatting.rt gqlfmt_run/src/input.rt gqlfmt_run/src/paths.rt gqlfmt_run/src/program.rt""",
+    "`gqlfmt`": """ignore_rules/src/rules.rt unignored_files/src/unignored.rt named_files/src/finding.rt gqlfmt_files/src/settling.rt program_words/src/gqlfmt.rt gqlfmt_run/src/formatting.rt gqlfmt_run/src/input.rt gqlfmt_run/src/paths.rt gqlfmt_run/src/program.rt""",
     "C, Python and the page": """dumyroke_flat/src/parse.rt dumyroke_flat/src/items.rt dumyroke_flat/src/strings.rt dumyroke_flat/src/format.rt
         dumyroke_flat/src/laws.rt dumyroke_validation/src/validating.rt dumyroke_validation/src/measuring.rt dumyroke_c/src/lib.rt""",
     "positions, and `gqlls`": """line_index/src editor_text/src rpc_messages/src rpc_serving/src editor_diagnostics/src

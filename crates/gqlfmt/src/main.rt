@@ -8,6 +8,7 @@ use byte_devices::{Patient, StdSink, StdSource, views, words};
 use gqlfmt_run::{Formatter, run};
 use std::process::ExitCode;
 use std_files::StdFiles;
+use unignored_files::Unignored;
 
 fn main(rt: HostRuntime) -> ExitCode {
     let Ok(words) = words(&rt) else {
@@ -21,7 +22,7 @@ fn main(rt: HostRuntime) -> ExitCode {
     let mut reader = StdSource::new(Patient::new(&rt, rt.stdin()));
     let mut writer = StdSink::new(rt.stdout());
     let mut complaints = StdSink::new(rt.stderr());
-    let mut files = StdFiles::new(&rt);
+    let mut files = Unignored::new(rt.alloc(), StdFiles::new(&rt));
     let status = run(
         rt.alloc(),
         &Formatter,

@@ -1,6 +1,6 @@
 -- Files, one after the other.
 use Rattle.std.proofs.Common.{◌≡◌, ℕ, ◌+◌, ◌<◌, Bool, List, [], ◌∷◌, ◌++◌, length, take, get_or, map}
-use Rattle.std.proofs.Common.{max, refl, sym, ap, ◌∙◌, subst, arith, Result, inl, inr}
+use Rattle.std.proofs.Common.{max, refl, sym, ap, ◌∙◌, subst, arith, Result}
 use Rattle.std.specs.Prelude.{Ok}
 use Rattle.std.specs.Str.{IsUtf8}
 use Rattle.std.specs.declared.io.Error.{Error}

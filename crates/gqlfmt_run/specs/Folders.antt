@@ -1,59 +1,22 @@
 -- What happens to the files that paths of the command line name.
-use Rattle.std.specs.Prelude.{◌≡◌, ◌⊎◌, ℕ, max, Bool, List, [], ◌∷◌, ◌++◌, codes, Result, Ok, Err}
+use Rattle.std.specs.Prelude.{◌≡◌, ◌⊎◌, ℕ, max, Bool, true, false, List, [], ◌∷◌, Result, Ok, Err}
 use Rattle.std.specs.declared.io.Error.{Error}
 use Rattle.byte_devices.specs.declared.fault.Fault.TheVariants.{Memory}
 use Rattle.gqlfmt_files.specs.Listing.{Listing}
-use Rattle.gqlfmt_files.specs.Reading.{IsAbsent}
 use Rattle.gqlfmt_files.specs.declared.settling.Mode.{Mode}
-use Rattle.ignore_rules.specs.Lines.{Rule, rules_of}
 use Rattle.named_files.specs.Finding.{FoundPath, IsNamed, Lists}
-use Rattle.gqlfmt_run.specs.declared.fault.FileFault.{FileFault}
-use Rattle.gqlfmt_run.specs.declared.fault.FileFault.TheVariants.{NotRead, Device}
 use Rattle.gqlfmt_run.specs.declared.job.Bounds.{Bounds}
-use Rattle.gqlfmt_run.specs.Complaints.{Tells, SaysOfFile}
+use Rattle.gqlfmt_run.specs.Complaints.{Tells}
 use Rattle.gqlfmt_run.specs.Paths.{Desk, HandlesAll}
 
--- the ignore files, in the working folder, in the order in which they are read
-abbrev pub ignore_files : List (List ℕ)
-ignore_files = codes ".gqlfmtignore" ∷ codes ".prettierignore" ∷ []
-
--- the rules after an ignore file was read: those of its text, or none where there is no such file
-abbrev pub GivesRules : Result (List ℕ) Error → List (List Rule) → Type 0
-GivesRules (Ok text) rules = rules ≡ rules_of text ∷ []
-GivesRules (Err error) rules = IsAbsent error × (rules ≡ [])
-
--- why it gives none: it could not be read, and is there, or memory was refused
-abbrev pub GivesNone : Result (List ℕ) Error → FileFault → Type 0
-GivesNone (Err error) (NotRead error') = (error' ≡ error) × ¬ IsAbsent error
-GivesNone (Ok text) (Device Memory) = Unit {0}
-GivesNone given fault = ⊥
-
--- the files, as a trait tells what reading one does
-module _ {S : Type 0} (reads : S → List ℕ → Result (List ℕ) Error → S → Type 0) where
-  -- An ignore file is read, and these are its rules.
-  pub record ReadsRules (name : List ℕ) (rules : List (List Rule)) (old new : S) : Type 0 where
-    pub given : Result (List ℕ) Error
-    pub read : reads old name given new
-    pub gives : GivesRules given rules
-
-  -- It is read, and gives no rules: nothing is done but that, and why is said.
-  pub record Stops (name : List ℕ) (status : ℕ) (old new : Desk S) : Type 0 where
-    pub given : Result (List ℕ) Error
-    pub read : reads old.files name given new.files
-    pub fault : FileFault
-    pub gives : GivesNone given fault
-    pub silent : new.output ≡ old.output
-    pub says : SaysOfFile name (Err fault) old.complaints new.complaints
-    pub fails : status ≡ 2
-
--- the files, as a trait tells what its three calls do
+-- the files, as a trait tells what three of its calls do
 module _ {S : Type 0} (lists : S → List ℕ → Listing → S → Type 0) (reads : S → List ℕ → Result (List ℕ) Error → S → Type 0)
     (replaces : S → List ℕ → List ℕ → Bool → S → Type 0) where
   -- The files that a path names are found, and then handled.
-  pub record HandlesNamed (mode : Mode) (bounds : Bounds) (ignored : List (List Rule)) (path : List ℕ) (status : ℕ) (old new : Desk S) : Type 0 where
+  pub record FindsAndHandles (mode : Mode) (bounds : Bounds) (path : List ℕ) (status : ℕ) (old new : Desk S) : Type 0 where
     pub found : List FoundPath
     pub middle : S
-    pub named : IsNamed lists ignored path found old.files middle
+    pub named : IsNamed lists path found old.files middle
     pub handled : HandlesAll reads replaces mode bounds found status (record old { files = middle }) new
 
   -- Memory is refused before they are all found: nothing is done with them, and that is said.
@@ -63,21 +26,28 @@ module _ {S : Type 0} (lists : S → List ℕ → Listing → S → Type 0) (rea
     pub silent : new.output ≡ old.output
     pub tells : Tells path Memory old.complaints new.complaints
 
-  abbrev pub HandlesPath : Mode → Bounds → List (List Rule) → List ℕ → ℕ → Desk S → Desk S → Type 0
-  HandlesPath mode bounds ignored path status old new = HandlesNamed mode bounds ignored path status old new ⊎ GivesUp path status old new
+  abbrev pub HandlesNamed : Mode → Bounds → List ℕ → ℕ → Desk S → Desk S → Type 0
+  HandlesNamed mode bounds path status old new = FindsAndHandles mode bounds path status old new ⊎ GivesUp path status old new
+
+-- the files, as a trait tells what four of its calls do
+module _ {S : Type 0} (lists : S → List ℕ → Listing → S → Type 0) (omits : S → List ℕ → Result Bool Error → S → Type 0)
+    (reads : S → List ℕ → Result (List ℕ) Error → S → Type 0) (replaces : S → List ℕ → List ℕ → Bool → S → Type 0) where
+  -- What follows the answer whether a path is left alone. It is, or what it names is handled. Where there is no answer, nothing is done but to say why.
+  abbrev pub FollowsAnswer : Result Bool Error → Mode → Bounds → List ℕ → ℕ → Desk S → Desk S → Type 0
+  FollowsAnswer (Ok true) mode bounds path status old new = (status ≡ 0) × (new ≡ old)
+  FollowsAnswer (Ok false) mode bounds path status old new = HandlesNamed lists reads replaces mode bounds path status old new
+  FollowsAnswer (Err error) mode bounds path status old new = (status ≡ 2) × (new.files ≡ old.files) × (new.output ≡ old.output)
+
+  -- The files are asked whether a path is left alone, and this follows.
+  pub record HandlesPath (mode : Mode) (bounds : Bounds) (path : List ℕ) (status : ℕ) (old new : Desk S) : Type 0 where
+    pub answer : Result Bool Error
+    pub asked : S
+    pub asks : omits old.files path answer asked
+    pub follows : FollowsAnswer answer mode bounds path status (record old { files = asked }) new
 
   -- The same for these paths, one after the other. The status is the greatest of theirs.
-  abbrev pub HandlesPaths : Mode → Bounds → List (List Rule) → List (List ℕ) → ℕ → Desk S → Desk S → Type 0
-  HandlesPaths mode bounds ignored [] status old new = (status ≡ 0) × (new ≡ old)
-  HandlesPaths mode bounds ignored (path ∷ paths) status old new =
+  abbrev pub HandlesPaths : Mode → Bounds → List (List ℕ) → ℕ → Desk S → Desk S → Type 0
+  HandlesPaths mode bounds [] status old new = (status ≡ 0) × (new ≡ old)
+  HandlesPaths mode bounds (path ∷ paths) status old new =
       (one : ℕ) × (rest : ℕ) × (next : Desk S) × (status ≡ max one rest)
-      × HandlesPath mode bounds ignored path one old next × HandlesPaths mode bounds ignored paths rest next new
-
-  -- The ignore files of these names are read, one after the other, and then the files that the paths name are handled, but for those left out by their
-  -- rules or by others.
-  abbrev pub FormatsPaths : Mode → Bounds → List (List ℕ) → List (List ℕ) → List (List Rule) → ℕ → Desk S → Desk S → Type 0
-  FormatsPaths mode bounds paths [] ignored status old new = HandlesPaths mode bounds ignored paths status old new
-  FormatsPaths mode bounds paths (name ∷ names) ignored status old new =
-      Stops reads name status old new
-      ⊎ ((rules : List (List Rule)) × (next : S) × ReadsRules reads name rules old.files next
-      × FormatsPaths mode bounds paths names (ignored ++ rules) status (record old { files = next }) new)
+      × HandlesPath mode bounds path one old next × HandlesPaths mode bounds paths rest next new

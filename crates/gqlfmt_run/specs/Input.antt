@@ -1,5 +1,9 @@
 -- What is written of standard input.
-use Rattle.std.specs.Prelude.{◌≡◌, ℕ, List, []}
+use Rattle.std.specs.Prelude.{◌≡◌, ℕ, List, [], Result, Ok, Err}
+use Rattle.byte_devices.specs.Devices.{Account, moved}
+use Rattle.byte_devices.specs.Writing.{IsBroken}
+use Rattle.byte_devices.specs.declared.fault.Fault.{Fault}
+use Rattle.byte_devices.specs.declared.fault.Fault.TheVariants as fault
 use Rattle.gqlfmt_files.specs.declared.settling.Mode.{Mode}
 use Rattle.gqlfmt_files.specs.declared.settling.Mode.TheVariants.{Write, Check, Diff, Print}
 use Rattle.gqlfmt_files.specs.declared.settling.Settled.{Settled}
@@ -30,3 +34,11 @@ settled_of Write = Done
 settled_of Print = Done
 settled_of Check = Found
 settled_of Diff = Found
+
+-- What is written of an input that is left alone, by how that ended: the text itself, and nothing in a mode that shows what would change.
+abbrev pub PassesOn : Mode → Result Settled Fault → List ℕ → Account → Account → Type 0
+PassesOn mode (Ok settled) input old new = (settled ≡ Done) × (new ≡ moved old (kept mode input))
+PassesOn mode (Err fault.Read) input old new = new ≡ old
+PassesOn mode (Err fault.Utf8) input old new = ⊥
+PassesOn mode (Err fault.Memory) input old new = new ≡ old
+PassesOn mode (Err fault.Write) input old new = IsBroken (kept mode input) old new

@@ -1,5 +1,5 @@
 -- What a run of the program does, by the request in its words.
-use Rattle.std.specs.Prelude.{◌≡◌, ◌⊎◌, ℕ, Bool, List, [], ◌∷◌, ◌++◌, Option, Some, None, Result}
+use Rattle.std.specs.Prelude.{◌≡◌, ◌⊎◌, ℕ, Bool, true, false, List, [], ◌∷◌, ◌++◌, Option, Some, None, Result, Ok, Err, MatchBool, bytes_eq}
 use Rattle.std.specs.declared.io.Error.{Error}
 use Rattle.byte_devices.specs.Devices.{Account, moved}
 use Rattle.byte_devices.specs.Writing.{IsBroken}
@@ -10,6 +10,7 @@ use Rattle.program_words.specs.Misuse.{IsAmong}
 use Rattle.program_words.specs.declared.misuse.Mistake.{Mistake}
 use Rattle.gqlfmt_files.specs.declared.settling.Mode.{Mode}
 use Rattle.gqlfmt_files.specs.declared.settling.Settled.{Settled}
+use Rattle.program_words.specs.declared.gqlfmt.TheConstants.{INPUT}
 use Rattle.program_words.specs.declared.information.Information.{Information}
 use Rattle.program_words.specs.declared.information.Information.TheVariants.{Help, Version}
 use Rattle.program_words.specs.declared.gqlfmt.Request.{Request}
@@ -18,10 +19,10 @@ use Rattle.gqlfmt_run.specs.declared.job.Bounds.{Bounds}
 use Rattle.gqlfmt_run.specs.declared.command.TheConstants.{USAGE, HELP, VERSION, NO_MEMORY}
 use Rattle.gqlfmt_run.specs.Status.{status_of}
 use Rattle.gqlfmt_run.specs.Complaints.{Explains, IsWritten, Says}
-use Rattle.gqlfmt_run.specs.Input.{IsOutput}
+use Rattle.gqlfmt_run.specs.Input.{IsOutput, PassesOn}
 use Rattle.gqlfmt_files.specs.Listing.{Listing}
 use Rattle.gqlfmt_run.specs.Paths.{Desk}
-use Rattle.gqlfmt_run.specs.Folders.{FormatsPaths, ignore_files}
+use Rattle.gqlfmt_run.specs.Folders.{HandlesPaths}
 
 abbrev pub information_text : Information → List ℕ
 information_text Help = USAGE.now ++ HELP.now
@@ -63,6 +64,22 @@ pub record FormatsInput (mode : Mode) (bounds : Bounds) (name : List ℕ) (statu
   pub says : Says name ended old.complaints new.complaints
   pub counted : status ≡ status_of ended
 
+-- Standard input is read and passed on as it is, and why that failed is said, under this name.
+pub record KeepsInput (mode : Mode) (name : List ℕ) (status : ℕ) (old new : Streams) : Type 0 where
+  pub ended : Result Settled Fault
+  pub input : List ℕ
+  pub reads : Reads ended input old.input new.input
+  pub passes : PassesOn mode ended input old.output new.output
+  pub says : Says name ended old.complaints new.complaints
+  pub counted : status ≡ status_of ended
+
+-- What follows the answer whether standard input is left alone, which is to be the text of the file at this path. It is passed on or formatted. Where there
+-- is no answer, nothing is done but to say why.
+abbrev pub InputFollows : Result Bool Error → Mode → Bounds → List ℕ → ℕ → Streams → Streams → Type 0
+InputFollows (Ok true) mode bounds path status old new = KeepsInput mode path status old new
+InputFollows (Ok false) mode bounds path status old new = FormatsInput mode bounds path status old new
+InputFollows (Err error) mode bounds path status old new = (status ≡ 2) × (new.input ≡ old.input) × (new.output ≡ old.output)
+
 -- A text alone is said on standard error, and nothing else is done.
 abbrev pub OnlySays : {S : Type 0} → List ℕ → ℕ → State S → State S → Type 0
 OnlySays text status old new =
@@ -74,14 +91,26 @@ OnlyExplains words status old new =
     (word : List ℕ) × (mistake : Mistake) × IsAmong words word × (status ≡ 2) × Explains word mistake old.complaints new.complaints
     × (new.output ≡ old.output) × (new.input ≡ old.input) × (new.files ≡ old.files)
 
--- the files, as a trait tells what its three calls do
-module _ {S : Type 0} (lists : S → List ℕ → Listing → S → Type 0) (reads : S → List ℕ → Result (List ℕ) Error → S → Type 0)
-    (replaces : S → List ℕ → List ℕ → Bool → S → Type 0) where
+-- the files, as a trait tells what four of its calls do
+module _ {S : Type 0} (lists : S → List ℕ → Listing → S → Type 0) (omits : S → List ℕ → Result Bool Error → S → Type 0)
+    (reads : S → List ℕ → Result (List ℕ) Error → S → Type 0) (replaces : S → List ℕ → List ℕ → Bool → S → Type 0) where
+  -- The files are asked whether standard input is left alone, by its path, and this follows.
+  pub record AsksOfInput (mode : Mode) (bounds : Bounds) (path : List ℕ) (status : ℕ) (old new : State S) : Type 0 where
+    pub answer : Result Bool Error
+    pub asks : omits old.files path answer new.files
+    pub follows : InputFollows answer mode bounds path status (streams old) (streams new)
+
+  -- Standard input is handled. Where it has no path, it is formatted.
+  abbrev pub HandlesInput : Mode → Bounds → List ℕ → ℕ → State S → State S → Type 0
+  HandlesInput mode bounds name status old new =
+      MatchBool (bytes_eq name INPUT.now) (FormatsInput mode bounds name status (streams old) (streams new) × (new.files ≡ old.files))
+      (AsksOfInput mode bounds name status old new)
+
   -- the files that these paths name are handled, or standard input where there are none
   abbrev pub Formats : Mode → Bounds → List ℕ → List (List ℕ) → ℕ → State S → State S → Type 0
-  Formats mode bounds name [] status old new = FormatsInput mode bounds name status (streams old) (streams new) × (new.files ≡ old.files)
+  Formats mode bounds name [] status old new = HandlesInput mode bounds name status old new
   Formats mode bounds name (path ∷ paths) status old new =
-      (new.input ≡ old.input) × FormatsPaths lists reads replaces mode bounds (path ∷ paths) ignore_files [] status (desk old) (desk new)
+      (new.input ≡ old.input) × HandlesPaths lists omits reads replaces mode bounds (path ∷ paths) status (desk old) (desk new)
 
   -- What a run does for the request in its words. Where there is none, a word is wrong. Which one, if there are several, and how, is not stated.
   abbrev pub Does : List (List ℕ) → Option (Request Run) → ℕ → State S → State S → Type 0

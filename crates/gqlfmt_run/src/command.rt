@@ -16,8 +16,8 @@ Puts GraphQL documents into one layout. Without FILE, or where FILE is -, it
 reads standard input and writes to standard output; otherwise each FILE that
 changes is replaced. A FILE that is a folder means the files below it that
 end in .graphql, .graphqls or .gql, but for hidden names, node_modules and
-symbolic links. A .gqlfmtignore and a .prettierignore in the working folder say,
-in the form of a .gitignore, which files and folders are left alone.
+symbolic links. What a .gitignore, a .prettierignore or a .gqlfmtignore in its
+folder or above it leaves out is left alone, up to the top of the repository.
 
   -w, --write    replace each file that changes, as without this option
   --check        change nothing; list the files that would change
@@ -32,7 +32,8 @@ in the form of a .gitignore, which files and folders are left alone.
                  how its lines end: with LF (if not given), with CR LF, or as
                  the first line of its source does
   --stdin-filepath NAME
-                 what messages call standard input
+                 the path of the file that standard input is to be the text of,
+                 for messages and ignore files
   -h, --help     print this text
   -V, --version  print the version
 

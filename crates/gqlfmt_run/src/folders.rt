@@ -1,34 +1,30 @@
 // Formatting the files that paths of the command line name.
-ghost use Rattle.std.specs.Prelude.{[], map};
-ghost use Rattle.ignore_rules.specs.Ignored.{as_rules};
 ghost use Rattle.program_words.specs.Gqlfmt.{texts};
-ghost use Rattle.gqlfmt_run.specs.Folders.{FormatsPaths, HandlesPath, HandlesPaths, ignore_files};
+ghost use Rattle.gqlfmt_run.specs.Folders.{HandlesNamed, HandlesPath, HandlesPaths};
 
-use crate::ignoring::{OTHER_RULES, OWN_RULES};
+use crate::fault::FileFault;
 use crate::job::Job;
-use crate::report::tell;
+use crate::report::{tell, tell_of_file};
 use byte_devices::{Fault, Sink};
 use formatter::DocumentFormatter;
 use gqlfmt_files::Files;
-use ignore_rules::Rules;
 use named_files::named_files;
 use std::alloc::Allocator;
 
 impl<A: Allocator + Copy, L: DocumentFormatter> Job<'_, A, L> {
-    // Formats the files that a path names, but for those left out, and gives the greatest of their statuses.
+    // Formats the files that a path names, and gives the greatest of their statuses.
     fn format_path<F: Files, W: Sink, E: Sink>(
         &self,
         files: &mut F,
         writer: &mut W,
         complaints: &mut E,
-        ignored: &[Rules<A>],
         path: &str,
     ) -> u8
-        ensures { HandlesPath F.lists F.reads F.replaces self.now.mode self.now.bounds (map as_rules ignored.now) path.now result
+        ensures { HandlesNamed F.lists F.reads F.replaces self.now.mode self.now.bounds path.now result
             (record { files = files.old; output = W.account writer.old; complaints = E.account complaints.old })
             (record { files = files.new; output = W.account writer.new; complaints = E.account complaints.new }) }
     {
-        match named_files(self.alloc, files, ignored, path) {
+        match named_files(self.alloc, files, path) {
             Ok(found) => self.format_files(files, writer, complaints, found.as_slice()),
             Err(_) => {
                 tell(self.alloc, complaints, path, Fault::Memory);
@@ -37,29 +33,31 @@ impl<A: Allocator + Copy, L: DocumentFormatter> Job<'_, A, L> {
         }
     }
 
-    // Does that with these paths in order, also after one that fails, and gives the greatest of their statuses.
-    fn format_each<F: Files, W: Sink, E: Sink>(
+    // Does that if what is at the path isn't to be left alone.
+    fn format_unless_left_out<F: Files, W: Sink, E: Sink>(
         &self,
         files: &mut F,
         writer: &mut W,
         complaints: &mut E,
-        ignored: &[Rules<A>],
-        paths: &[&str],
+        path: &str,
     ) -> u8
-        ensures { HandlesPaths F.lists F.reads F.replaces self.now.mode self.now.bounds (map as_rules ignored.now) (texts paths.now) result
+        ensures { HandlesPath F.lists F.omits F.reads F.replaces self.now.mode self.now.bounds path.now result
             (record { files = files.old; output = W.account writer.old; complaints = E.account complaints.old })
             (record { files = files.new; output = W.account writer.new; complaints = E.account complaints.new }) }
     {
-        let mut status = 0;
-        for path in paths {
-            let one = self.format_path(files, writer, complaints, ignored, path);
-            status = status.max(one);
+        match files.leaves_out(self.alloc, path) {
+            Ok(true) => 0,
+            Ok(false) => self.format_path(files, writer, complaints, path),
+            Err(error) => {
+                let ended = Err(FileFault::NotRead(error));
+                tell_of_file(self.alloc, files, complaints, path, &ended);
+                2
+            }
         }
-        status
     }
 
-    /// Formats the files that these paths name in order, also after one that fails, and gives the greatest of their statuses. What the ignore files of
-    /// the working folder leave out is left alone. `complaints` have why a text is refused or was not formatted, or why an ignore file was not read.
+    /// Formats the files that these paths name in order, also after one that fails, and gives the greatest of their statuses. What `files` leaves out is
+    /// left alone. `complaints` have why a text is refused or was not formatted.
     pub fn format_paths<F: Files, W: Sink, E: Sink>(
         &self,
         files: &mut F,
@@ -67,17 +65,15 @@ impl<A: Allocator + Copy, L: DocumentFormatter> Job<'_, A, L> {
         complaints: &mut E,
         paths: &[&str],
     ) -> u8
-        ensures { FormatsPaths F.lists F.reads F.replaces self.now.mode self.now.bounds (texts paths.now) ignore_files [] result
+        ensures { HandlesPaths F.lists F.omits F.reads F.replaces self.now.mode self.now.bounds (texts paths.now) result
             (record { files = files.old; output = W.account writer.old; complaints = E.account complaints.old })
             (record { files = files.new; output = W.account writer.new; complaints = E.account complaints.new }) }
     {
-        let mut ignored = Vec::new(self.alloc);
-        if let Err(fault) = self.add_rules(files, &mut ignored, OWN_RULES) {
-            return self.stop(files, complaints, OWN_RULES, fault);
+        let mut status = 0;
+        for path in paths {
+            let one = self.format_unless_left_out(files, writer, complaints, path);
+            status = status.max(one);
         }
-        if let Err(fault) = self.add_rules(files, &mut ignored, OTHER_RULES) {
-            return self.stop(files, complaints, OTHER_RULES, fault);
-        }
-        self.format_each(files, writer, complaints, ignored.as_slice(), paths)
+        status
     }
 }

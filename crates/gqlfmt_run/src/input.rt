@@ -4,7 +4,7 @@ ghost use Rattle.byte_devices.specs.Runs.{Reads, Writes};
 ghost use Rattle.byte_devices.specs.declared.fault.Fault.TheVariants.{Read};
 ghost use Rattle.gqlfmt_files.specs.declared.settling.Settled.TheVariants.{Refused};
 ghost use Rattle.gqlfmt_run.specs.Complaints.{IsSilent};
-ghost use Rattle.gqlfmt_run.specs.Input.{IsOutput, kept, settled_of};
+ghost use Rattle.gqlfmt_run.specs.Input.{IsOutput, PassesOn, kept, settled_of};
 
 use crate::job::Job;
 use crate::showing::shown;
@@ -20,6 +20,16 @@ fn kept<A: Allocator>(alloc: A, mode: Mode, source: &str) -> Result<String<A>, A
     match mode {
         Mode::Write | Mode::Print => String::from_str(alloc, source),
         Mode::Check | Mode::Diff => Ok(String::new(alloc)),
+    }
+}
+
+// What is written of a text that is left alone.
+fn kept_bytes(mode: Mode, bytes: &[u8]) -> &[u8]
+    ensures { result.now ≡ kept mode bytes.now }
+{
+    match mode {
+        Mode::Write | Mode::Print => bytes,
+        Mode::Check | Mode::Diff => &bytes[..0],
     }
 }
 
@@ -94,5 +104,18 @@ impl<A: Allocator + Copy, L: DocumentFormatter> Job<'_, A, L> {
     {
         let bytes = read_to_end(self.alloc, reader)?;
         self.write_layout(writer, complaints, name, bytes.as_slice())
+    }
+    /// Reads to the end, and writes the whole text as it is, or nothing in a mode that shows what would change.
+    pub fn pass_on<R: Source, W: Sink>(
+        &self,
+        reader: &mut R,
+        writer: &mut W,
+    ) -> Result<Settled, Fault>
+        ensures { (input : List ℕ) × Reads result input (R.account reader.old) (R.account reader.new)
+            × PassesOn self.now.mode result input (W.account writer.old) (W.account writer.new) }
+    {
+        let bytes = read_to_end(self.alloc, reader)?;
+        write_all(writer, kept_bytes(self.mode, bytes.as_slice()))?;
+        Ok(Settled::Done)
     }
 }

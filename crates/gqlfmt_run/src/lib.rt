@@ -11,7 +11,6 @@ mod edits;
 mod fault;
 mod folders;
 mod formatting;
-mod ignoring;
 mod input;
 mod job;
 mod misuse;

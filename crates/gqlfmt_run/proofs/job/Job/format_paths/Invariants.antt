@@ -1,12 +1,10 @@
-use Rattle.std.proofs.Common.{map, take}
+use Rattle.std.proofs.Common.{take}
 use Rattle.program_words.specs.Gqlfmt.{texts}
-use Rattle.ignore_rules.specs.Ignored.{as_rules}
 use Rattle.gqlfmt_run.specs.Folders.{HandlesPaths}
-use Rattle.gqlfmt_run.proofs.job.Job.format_each.Given as goal
+use Rattle.gqlfmt_run.proofs.job.Job.format_paths.Given as goal
 
 abbrev pub invariant-loop-path : goal.invariant-loop-path
 invariant-loop-path g l =
-    HandlesPaths g.F.Files.lists g.F.Files.reads g.F.Files.replaces l.self.mode l.self.bounds (map as_rules l.ignored)
-    (texts (take l.path-index l.paths)) l.status
+    HandlesPaths g.F.Files.lists g.F.Files.omits g.F.Files.reads g.F.Files.replaces l.self.mode l.self.bounds (texts (take l.path-index l.paths)) l.status
     (record { files = l.initial.files; output = g.W.Sink.account l.initial.writer; complaints = g.E.Sink.account l.initial.complaints })
     (record { files = l.files; output = g.W.Sink.account l.writer; complaints = g.E.Sink.account l.complaints })
