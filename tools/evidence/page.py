@@ -33,7 +33,7 @@ COUNTED = {
     "`parse`, and parts of documents": "apollo_parser/src/parser.rt",
     "`format`": "formatter/src/lib.rt",
     "`gqlcst`": "gqlcst_run/src/program.rt",
-    "`gqlfmt`": "gqlfmt_run/src/program.rt",
+    "`gqlfmt`": "gqlfmt_run/src/program.rt unignored_files/src/unignored.rt",
     "`gqlls`, with the kit's words for JSON and for headers": "gqlls_files/src/running.rt",
     "C, Python and the page": "dumyroke_c/src/lib.rt",
 }
@@ -268,7 +268,7 @@ def lines_needed(doors):
 
 
 def counts():
-    return {title: lines_needed([door]) for title, door in COUNTED.items()}
+    return {title: lines_needed(doors.split()) for title, doors in COUNTED.items()}
 
 
 def lists():
@@ -287,7 +287,7 @@ def lists():
 
 def reading():
     made = ["\nA call needs these lines, without lists that a program wrote:\n"]
-    made += [f"- {title}, `{COUNTED[title]}`: {count:,}" for title, count in counts().items()]
+    made += [f"- {title}, {', '.join(f'`{door}`' for door in COUNTED[title].split())}: {count:,}" for title, count in counts().items()]
     for title, files in lists():
         by_hand = sum(definition_lines(path) for path in files if not is_generated(path))
         made.append(f"\n### For {title}: {by_hand:,} lines\n")

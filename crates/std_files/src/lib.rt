@@ -165,6 +165,9 @@ impl<'a, R: rt::Files<File = File> + Alloc + Clone + Drop> Files for StdFiles<'a
     }
 
     fn locate<A: Allocator + Copy>(&mut self, alloc: A, path: &str) -> io::Result<String<A>> {
+        if path.contains('\0') {
+            return Err(not_utf8());
+        }
         located(self.runtime, alloc, path)
     }
 

@@ -8,7 +8,7 @@ use Rattle.gqlfmt_files.specs.declared.listing.Kind.{Kind}
 use Rattle.gqlfmt_files.specs.declared.listing.Kind.TheVariants as kind
 use Rattle.ignore_rules.specs.Ignored.{ignores}
 use Rattle.ignore_rules.specs.Lines.{Rule}
-use Rattle.unignored_files.specs.Above.{Climbs}
+use Rattle.unignored_files.specs.Above.{Climbs, IsMissing}
 use Rattle.unignored_files.specs.Reading.{Adds, IsMemory, IsStopped, files_of, files_of_all}
 
 abbrev pub is_folder : Kind → Bool
@@ -43,7 +43,8 @@ module _ {S : Type 0} (lists : S → List ℕ → Listing → S → Type 0) (loc
   -- `IsLeftOut path answer rules old new`: whether what is at a path is left out, by the rules of the ignore files in the folders above it. Those are the
   -- rules from then on. A path that leads nowhere is not left out.
   pub data IsLeftOut (path : List ℕ) : Result Bool Error → List Rule → S → S → Type 0 where
-    nowhere : {error : Error} {old new : S} → locates old path (Err error) new → ¬ IsMemory error → IsLeftOut path (Ok false) [] old new
+    nowhere : {error : Error} {old new : S} → locates old path (Err error) new → IsMissing error → IsLeftOut path (Ok false) [] old new
+    unlocated_path : {error : Error} {rules : List Rule} {old new : S} → locates old path (Err error) new → IsLeftOut path (Err error) rules old new
     file : {real : List ℕ} {folders : List (List ℕ)} {is_repository : Bool} {rules : List Rule} {old located ready read new : S}
         → locates old path (Ok real) located → Climbs reads real folders is_repository located ready
         → Adds reads (files_of_all is_repository folders) [] rules ready read

@@ -95,8 +95,8 @@ impl<F: Files, A: Allocator + Copy> Files for Unignored<F, A> {
         let real = match self.files.locate(alloc, path) {
             Ok(real) => real,
             Err(error) => match error.kind() {
-                ErrorKind::OutOfMemory => return Err(error),
-                _ => return Ok(false),
+                ErrorKind::NotFound | ErrorKind::NotADirectory => return Ok(false),
+                _ => return Err(error),
             },
         };
         let above = climb(self.alloc, &mut self.files, real.as_str())?;

@@ -1,14 +1,16 @@
 use Rattle.std.proofs.Common.{sym, ◌∙◌, inl, inr}
 use Rattle.std.proofs.lemmas.Result.{err_from_is_err_and}
-use Rattle.unignored_files.specs.Unignored.{nowhere, refused_above, stopped_above, unlisted_path}
+use Rattle.unignored_files.specs.Unignored.{nowhere, refused_above, stopped_above, unlisted_path, unlocated_path}
 use Rattle.unignored_files.proofs.UnignoredLemmas.{decides}
 use Rattle.unignored_files.proofs.unignored.UnignoredFiles.leaves_out.Goals as goal
 
-pub returns-in-OutOfMemory : goal.returns-in-OutOfMemory
-returns-in-OutOfMemory g c = refused_above (sym c.kind.ensures ∙ c.in-OutOfMemory.is)
+pub returns-in-NotFound : goal.returns-in-NotFound
+returns-in-NotFound g c =
+    rw c.new.ensures
+    (nowhere c.in-Err.ensures (elim c.in-NotFound.is [ inl is ↦ inl (sym c.kind.ensures ∙ is) | inr is ↦ inr (sym c.kind.ensures ∙ is) ]))
 
 pub returns-in_default : goal.returns-in_default
-returns-in_default g c = rw c.new.ensures (nowhere c.in-Err.ensures (λ refused. c.in_default.not-OutOfMemory (c.kind.ensures ∙ refused)))
+returns-in_default g c = unlocated_path c.in-Err.ensures
 
 pub returns-in_err-above : goal.returns-in_err-above
 returns-in_err-above g c =
