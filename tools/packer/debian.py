@@ -42,6 +42,8 @@ def make(root, packages):
     settings.mkdir(parents=True)
     # it need not survive a crash, so dpkg does not wait for the disk
     (settings / "unsafe-io").write_text("force-unsafe-io\n")
+    # every user of the bare system passes through its root, which a new temporary folder keeps for its owner
+    root.chmod(0o755)
     install = ["apt-get", "install", "--quiet", "--yes", "--no-install-recommends", *packages]
     commands = [
         ["debootstrap", "--variant=minbase", SUITE, root, mirror()],
