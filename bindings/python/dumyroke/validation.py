@@ -41,8 +41,8 @@ class Violation(Placed):
 
 
 def validate(text: Text, most: int | None = 1000, recursion_limit: int | None = 500, token_limit: int | None = None) -> list[Violation]:
-    """The places at which a document breaks a rule of the standard's section 5 that needs no schema, at most so many, or all with None. If there are
-    fewer, they are all, and unless `most` is 0 there are none exactly if it keeps all these rules.
+    """The places at which a document breaks a rule of the standard's section 5 that needs no schema, at most so many, or all with None. No two are the
+    same. If there are fewer, they are all, and unless `most` is 0 there are none exactly if it keeps all these rules.
 
     Raises `NotADocument` with the errors if the text is none within both limits, and else as `parse` does."""
     source, limits = given(text, recursion_limit, token_limit)

@@ -18,8 +18,8 @@ pub struct Violation {
     pub message: String,
 }
 
-/// The places at which a document breaks a rule of the standard's section 5 that needs no schema, at most `most` of them. If there are fewer, they are
-/// all, and there are none exactly if the document keeps all these rules.
+/// The places at which a document breaks a rule of the standard's section 5 that needs no schema, at most `most` of them. No two are the same. If there
+/// are fewer, they are all, and there are none exactly if the document keeps all these rules.
 ///
 /// ```
 /// use dumyroke::validation::{validate, Rule};

@@ -1,3 +1,4 @@
+pub mod ListLemmas
 pub mod ReadLemmas
 pub mod ValidLemmas
 pub mod WalkLemmas

@@ -3,8 +3,7 @@ use Rattle.std.proofs.Common.{◌≡◌, List, [], ◌∷◌, map, refl, ◌∙�
 use Rattle.apollo_tree.specs.Order.{Place}
 use Rattle.executable_document.specs.declared.executables.ExecutableDefinition.{ExecutableDefinition}
 use Rattle.executable_document.specs.Definitions.{as_defined, defined}
-use Rattle.definition_rules.specs.Parts.{Parts, definitions, parts_of}
-use Rattle.apollo_validation.specs.Validity.{parts_in}
+use Rattle.definition_rules.specs.Parts.{Parts, definitions, parts_in, parts_of}
 
 of_all : (ds : List ExecutableDefinition) → map (λ d. parts_of (as_defined d)) ds ≡ map parts_of (map as_defined ds)
 of_all [] = refl

@@ -1,5 +1,5 @@
 -- A valid document breaks no rule, and what all rules add.
-use Rattle.std.proofs.Common.{◌≡◌, ◌⊎◌, ◌==◌, ℕ, ◌<◌, List, [], ◌∷◌, length, map, true, false}
+use Rattle.std.proofs.Common.{◌≡◌, ◌⊎◌, ◌==◌, ℕ, suc, ◌<◌, ◌≤◌, List, [], ◌∷◌, length, map, true, false}
 use Rattle.std.proofs.Common.{not, Option, Some, None, arith, refl, sym, ◌∙◌, ap, subst, inl, inr, ⊎_elim}
 use Rattle.std.specs.Prelude.{◌↔◌, Bool, if◌then◌else◌, option_and_then}
 use Rattle.std.specs.List.{Contains}
@@ -9,11 +9,14 @@ use Rattle.apollo_tree.specs.Order.{Place}
 use Rattle.apollo_tree.specs.Children.{child_nodes}
 use Rattle.executable_document.specs.declared.executables.DefinitionKind.TheVariants.{Operation, Fragment}
 use Rattle.executable_document.specs.Definitions.{defined, named_definitions}
+use Rattle.definition_rules.specs.declared.violations.Rule.{Rule}
+use Rattle.definition_rules.specs.declared.violations.Rule.TheVariants.{ExecutableDefinitions, KnownFragmentNames, LoneAnonymousOperation}
+use Rattle.definition_rules.specs.declared.violations.Rule.TheVariants.{NoFragmentCycles, NoUndefinedVariables, NoUnusedFragments, NoUnusedVariables}
 use Rattle.definition_rules.specs.declared.violations.Rule.TheVariants.{UniqueFragmentNames, UniqueOperationNames}
 use Rattle.definition_rules.specs.declared.violations.Violation.{Violation}
 use Rattle.definition_rules.specs.declared.violations.Violations.{Violations}
 use Rattle.definition_rules.specs.Violations.{Adds, Breach, as_breach, count, found}
-use Rattle.definition_rules.specs.Parts.{at, operations, targets}
+use Rattle.definition_rules.specs.Parts.{at, operations, parts_in, targets}
 use Rattle.definition_rules.specs.Rules.{AnonymousIsAlone, AreUnique, BreaksVariables, FragmentsAreUsed, HasNoCycles, IsNotAlone, IsOnCycle, IsUndefinedSpread}
 use Rattle.definition_rules.specs.Rules.{IsUndefinedVariable, IsUnusedFragment, IsUnusedVariable, Repeats, SpreadsAreDefined, VariablesAreWell}
 use Rattle.definition_rules.proofs.AddLemmas.{adds_same, adds_then}
@@ -26,7 +29,7 @@ use Rattle.apollo_validation.specs.declared.lists.DocumentKind.{DocumentKind}
 use Rattle.apollo_validation.specs.declared.lists.DocumentKind.TheVariants.{Executable, TypeSystem}
 use Rattle.apollo_validation.specs.Lists.{EachOf, IsExecutable, IsForeign, OneOf, RepeatsAs, RepeatsIn, UniqueAs, UniqueIn}
 use Rattle.apollo_validation.specs.Lists.{is_judged, items_of, list_of, nodes, rule_of}
-use Rattle.apollo_validation.specs.Validity.{AreBreaches, Breaks, BreaksTypeSystem, IsValid, IsValidTypeSystem, parts_in}
+use Rattle.apollo_validation.specs.Validity.{AreBreaches, Breaks, BreaksTypeSystem, IsValid, IsValidTypeSystem}
 use Rattle.apollo_validation.specs.Validity.{executable_definitions, operation_names, lone_anonymous_operation, lists}
 use Rattle.apollo_validation.specs.Validity.{fragment_names, fragments_used, spreads_defined, no_cycles, variables}
 
@@ -176,6 +179,61 @@ are_valid document executable operation_unique alone unique fragment_unique used
   variables_used = λ operation there. (well operation there).0;
 }
 
+-- ---- no breach is one of two rules
+-- the rules in the order in which they are judged; those on lists are judged together
+abbrev stage : Rule → ℕ
+stage ExecutableDefinitions = 1
+stage UniqueOperationNames = 2
+stage LoneAnonymousOperation = 3
+stage UniqueFragmentNames = 5
+stage NoUnusedFragments = 6
+stage KnownFragmentNames = 7
+stage NoFragmentCycles = 8
+stage NoUndefinedVariables = 9
+stage NoUnusedVariables = 9
+stage _ = 4
+
+stage_of_list : (list : NamedList) → stage (rule_of list) ≡ 4
+stage_of_list Arguments = refl
+stage_of_list ObjectFields = refl
+stage_of_list Variables = refl
+stage_of_list FieldDefinitions = refl
+stage_of_list InputFieldDefinitions = refl
+stage_of_list ArgumentDefinitions = refl
+stage_of_list EnumValues = refl
+
+stage_of : (b c : Breach) → b ≡ c → stage b.rule ≡ stage c.rule
+stage_of b c is = ap (λ (x : Breach). stage x.rule) is
+
+list_stage : (o : Option NamedList) (p : Place) (b : Breach) → RepeatsAs o p b → stage b.rule ≡ 4
+list_stage None p b so = absurd so
+list_stage (Some list) p b so = stage_of b _ so.is ∙ stage_of_list list
+
+variables_stage : (d : Place) (b : Breach) → BreaksVariables (parts_in d) b → stage b.rule ≡ 9
+variables_stage d b (operation, there, so) =
+    ⊎_elim
+    (λ (unused : IsUnusedVariable (parts_in d) operation b). stage_of b _ unused.is)
+    (λ (undefined : IsUndefinedVariable (parts_in d) operation b). stage_of b _ undefined.unknown.is)
+    so
+
+-- breaches of the first n rules were added
+record Staged (Breaks : Breach → Type 0) (IsWell : Type 0) (n : ℕ) (old new : Violations) : Type 0 where
+  pub adds : Adds Breaks IsWell old new
+  pub stages : (b : Breach) → Breaks b → stage b.rule ≤ n
+
+staged_then :
+    (Breaks Others : Breach → Type 0) (IsWell AreWell : Type 0) (n : ℕ) (old mid new : Violations) → Staged Breaks IsWell n old mid
+    → ((b : Breach) → Others b → stage b.rule ≡ suc n) → Adds Others AreWell mid new → Staged (λ b. Breaks b ⊎ Others b) (IsWell × AreWell) (suc n) old new
+staged_then Breaks Others IsWell AreWell n old mid new so is adds = record {
+  adds =
+      adds_then Breaks Others IsWell AreWell old mid new
+      (λ b breaks others. let l = so.stages b breaks in let e = is b others in omega arith) so.adds adds;
+  stages = λ b.
+      ⊎_elim
+      (λ (breaks : Breaks b). let l = so.stages b breaks in omega arith)
+      (λ (others : Others b). let e = is b others in omega arith);
+}
+
 pub adds_all :
     (d : Place) (v0 v1 v2 v3 v4 v5 v6 v7 v8 v9 : Violations) → Adds (OneOf (child_nodes d) IsForeign) (EachOf (child_nodes d) IsExecutable) v0 v1
     → Adds (Repeats UniqueOperationNames (named_definitions Operation (defined d))) (AreUnique (named_definitions Operation (defined d))) v1 v2
@@ -186,16 +244,19 @@ pub adds_all :
     → Adds (IsOnCycle (parts_in d)) (HasNoCycles (parts_in d)) v7 v8 → Adds (BreaksVariables (parts_in d)) (VariablesAreWell (parts_in d)) v8 v9
     → Adds (Breaks d) (IsValid d) v0 v9
 adds_all d v0 v1 v2 v3 v4 v5 v6 v7 v8 v9 a1 a2 a3 a4 a5 a6 a7 a8 a9 =
-    let b2 = adds_then _ _ _ _ v0 v1 v2 a1 a2 in
-    let b3 = adds_then _ _ _ _ v0 v2 v3 b2 a3 in
-    let b4 = adds_then _ _ _ _ v0 v3 v4 b3 a4 in
-    let b5 = adds_then _ _ _ _ v0 v4 v5 b4 a5 in
-    let b6 = adds_then _ _ _ _ v0 v5 v6 b5 a6 in
-    let b7 = adds_then _ _ _ _ v0 v6 v7 b6 a7 in
-    let b8 = adds_then _ _ _ _ v0 v7 v8 b7 a8 in
+    let b1 : Staged (OneOf (child_nodes d) IsForeign) (EachOf (child_nodes d) IsExecutable) 1 v0 v1 =
+    record { adds = a1; stages = λ b (p, there, (other, is)). let e = stage_of b _ is in omega arith } in
+    let b2 = staged_then _ _ _ _ 1 v0 v1 v2 b1 (λ b so. stage_of b _ so.is) a2 in
+    let b3 = staged_then _ _ _ _ 2 v0 v2 v3 b2 (λ b so. stage_of b _ so.is) a3 in
+    let b4 = staged_then _ _ _ _ 3 v0 v3 v4 b3 (λ b (p, there, so). list_stage _ p b so) a4 in
+    let b5 = staged_then _ _ _ _ 4 v0 v4 v5 b4 (λ b so. stage_of b _ so.is) a5 in
+    let b6 = staged_then _ _ _ _ 5 v0 v5 v6 b5 (λ b so. stage_of b _ so.is) a6 in
+    let b7 = staged_then _ _ _ _ 6 v0 v6 v7 b6 (λ b (number, below, so). stage_of b _ so.is) a7 in
+    let b8 = staged_then _ _ _ _ 7 v0 v7 v8 b7 (λ b so. stage_of b _ so.is) a8 in
+    let b9 = staged_then _ _ _ _ 8 v0 v8 v9 b8 (variables_stage d) a9 in
     adds_same _ (Breaks d) _ (IsValid d) v0 v9 (to_breaks d) (from_breaks d)
     (λ ((((((((g1, g2), g3), g4), g5), g6), g7), g8), g9). are_valid d g1 g2 g3 g4 g5 g6 g7 g8 g9)
-    (adds_then _ _ _ _ v0 v8 v9 b8 a9)
+    b9.adds
 
 -- ---- what is found from an empty list on
 pub exact :
@@ -205,6 +266,9 @@ exact Breaks IsWell most old new none same adds = record {
   no_others = λ b there. ⊎_elim (λ (was : Contains (found old) b). absurd (nothing b was)) (λ (breaks : Breaks b). breaks) (adds.no_others b there);
   all = λ less b breaks. adds.all (let l = long in omega arith) b breaks;
   few = let l = long in let few = adds.few (let z = zero_long in omega arith) in omega arith;
+  distinct =
+      adds.distinct (λ b there. absurd (nothing b there))
+      (λ i j d less below. absurd (let l = length-map old.list.items as_breach in let z = zero_long in omega arith));
 }
   where
     zero_long : count old ≡ 0

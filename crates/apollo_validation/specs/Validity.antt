@@ -1,24 +1,20 @@
 -- Which documents are valid by the rules that need no schema (GraphQL October 2021), and what breaks these rules.
-use Rattle.std.specs.Prelude.{◌≡◌, ℕ, ◌<◌, ◌≤◌, List, length, map, Some}
+use Rattle.std.specs.Prelude.{◌≡◌, ℕ, ◌<◌, ◌≤◌, List, length, Some}
 use Rattle.std.specs.List.{Contains}
 use Rattle.apollo_tree.specs.Order.{Place}
 use Rattle.apollo_tree.specs.Children.{child_nodes}
 use Rattle.executable_document.specs.declared.executables.DefinitionKind.TheVariants.{Operation, Fragment}
 use Rattle.executable_document.specs.Definitions.{defined, named_definitions}
 use Rattle.definition_rules.specs.declared.violations.Rule.TheVariants.{UniqueFragmentNames, UniqueOperationNames}
-use Rattle.definition_rules.specs.Parts.{Parts, operations, parts_of}
+use Rattle.definition_rules.specs.Parts.{operations, parts_in}
 use Rattle.definition_rules.specs.Rules.{AnonymousIsAlone, AreUnique, BreaksVariables, FragmentsAreUsed, HasNoCycles, IsNotAlone}
 use Rattle.definition_rules.specs.Rules.{IsOnCycle, IsUndefinedSpread, IsUnusedFragment, Repeats, SpreadsAreDefined, VariablesAreDefined, VariablesAreUsed}
-use Rattle.definition_rules.specs.Violations.{Breach}
+use Rattle.definition_rules.specs.Violations.{AreDistinct, Breach}
 use Rattle.apollo_validation.specs.declared.lists.DocumentKind.{DocumentKind}
 use Rattle.apollo_validation.specs.declared.lists.DocumentKind.TheVariants.{Executable, TypeSystem}
 use Rattle.apollo_validation.specs.declared.lists.NamedList.TheVariants.{Arguments, ObjectFields, Variables, FieldDefinitions}
 use Rattle.apollo_validation.specs.declared.lists.NamedList.TheVariants.{InputFieldDefinitions, ArgumentDefinitions, EnumValues}
 use Rattle.apollo_validation.specs.Lists.{EachOf, IsExecutable, IsForeign, OneOf, RepeatsIn, items_of, list_of, nodes}
-
--- the operations and fragments of a document
-abbrev pub parts_in : Place → List Parts
-parts_in document = map parts_of (defined document)
 
 -- ---- documents of operations and fragments: section 5
 -- The document keeps all of these rules.
@@ -88,8 +84,9 @@ abbrev pub BreaksAs : DocumentKind → Place → Breach → Type 0
 BreaksAs Executable document b = Breaks document b
 BreaksAs TypeSystem document b = BreaksTypeSystem document b
 
--- All of these break a rule. Unless there are as many as the bound allows, they are all that do.
+-- All of these break a rule, and none is there twice. Unless there are as many as the bound allows, they are all that do.
 pub record AreBreaches (most : ℕ) (Breaks : Breach → Type 0) (found : List Breach) : Type 0 where
   pub no_others : (b : Breach) → Contains found b → Breaks b
   pub all : length found < most → (b : Breach) → Breaks b → Contains found b
   pub few : length found ≤ most
+  pub distinct : AreDistinct found

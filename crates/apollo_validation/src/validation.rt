@@ -1,12 +1,13 @@
 // All rules on a document.
 ghost use Rattle.std.specs.Prelude.{◌≡◌, ◌<◌, ◌↔◌, ℕ, [], IfOk, OnOk, map};
+ghost use Rattle.apollo_tree.specs.Order.{Place};
 ghost use Rattle.apollo_tree.specs.References.{node_place};
 ghost use Rattle.executable_document.specs.Names.{AreFirstNumbers};
 ghost use Rattle.executable_document.specs.Definitions.{as_defined, defined, fragment_names, named_definitions};
-ghost use Rattle.definition_rules.specs.Parts.{as_parts, definitions as definitions_of};
+ghost use Rattle.definition_rules.specs.Parts.{as_parts, definitions as definitions_of, parts_in};
 ghost use Rattle.definition_rules.specs.Rules.{AreUnique, Repeats};
 ghost use Rattle.definition_rules.specs.Violations.{Adds, as_breach};
-ghost use Rattle.apollo_validation.specs.Validity.{AreBreaches, Breaks, BreaksAs, BreaksTypeSystem, IsValid, IsValidAs, IsValidTypeSystem, parts_in};
+ghost use Rattle.apollo_validation.specs.Validity.{AreBreaches, Breaks, BreaksAs, BreaksTypeSystem, IsValid, IsValidAs, IsValidTypeSystem};
 ghost use Rattle.apollo_validation.specs.Lists.{document_kind as kind_of};
 
 use crate::lists::{DocumentKind, add_foreign, add_lists, document_kind};
@@ -29,6 +30,7 @@ fn add_repeated_names<'t>(
     definitions: &[ExecutableDefinition<'t>],
     kind: DefinitionKind,
 ) -> Result<(), AllocError>
+    requires { (document : Place) × (map as_defined definitions.now ≡ defined document) }
     ensures { let named = named_definitions kind (map as_defined definitions.now) in
         OnOk result (Adds (Repeats rule named) (AreUnique named) violations.old violations.new) }
 {
@@ -76,8 +78,8 @@ fn add_all<'t>(
     Ok(())
 }
 
-/// The places at which a document of operations and fragments breaks a rule, no more than `most` of them, by the root of its tree. If there are
-/// fewer than `most`, they are all; and there are none exactly if the document keeps all rules.
+/// The places at which a document of operations and fragments breaks a rule, no more than `most` of them and each once, by the root of its tree. If
+/// there are fewer than `most`, they are all; and there are none exactly if the document keeps all rules.
 pub fn validate_executable<'t>(
     alloc: Global,
     document: &SyntaxNode<'t>,

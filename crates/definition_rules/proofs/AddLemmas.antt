@@ -1,9 +1,10 @@
 -- How lists of violations grow.
-use Rattle.std.proofs.Common.{◌≡◌, ◌≢◌, ◌⊎◌, ℕ, ◌+◌, ◌<◌, ◌≤◌, [], ◌∷◌, ◌++◌, length, arith, refl, sym, ◌∙◌, ap, inl, inr, ⊎_elim}
+use Rattle.std.proofs.Common.{◌≡◌, ◌≢◌, ◌⊎◌, ℕ, ◌+◌, ◌<◌, ◌≤◌, [], ◌∷◌, ◌++◌, length, get_or, arith, refl, sym, ◌∙◌, ap, inl, inr, ⊎_elim}
 use Rattle.std.specs.List.{Contains}
 use Rattle.std.proofs.lemmas.Bool.{cases_eq}
 use Rattle.std.proofs.lemmas.List.{length-append, length-map}
-use Rattle.std.proofs.lemmas.List.Elements.{Contains-append_left, Contains-push, Contains-push_cases}
+use Rattle.std.proofs.lemmas.List.Elements.{Contains-append_left, Contains-get_or, Contains-push, Contains-push_cases}
+use Rattle.std.proofs.lemmas.List.Quantifiers.{all_pairs_push}
 use Rattle.definition_rules.specs.declared.violations.Violations.{Violations}
 use Rattle.definition_rules.specs.Violations.{Breach, as_breach, found, count, Adds}
 
@@ -23,6 +24,7 @@ adds_nothing Breaks IsWell v none well = record {
   grows = omega arith;
   few = λ few. few;
   well = λ less same. well;
+  distinct = λ apart distinct. distinct;
 }
 
 -- a list that is full needs no more
@@ -38,6 +40,7 @@ adds_full Breaks Others IsWell AreWell old new to full adds = record {
   grows = adds.grows;
   few = adds.few;
   well = λ less. absurd (let e = adds.most in omega arith);
+  distinct = λ apart. adds.distinct (λ b there breaks. apart b there (to b breaks));
 }
 
 -- one more in a list that is not full
@@ -52,6 +55,10 @@ adds_push b old new same is less = record {
   grows = let l = longer in omega arith;
   few = λ few. let l = longer in omega arith;
   well = λ below le. let l = longer in omega arith;
+  distinct = λ apart distinct.
+      rw is
+      (all_pairs_push (λ x y. x ≢ y) (found old) b distinct
+      (λ k d below. apart (get_or (found old) k d) (Contains-get_or (found old) k d below)));
 }
   where
     longer : count new ≡ count old + 1
@@ -72,13 +79,15 @@ adds_same Breaks Others IsWell AreWell old new to from well adds = record {
   grows = adds.grows;
   few = adds.few;
   well = λ less same. well (adds.well less same);
+  distinct = λ apart. adds.distinct (λ b there breaks. apart b there (to b breaks));
 }
 
--- one after the other
+-- one after the other, where nothing is a breach of both
 pub adds_then :
-    (Breaks Others : Breach → Type 0) (IsWell AreWell : Type 0) (old mid new : Violations) → Adds Breaks IsWell old mid → Adds Others AreWell mid new
+    (Breaks Others : Breach → Type 0) (IsWell AreWell : Type 0) (old mid new : Violations) → ((b : Breach) → Breaks b → ¬ Others b)
+    → Adds Breaks IsWell old mid → Adds Others AreWell mid new
     → Adds (λ b. Breaks b ⊎ Others b) (IsWell × AreWell) old new
-adds_then Breaks Others IsWell AreWell old mid new first second = record {
+adds_then Breaks Others IsWell AreWell old mid new apart first second = record {
   most = second.most ∙ first.most;
   kept = λ b there. second.kept b (first.kept b there);
   no_others = λ b there.
@@ -94,6 +103,14 @@ adds_then Breaks Others IsWell AreWell old mid new first second = record {
   well = λ less same.
       let a = first.grows in let b = second.grows in
       (first.well (below less) (omega arith), second.well (within less) (omega arith));
+  distinct = λ none distinct.
+      second.distinct
+      (λ b there others.
+      ⊎_elim
+      (λ (was : Contains (found old) b). none b was (inr others))
+      (λ (breaks : Breaks b). apart b breaks others)
+      (first.no_others b there))
+      (first.distinct (λ b there breaks. none b there (inl breaks)) distinct);
 }
   where
     below : count new < old.most → count mid < old.most
@@ -104,9 +121,10 @@ adds_then Breaks Others IsWell AreWell old mid new first second = record {
 
 -- one more of several
 pub adds_more :
-    (Breaks : ℕ → Breach → Type 0) (IsWell : ℕ → Type 0) (n : ℕ) (old mid new : Violations) → Adds (Below Breaks n) (AllBelow IsWell n) old mid
+    (Breaks : ℕ → Breach → Type 0) (IsWell : ℕ → Type 0) (n : ℕ) (old mid new : Violations) → ((k : ℕ) → k < n → (b : Breach) → Breaks k b → ¬ Breaks n b)
+    → Adds (Below Breaks n) (AllBelow IsWell n) old mid
     → Adds (Breaks n) (IsWell n) mid new → Adds (Below Breaks (n + 1)) (AllBelow IsWell (n + 1)) old new
-adds_more Breaks IsWell n old mid new before last =
+adds_more Breaks IsWell n old mid new apart before last =
     adds_same (λ b. Below Breaks n b ⊎ Breaks n b) (Below Breaks (n + 1)) (AllBelow IsWell n × IsWell n) (AllBelow IsWell (n + 1)) old new
     (λ b. ⊎_elim (λ (at : Below Breaks n b). (at.0, let l = at.1 in omega arith, at.2)) (λ (is : Breaks n b). (n, omega arith, is)))
     (λ b (k, below, is).
@@ -115,4 +133,4 @@ adds_more Breaks IsWell n old mid new before last =
     (λ (ne : k ≢ n). inl (k, omega arith, is))
     (cases_eq k n))
     (λ (all, this) k below. ⊎_elim (λ (e : k ≡ n). rw e this) (λ (ne : k ≢ n). all k (omega arith)) (cases_eq k n))
-    (adds_then (Below Breaks n) (Breaks n) (AllBelow IsWell n) (IsWell n) old mid new before last)
+    (adds_then (Below Breaks n) (Breaks n) (AllBelow IsWell n) (IsWell n) old mid new (λ b (k, below, was) is. apart k below b was is) before last)

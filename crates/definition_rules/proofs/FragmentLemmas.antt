@@ -1,5 +1,6 @@
 -- Rules on fragments and their spreads, definition by definition.
-use Rattle.std.proofs.Common.{◌≡◌, ℕ, ◌+◌, ◌<◌, ◌≤◌, List, [], ◌∷◌, length, get_or, true, is_some, Option, Some, None, arith, refl, sym, ◌∙◌, ap, subst, ⊎_elim}
+use Rattle.std.proofs.Common.{◌≡◌, ◌≢◌, ℕ, ◌+◌, ◌<◌, ◌≤◌, List, [], ◌∷◌, length, get_or, true, is_some, Option, Some, None, arith, refl, sym, ◌∙◌}
+use Rattle.std.proofs.Common.{ap, subst, ⊎_elim}
 use Rattle.std.specs.List.{Contains}
 use Rattle.std.proofs.lemmas.Bool.{cases_lt}
 use Rattle.std.proofs.lemmas.List.{get_or_default, get_or_past}
@@ -13,11 +14,12 @@ use Rattle.definition_rules.specs.declared.violations.Rule.{Rule}
 use Rattle.definition_rules.specs.declared.violations.Rule.TheVariants.{KnownFragmentNames, NoFragmentCycles, NoUnusedFragments}
 use Rattle.definition_rules.specs.declared.violations.Violations.{Violations}
 use Rattle.definition_rules.specs.Violations.{Breach, breach, Adds, count}
-use Rattle.definition_rules.specs.Parts.{Parts, at, nothing, definitions, fragment_named, place_at, operations, targets, Reaches}
+use Rattle.definition_rules.specs.Parts.{AreInOneDocument, Parts, at, nothing, definitions, fragment_named, place_at, operations, targets, Reaches}
 use Rattle.definition_rules.specs.Graphs.{IsSpreadGraph}
 use Rattle.definition_rules.specs.Rules.{AreKnown, IsUnknown, IsFragmentName, IsUndefinedSpreadOf, IsUndefinedSpread}
 use Rattle.definition_rules.specs.Rules.{SpreadsAreDefined, FragmentsAreUsed, IsUnusedFragment, HasNoCycles, IsOnCycle, LeadsBack}
 use Rattle.definition_rules.proofs.AddLemmas.{Below, AllBelow, adds_full, adds_more, adds_nothing, adds_same}
+use Rattle.definition_rules.proofs.ApartLemmas.{own_place, spread_below, subtrees_apart}
 use Rattle.definition_rules.proofs.OperationLemmas.{to_reaches, from_reaches}
 
 -- ---- names that are known, in two ways
@@ -39,12 +41,19 @@ some_is (Some x) is = (x, refl)
 -- ---- spreads
 pub spreads_more :
     (ds : List Parts) (fragments : Entries ℕ) (n : ℕ) (spreads : List Named) (old mid new : Violations)
-    → AreFirstNumbers fragments (fragment_names (definitions ds)) → spreads ≡ (at ds n).spreads
+    → AreInOneDocument ds → n < length ds → AreFirstNumbers fragments (fragment_names (definitions ds)) → spreads ≡ (at ds n).spreads
     → Adds (Below (IsUndefinedSpreadOf ds) n) (AllBelow (λ k. AreKnown (IsFragmentName ds) (at ds k).spreads) n) old mid
     → Adds (IsUnknown KnownFragmentNames None (HasEntry fragments) spreads) (AreKnown (HasEntry fragments) spreads) mid new
     → Adds (Below (IsUndefinedSpreadOf ds) (n + 1)) (AllBelow (λ k. AreKnown (IsFragmentName ds) (at ds k).spreads) (n + 1)) old new
-spreads_more ds fragments n spreads old mid new are same before adds =
-    adds_more (IsUndefinedSpreadOf ds) (λ k. AreKnown (IsFragmentName ds) (at ds k).spreads) n old mid new before
+spreads_more ds fragments n spreads old mid new all inside are same before adds =
+    adds_more (IsUndefinedSpreadOf ds) (λ k. AreKnown (IsFragmentName ds) (at ds k).spreads) n old mid new
+    (λ k less b was is.
+    let same_place : was.item.place ≡ is.item.place = ap (λ (x : Breach). x.place) (sym was.is ∙ is.is) in
+    let differ : k ≢ n = λ e. omega arith in
+    subtrees_apart ds all k n differ (omega arith) inside is.item.place
+    (rw same_place at (spread_below ds all k (omega arith) was.item was.there))
+    (spread_below ds all n inside is.item is.there))
+    before
     (known_same KnownFragmentNames None (HasEntry fragments) (IsFragmentName ds) (at ds n).spreads mid new
     (λ name has. some_is (fragment_named ds name) (rw (← are name) has))
     (λ name (number, is). rw (are name, is) refl)
@@ -93,13 +102,20 @@ pub used_more :
     (ds : List Parts) (n : ℕ) (old new : Violations) → UsedAt ds n → Adds (Below (UnusedAt ds) n) (AllBelow (UsedAt ds) n) old new
     → Adds (Below (UnusedAt ds) (n + 1)) (AllBelow (UsedAt ds) (n + 1)) old new
 used_more ds n old new used adds =
-    adds_more (UnusedAt ds) (UsedAt ds) n old new new adds (adds_nothing (UnusedAt ds n) (UsedAt ds n) new (λ b so. so.0 used) used)
+    adds_more (UnusedAt ds) (UsedAt ds) n old new new (λ k less b was so. so.0 used) adds
+    (adds_nothing (UnusedAt ds n) (UsedAt ds n) new (λ b so. so.0 used) used)
+
+one_definition : (ds : List Parts) → AreInOneDocument ds → (k n : ℕ) → k < n → n < length ds → place_at ds k ≢ place_at ds n
+one_definition ds all k n less inside = own_place ds all k n (λ e. omega arith) (omega arith) inside
 
 pub unused_more :
-    (ds : List Parts) (n : ℕ) (old mid new : Violations) → ¬ UsedAt ds n → Adds (Below (UnusedAt ds) n) (AllBelow (UsedAt ds) n) old mid
+    (ds : List Parts) (n : ℕ) (old mid new : Violations) → AreInOneDocument ds → n < length ds → ¬ UsedAt ds n
+    → Adds (Below (UnusedAt ds) n) (AllBelow (UsedAt ds) n) old mid
     → Adds (λ b. b ≡ breach NoUnusedFragments (place_at ds n) None) ⊥ mid new → Adds (Below (UnusedAt ds) (n + 1)) (AllBelow (UsedAt ds) (n + 1)) old new
-unused_more ds n old mid new unused before adds =
-    adds_more (UnusedAt ds) (UsedAt ds) n old mid new before
+unused_more ds n old mid new all inside unused before adds =
+    adds_more (UnusedAt ds) (UsedAt ds) n old mid new
+    (λ k less b was so. one_definition ds all k n less inside (ap (λ (x : Breach). x.place) (sym was.1 ∙ so.1)))
+    before
     (adds_same (λ b. b ≡ breach NoUnusedFragments (place_at ds n) None) (UnusedAt ds n) ⊥ (UsedAt ds n) mid new
     (λ b is. (unused, is)) (λ b so. so.1) (λ none. absurd none) adds)
 
@@ -176,9 +192,10 @@ pub no_cycle_more :
     → Adds (Below (CycleAt ds) n) (AllBelow (NoCycleAt ds) n) old new → Adds (Below (CycleAt ds) (n + 1)) (AllBelow (NoCycleAt ds) (n + 1)) old new
 no_cycle_more ds graph n old new spreads none adds =
     let well = no_return ds graph n spreads none in
-    adds_more (CycleAt ds) (NoCycleAt ds) n old new new adds
-    (adds_nothing (CycleAt ds n) (NoCycleAt ds n) new
-    (λ b (spread, other, inside, target, back, before, is). well other (spread, inside, get_or_default _ spread other 0 inside ∙ target) back) well)
+    let no_breach : (b : Breach) → ¬ CycleAt ds n b =
+    λ b (spread, other, inside, target, back, before, is). well other (spread, inside, get_or_default _ spread other 0 inside ∙ target) back in
+    adds_more (CycleAt ds) (NoCycleAt ds) n old new new (λ k less b was. no_breach b) adds
+    (adds_nothing (CycleAt ds n) (NoCycleAt ds n) new no_breach well)
 
 -- two first ones are one
 same_first :
@@ -197,17 +214,20 @@ same_first ds k i j a b is_a back_a none_a is_b back_b none_b =
 
 -- it is
 pub cycle_more :
-    (ds : List Parts) (graph : Graph) (n other : ℕ) (old mid new : Violations) → IsSpreadGraph ds graph → IsReturn graph n (Some other)
-    → Adds (Below (CycleAt ds) n) (AllBelow (NoCycleAt ds) n) old mid
+    (ds : List Parts) (graph : Graph) (n other : ℕ) (old mid new : Violations) → AreInOneDocument ds → n < length ds → IsSpreadGraph ds graph
+    → IsReturn graph n (Some other) → Adds (Below (CycleAt ds) n) (AllBelow (NoCycleAt ds) n) old mid
     → Adds (λ b. b ≡ breach NoFragmentCycles (place_at ds n) (Some (place_at ds other))) ⊥ mid new
     → Adds (Below (CycleAt ds) (n + 1)) (AllBelow (NoCycleAt ds) (n + 1)) old new
-cycle_more ds graph n other old mid new spreads (spread, inside, target, back, none) before adds =
+cycle_more ds graph n other old mid new all within spreads (spread, inside, target, back, none) before adds =
     let inside_targets : spread < length (targets ds (at ds n)) = rw (← spreads.edges n) inside in
     let is_target : get_or (targets ds (at ds n)) spread 0 ≡ other = rw (← spreads.edges n) target in
     let leads = to_reaches ds graph (other ∷ []) spreads n back in
     let none_before : (j : ℕ) → j < spread → ¬ LeadsBack ds n (get_or (targets ds (at ds n)) j 0) =
     λ j less leads_back. none j less (rw spreads.edges (from_reaches ds graph (get_or (targets ds (at ds n)) j 0 ∷ []) spreads n leads_back)) in
-    adds_more (CycleAt ds) (NoCycleAt ds) n old mid new before
+    adds_more (CycleAt ds) (NoCycleAt ds) n old mid new
+    (λ k less b (i, o, i_in, i_is, o_back, o_first, at_k) (j, p, j_in, j_is, p_back, p_first, at_n).
+    one_definition ds all k n less within (ap (λ (x : Breach). x.place) (sym at_k ∙ at_n)))
+    before
     (adds_same (λ b. b ≡ breach NoFragmentCycles (place_at ds n) (Some (place_at ds other))) (CycleAt ds n) ⊥ (NoCycleAt ds n) mid new
     (λ b e. (spread, other, inside_targets, is_target, leads, none_before, e))
     (λ b (i, o, inside_i, target_i, back_i, none_i, e).

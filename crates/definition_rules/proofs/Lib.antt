@@ -1,7 +1,10 @@
 pub mod AddLemmas
+pub mod ApartLemmas
 pub mod FragmentLemmas
 pub mod NameLemmas
 pub mod OperationLemmas
+pub mod PairLemmas
 pub mod PartsLemmas
 pub mod SpreadLemmas
+pub mod TreeLemmas
 pub mod VariableLemmas

@@ -14,7 +14,7 @@ use Rattle.executable_document.specs.Mentions.{Named, as_named}
 use Rattle.definition_rules.specs.declared.violations.Rule.{Rule}
 use Rattle.definition_rules.specs.declared.violations.Violations.{Violations}
 use Rattle.definition_rules.specs.Violations.{Breach, breach, Adds, count}
-use Rattle.definition_rules.specs.Rules.{item_at, names, IsUnknown, AreKnown, Repeats, AreUnique}
+use Rattle.definition_rules.specs.Rules.{item_at, names, AreApart, IsUnknown, AreKnown, Repeats, AreUnique}
 use Rattle.definition_rules.proofs.AddLemmas.{Below, AllBelow, adds_full, adds_more, adds_nothing, adds_same}
 
 abbrev pub no_item : Named
@@ -79,17 +79,20 @@ pub known_more :
     → Adds (Below (UnknownAt rule other IsKnown items) n) (AllBelow (KnownAt IsKnown items) n) old new
     → Adds (Below (UnknownAt rule other IsKnown items) (n + 1)) (AllBelow (KnownAt IsKnown items) (n + 1)) old new
 known_more rule other IsKnown items n old new known adds =
-    adds_more (UnknownAt rule other IsKnown items) (KnownAt IsKnown items) n old new new adds
+    adds_more (UnknownAt rule other IsKnown items) (KnownAt IsKnown items) n old new new (λ k below b was so. so.0 known) adds
     (adds_nothing (UnknownAt rule other IsKnown items n) (KnownAt IsKnown items n) new (λ b so. so.0 known) known)
 
 -- it is not
 pub unknown_more :
-    (rule : Rule) (other : Option Place) (IsKnown : Name → Type 0) (items : List Named) (n : ℕ) (old mid new : Violations) → ¬ IsKnown (item_at items n).name
+    (rule : Rule) (other : Option Place) (IsKnown : Name → Type 0) (items : List Named) (n : ℕ) (old mid new : Violations) → AreApart items → n < length items
+    → ¬ IsKnown (item_at items n).name
     → Adds (Below (UnknownAt rule other IsKnown items) n) (AllBelow (KnownAt IsKnown items) n) old mid
     → Adds (λ b. b ≡ breach rule (item_at items n).place other) ⊥ mid new
     → Adds (Below (UnknownAt rule other IsKnown items) (n + 1)) (AllBelow (KnownAt IsKnown items) (n + 1)) old new
-unknown_more rule other IsKnown items n old mid new unknown before adds =
-    adds_more (UnknownAt rule other IsKnown items) (KnownAt IsKnown items) n old mid new before
+unknown_more rule other IsKnown items n old mid new apart inside unknown before adds =
+    adds_more (UnknownAt rule other IsKnown items) (KnownAt IsKnown items) n old mid new
+    (λ k below b (was, first) (is, second). apart k n no_item below inside (ap (λ (x : Breach). x.place) (sym first ∙ second)))
+    before
     (adds_same (λ b. b ≡ breach rule (item_at items n).place other) (UnknownAt rule other IsKnown items n) ⊥ (KnownAt IsKnown items n) mid new
     (λ b is. (unknown, is)) (λ b so. so.1) (λ none. absurd none) adds)
 
@@ -175,18 +178,20 @@ pub unique_more :
     → Adds (Below (RepeatAt rule items) n) (AllBelow (UniqueAt items) n) old new
     → Adds (Below (RepeatAt rule items) (n + 1)) (AllBelow (UniqueAt items) (n + 1)) old new
 unique_more rule items n old new below none adds =
-    adds_more (RepeatAt rule items) (UniqueAt items) n old new new adds
+    adds_more (RepeatAt rule items) (UniqueAt items) n old new new (λ k less b was. none_repeated rule items n below none b) adds
     (adds_nothing (RepeatAt rule items n) (UniqueAt items n) new (none_repeated rule items n below none) (none_equal items n below none))
 
 -- it is not
 pub repeat_more :
-    (rule : Rule) (items : List Named) (n first : ℕ) (old mid new : Violations) → n < length items
+    (rule : Rule) (items : List Named) (n first : ℕ) (old mid new : Violations) → AreApart items → n < length items
     → first_number (take n (names items)) (item_at items n).name ≡ Some first → Adds (Below (RepeatAt rule items) n) (AllBelow (UniqueAt items) n) old mid
     → Adds (λ b. b ≡ breach rule (item_at items n).place (Some (item_at items first).place)) ⊥ mid new
     → Adds (Below (RepeatAt rule items) (n + 1)) (AllBelow (UniqueAt items) (n + 1)) old new
-repeat_more rule items n first old mid new below is before adds =
+repeat_more rule items n first old mid new apart below is before adds =
     let front = first_in_front (names items) n first (item_at items n).name (within_names items n below) is in
-    adds_more (RepeatAt rule items) (UniqueAt items) n old mid new before
+    adds_more (RepeatAt rule items) (UniqueAt items) n old mid new
+    (λ k less b (f, f_less, f_is, at_k) (g, g_less, g_is, at_n). apart k n no_item less below (ap (λ (x : Breach). x.place) (sym at_k ∙ at_n)))
+    before
     (adds_same (λ b. b ≡ breach rule (item_at items n).place (Some (item_at items first).place)) (RepeatAt rule items n) ⊥ (UniqueAt items n) mid new
     (λ b e. (first, front.0, front.1, e))
     (λ b (other, less, is_other, e). let same : other ≡ first = (let f : Some other ≡ Some first = sym is_other ∙ front.1 in cc) in rw same at e)

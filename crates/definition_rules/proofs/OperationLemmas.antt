@@ -1,5 +1,5 @@
 -- Operations without a name, and definitions in the graph of the spreads.
-use Rattle.std.proofs.Common.{◌≡◌, ◌==◌, ℕ, zero, suc, ◌+◌, ◌<◌, ◌≤◌, List, [], ◌∷◌, length, map}
+use Rattle.std.proofs.Common.{◌≡◌, ◌≢◌, ◌==◌, ℕ, zero, suc, ◌+◌, ◌<◌, ◌≤◌, List, [], ◌∷◌, length, map}
 use Rattle.std.proofs.Common.{get_or, Bool, true, false, not, cond, Some, None, arith, refl, sym, ◌∙◌, ap, add-one}
 use Rattle.std.specs.List.{All, Contains, find, range_with_len}
 use Rattle.std.proofs.lemmas.Bool.Decides.{nat_tests}
@@ -11,9 +11,10 @@ use Rattle.definition_rules.specs.declared.violations.Rule.TheVariants.{LoneAnon
 use Rattle.definition_rules.specs.declared.reading.DefinitionParts.{DefinitionParts}
 use Rattle.definition_rules.specs.declared.violations.Violations.{Violations}
 use Rattle.definition_rules.specs.Violations.{Breach, breach, Adds, count}
-use Rattle.definition_rules.specs.Parts.{Parts, as_parts, at, place_at, operations, is_anonymous, is_operation, Reaches}
+use Rattle.definition_rules.specs.Parts.{AreInOneDocument, Parts, as_parts, at, place_at, operations, is_anonymous, is_operation, Reaches}
 use Rattle.definition_rules.specs.Graphs.{IsSpreadGraph}
 use Rattle.definition_rules.specs.Rules.{AnonymousIsAlone, IsNotAlone, IsOnlyOperation}
+use Rattle.definition_rules.proofs.ApartLemmas.{operations_apart, own_place}
 use Rattle.definition_rules.proofs.AddLemmas.{Below, AllBelow, adds_full, adds_more, adds_nothing, adds_same}
 
 pub operation_inside : (ds : List Parts) (number : ℕ) → Contains (operations ds) number → number < length ds
@@ -124,8 +125,9 @@ pub named_operation_more :
     (ds : List Parts) (n : ℕ) (old new : Violations) → is_anonymous (at ds (number_at ds n)) ≡ false
     → Adds (Below (NotAloneAt ds) n) (AllBelow (AloneAt ds) n) old new → Adds (Below (NotAloneAt ds) (n + 1)) (AllBelow (AloneAt ds) (n + 1)) old new
 named_operation_more ds n old new named adds =
-    adds_more (NotAloneAt ds) (AloneAt ds) n old new new adds
-    (adds_nothing (NotAloneAt ds n) (AloneAt ds n) new (λ b (other, anonymous, is_other, is). let e : true ≡ false = sym anonymous ∙ named in cc)
+    let no_breach : (b : Breach) → ¬ NotAloneAt ds n b = λ b (other, anonymous, is_other, is). let e : true ≡ false = sym anonymous ∙ named in cc in
+    adds_more (NotAloneAt ds) (AloneAt ds) n old new new (λ k less b was. no_breach b) adds
+    (adds_nothing (NotAloneAt ds n) (AloneAt ds n) new no_breach
     (λ anonymous. absurd (let e : true ≡ false = sym anonymous ∙ named in cc)))
 
 -- it is the only one
@@ -133,20 +135,32 @@ pub alone_more :
     (ds : List Parts) (n : ℕ) (old new : Violations) → find (λ j. not (j == number_at ds n)) (operations ds) ≡ None
     → Adds (Below (NotAloneAt ds) n) (AllBelow (AloneAt ds) n) old new → Adds (Below (NotAloneAt ds) (n + 1)) (AllBelow (AloneAt ds) (n + 1)) old new
 alone_more ds n old new none adds =
-    adds_more (NotAloneAt ds) (AloneAt ds) n old new new adds
-    (adds_nothing (NotAloneAt ds n) (AloneAt ds n) new (λ b (other, anonymous, is_other, is). let e : Some other ≡ None = sym is_other ∙ none in cc)
+    let no_breach : (b : Breach) → ¬ NotAloneAt ds n b = λ b (other, anonymous, is_other, is). let e : Some other ≡ None = sym is_other ∙ none in cc in
+    adds_more (NotAloneAt ds) (AloneAt ds) n old new new (λ k less b was. no_breach b) adds
+    (adds_nothing (NotAloneAt ds n) (AloneAt ds n) new no_breach
     (λ anonymous other there.
     let same = find_none (λ j. not (j == number_at ds n)) (operations ds) other none there in
     grind (arith, nat_tests, same)))
 
+-- two operations are at different places
+pub two_operations :
+    (ds : List Parts) → AreInOneDocument ds → (k n : ℕ) → k < n → n < length (operations ds) → place_at ds (number_at ds k) ≢ place_at ds (number_at ds n)
+two_operations ds all k n less inside =
+    own_place ds all (number_at ds k) (number_at ds n) (operations_apart ds k n 0 less inside)
+    (operation_inside ds (number_at ds k) (Contains-get_or (operations ds) k 0 (omega arith)))
+    (operation_inside ds (number_at ds n) (Contains-get_or (operations ds) n 0 inside))
+
 -- there is another
 pub not_alone_more :
-    (ds : List Parts) (n other : ℕ) (old mid new : Violations) → is_anonymous (at ds (number_at ds n)) ≡ true
+    (ds : List Parts) (n other : ℕ) (old mid new : Violations) → AreInOneDocument ds → n < length (operations ds)
+    → is_anonymous (at ds (number_at ds n)) ≡ true
     → find (λ j. not (j == number_at ds n)) (operations ds) ≡ Some other → Adds (Below (NotAloneAt ds) n) (AllBelow (AloneAt ds) n) old mid
     → Adds (λ b. b ≡ breach LoneAnonymousOperation (place_at ds (number_at ds n)) (Some (place_at ds other))) ⊥ mid new
     → Adds (Below (NotAloneAt ds) (n + 1)) (AllBelow (AloneAt ds) (n + 1)) old new
-not_alone_more ds n other old mid new anonymous is before adds =
-    adds_more (NotAloneAt ds) (AloneAt ds) n old mid new before
+not_alone_more ds n other old mid new all inside anonymous is before adds =
+    adds_more (NotAloneAt ds) (AloneAt ds) n old mid new
+    (λ k less b (o, a, a_is, at_k) (p, c, c_is, at_n). two_operations ds all k n less inside (ap (λ (x : Breach). x.place) (sym at_k ∙ at_n)))
+    before
     (adds_same (λ b. b ≡ breach LoneAnonymousOperation (place_at ds (number_at ds n)) (Some (place_at ds other))) (NotAloneAt ds n) ⊥ (AloneAt ds n) mid new
     (λ b e. (other, anonymous, is, e))
     (λ b (o, a, is_o, e). let same : o ≡ other = (let f : Some o ≡ Some other = sym is_o ∙ is in cc) in rw same at e)

@@ -1,9 +1,10 @@
 -- Names that are entered, and the variables of one operation after another.
-use Rattle.std.proofs.Common.{◌≡◌, ◌⊎◌, ℕ, ◌≤◌, List, [], ◌∷◌, ◌++◌, length, get_or, Bool, true}
-use Rattle.std.proofs.Common.{false, cond, is_some, Some, unwrap_or, bytes_eq, arith, refl, ◌∙◌, inl, inr, ⊎_elim}
+use Rattle.std.proofs.Common.{◌≡◌, ◌≢◌, ◌⊎◌, ℕ, ◌<◌, ◌≤◌, List, [], ◌∷◌, ◌++◌, length, get_or, Bool, true}
+use Rattle.std.proofs.Common.{false, cond, is_some, Some, unwrap_or, bytes_eq, arith, refl, sym, ap, ◌∙◌, inl, inr, ⊎_elim}
 use Rattle.std.specs.Prelude.{◌↔◌}
-use Rattle.std.specs.List.{Contains}
+use Rattle.std.specs.List.{All, AllPairs, Contains}
 use Rattle.std.proofs.lemmas.List.{get_or_default}
+use Rattle.std.proofs.lemmas.Option.{same_Some}
 use Rattle.std.proofs.lemmas.List.Elements.{Contains-append_left, Contains-get_or, Contains-push, Contains-push_cases}
 use Rattle.std.proofs.lemmas.Slice.Eq.{bytes_eq-Decides}
 use Rattle.executable_document.specs.Names.{Name, Entries, Enters, HasEntry, entry_of}
@@ -13,9 +14,11 @@ use Rattle.definition_rules.specs.declared.violations.Violations.{Violations}
 use Rattle.definition_rules.specs.Violations.{Breach, Adds, count}
 use Rattle.definition_rules.specs.Graphs.{IsSpreadGraph}
 use Rattle.definition_rules.specs.Known.{AreReached, DefinedIn, EntersNames, IsUsedAmong, UndefinedIn}
-use Rattle.definition_rules.specs.Parts.{Parts, at}
-use Rattle.definition_rules.specs.Rules.{AllAmong, Among, HasName, IsUndefinedVariable, IsUsed, VariablesAreDefined}
-use Rattle.definition_rules.proofs.OperationLemmas.{from_reaches, to_reaches}
+use Rattle.definition_rules.specs.Parts.{AreInOneDocument, Parts, at, operations, place_at}
+use Rattle.definition_rules.specs.Rules.{AllAmong, Among, BreaksVariablesOf, HasName, IsUndefinedVariable, IsUnusedVariable, IsUsed, VariablesAreDefined}
+use Rattle.definition_rules.specs.declared.violations.Rule.TheVariants.{NoUndefinedVariables, NoUnusedVariables}
+use Rattle.definition_rules.proofs.ApartLemmas.{subtrees_apart, used_below}
+use Rattle.definition_rules.proofs.OperationLemmas.{from_reaches, to_reaches, two_operations}
 use Rattle.definition_rules.proofs.AddLemmas.{Below, AllBelow, adds_full, adds_same}
 
 -- ---- names
@@ -160,3 +163,37 @@ undefined_of ds operation numbers old new are adds =
     (λ b so. (so.number, (are.each so.number).1 so.reached, so.unknown))
     (λ all number reached. all number ((are.each number).1 reached))
     adds
+
+-- ---- breaches that differ
+-- two definitions have no use of a variable in common
+pub undefined_apart :
+    (ds : List Parts) (operation : ℕ) (numbers : List ℕ) → AreInOneDocument ds → All (λ number. number < length ds) numbers
+    → AllPairs (λ j k. j ≢ k) numbers → (k n : ℕ) → k < n → n < length numbers → (b : Breach) → UndefinedIn ds operation (get_or numbers k 0) b
+    → ¬ UndefinedIn ds operation (get_or numbers n 0) b
+undefined_apart ds operation numbers all inside distinct k n less below b was is =
+    let same_place : was.item.place ≡ is.item.place = ap (λ (x : Breach). x.place) (sym was.is ∙ is.is) in
+    let first_inside = inside k 0 (omega arith) in
+    let second_inside = inside n 0 below in
+    subtrees_apart ds all (get_or numbers k 0) (get_or numbers n 0) (distinct k n 0 less below) first_inside second_inside is.item.place
+    (rw same_place at (used_below ds all (get_or numbers k 0) first_inside was.item was.there))
+    (used_below ds all (get_or numbers n 0) second_inside is.item is.there)
+
+-- the other party is the operation
+variables_other : (ds : List Parts) (operation : ℕ) (b : Breach) → BreaksVariablesOf ds operation b → b.other ≡ Some (place_at ds operation)
+variables_other ds operation b =
+    ⊎_elim
+    (λ (unused : IsUnusedVariable ds operation b). ap (λ (x : Breach). x.other) unused.is)
+    (λ (undefined : IsUndefinedVariable ds operation b). ap (λ (x : Breach). x.other) undefined.unknown.is)
+
+pub variables_apart :
+    (ds : List Parts) (numbers : List ℕ) → AreInOneDocument ds → numbers ≡ operations ds → (k n : ℕ) → k < n → n < length numbers → (b : Breach)
+    → BreaksVariablesOf ds (get_or numbers k 0) b → ¬ BreaksVariablesOf ds (get_or numbers n 0) b
+variables_apart ds numbers all are k n less below b was is =
+    two_operations ds all k n less (rw are at below)
+    (same_Some (place_at ds (get_or (operations ds) k 0)) (place_at ds (get_or (operations ds) n 0))
+    (sym (variables_other ds (get_or (operations ds) k 0) b (rw are at was)) ∙ variables_other ds (get_or (operations ds) n 0) b (rw are at is)))
+
+pub unused_or_undefined : (ds : List Parts) (operation : ℕ) (b : Breach) → IsUnusedVariable ds operation b → ¬ IsUndefinedVariable ds operation b
+unused_or_undefined ds operation b unused undefined =
+    let e : NoUnusedVariables ≡ NoUndefinedVariables = ap (λ (x : Breach). x.rule) (sym unused.is ∙ undefined.unknown.is) in
+    cc

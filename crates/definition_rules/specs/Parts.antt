@@ -1,5 +1,5 @@
 -- What the rules ask of operations and fragments: their names, and the names that they mention.
-use Rattle.std.specs.Prelude.{ℕ, List, [], length, map, Bool, true, false, Option, None, is_none, slice_index_or}
+use Rattle.std.specs.Prelude.{◌≡◌, ℕ, List, [], length, map, Bool, true, false, Option, None, is_none, slice_index_or}
 use Rattle.std.specs.List.{Contains, filter, filter_map, range_with_len}
 use Rattle.document_grammar.specs.Forests.{none}
 use Rattle.apollo_tree.specs.Order.{Place}
@@ -7,7 +7,7 @@ use Rattle.executable_document.specs.Names.{Name, first_number}
 use Rattle.directed_graph.specs.Graph.{Reached}
 use Rattle.executable_document.specs.declared.executables.DefinitionKind.TheVariants.{Operation, Fragment}
 use Rattle.executable_document.specs.declared.mentioning.MentionKind.TheVariants.{Spread, Declared, Used}
-use Rattle.executable_document.specs.Definitions.{Defined, as_defined, fragment_names}
+use Rattle.executable_document.specs.Definitions.{Defined, as_defined, defined, fragment_names}
 use Rattle.executable_document.specs.Mentions.{Named, as_named, mentions}
 use Rattle.definition_rules.specs.declared.reading.DefinitionParts.{DefinitionParts}
 
@@ -34,6 +34,14 @@ parts_of d = record {
   declared = mentions Declared d.place;
   used = mentions Used d.place;
 }
+
+-- the operations and fragments of a document
+abbrev pub parts_in : Place → List Parts
+parts_in document = map parts_of (defined document)
+
+pub record AreInOneDocument (ds : List Parts) : Type 0 where
+  pub document : Place
+  pub are : ds ≡ parts_in document
 
 abbrev pub definitions : List Parts → List Defined
 definitions ds = map (λ d. d.definition) ds

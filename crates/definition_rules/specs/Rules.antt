@@ -1,6 +1,6 @@
 -- Rules of section 5 of the standard (GraphQL October 2021) on operations and fragments. Each is said twice: what a document keeps, and what breaks it.
 use Rattle.std.specs.Prelude.{◌≡◌, ◌≢◌, ◌⊎◌, ◌==◌, ℕ, ◌<◌, List, [], ◌∷◌, length, map, true, not, Option, Some, None, slice_index_or}
-use Rattle.std.specs.List.{Contains, find}
+use Rattle.std.specs.List.{AllPairs, Contains, find}
 use Rattle.apollo_tree.specs.Order.{Place}
 use Rattle.executable_document.specs.Names.{Name, first_number}
 use Rattle.executable_document.specs.Mentions.{Named}
@@ -16,6 +16,10 @@ item_at items number = slice_index_or items number (record { place = nowhere; na
 
 abbrev pub names : List Named → List (Option Name)
 names items = map (λ (i : Named). Some i.name) items
+
+-- no two items are one element
+abbrev pub AreApart : List Named → Type 0
+AreApart items = AllPairs (λ a b. a.place ≢ b.place) items
 
 -- no two items have the same name
 abbrev pub AreUnique : List Named → Type 0

@@ -1,6 +1,6 @@
 -- Breaches of rules, and lists of them that are filled up to a bound.
-use Rattle.std.specs.Prelude.{◌≡◌, ◌⊎◌, ℕ, ◌<◌, ◌≤◌, List, length, map, Option, option_map}
-use Rattle.std.specs.List.{Contains}
+use Rattle.std.specs.Prelude.{◌≡◌, ◌≢◌, ◌⊎◌, ℕ, ◌<◌, ◌≤◌, List, length, map, Option, option_map}
+use Rattle.std.specs.List.{AllPairs, Contains}
 use Rattle.apollo_tree.specs.Order.{Place}
 use Rattle.apollo_tree.specs.References.{node_place}
 use Rattle.definition_rules.specs.declared.violations.Rule.{Rule}
@@ -23,6 +23,10 @@ as_breach v = breach v.rule (node_place v.node) (option_map node_place v.other)
 abbrev pub found : Violations → List Breach
 found violations = map as_breach violations.list.items
 
+-- no breach is there twice
+abbrev pub AreDistinct : List Breach → Type 0
+AreDistinct breaches = AllPairs (λ a b. a ≢ b) breaches
+
 abbrev pub count : Violations → ℕ
 count violations = length violations.list.items
 
@@ -35,3 +39,5 @@ pub record Adds (Breaks : Breach → Type 0) (IsWell : Type 0) (old new : Violat
   pub grows : count old ≤ count new
   pub few : count old ≤ old.most → count new ≤ old.most
   pub well : count new < old.most → count new ≤ count old → IsWell
+  -- each was added once: if none of them was there before, none is there twice
+  pub distinct : ((b : Breach) → Contains (found old) b → ¬ Breaks b) → AreDistinct (found old) → AreDistinct (found new)

@@ -4,8 +4,8 @@ ghost use Rattle.std.specs.List.{find};
 ghost use Rattle.apollo_tree.specs.References.{node_place};
 ghost use Rattle.executable_document.specs.Names.{HasEntry};
 ghost use Rattle.executable_document.specs.Mentions.{as_named};
-ghost use Rattle.definition_rules.specs.Parts.{as_parts, operations};
-ghost use Rattle.definition_rules.specs.Rules.{AnonymousIsAlone, AreKnown, AreUnique, IsNotAlone, IsUnknown, Repeats};
+ghost use Rattle.definition_rules.specs.Parts.{AreInOneDocument, as_parts, operations};
+ghost use Rattle.definition_rules.specs.Rules.{AnonymousIsAlone, AreApart, AreKnown, AreUnique, IsNotAlone, IsUnknown, Repeats};
 ghost use Rattle.definition_rules.specs.Violations.{Adds, breach};
 
 use crate::reading::{DefinitionParts, part_at};
@@ -27,13 +27,14 @@ fn add_repeat<'t>(
     violations.add(rule, item.node, Some(first.node))
 }
 
-/// Adds the items with the name of an earlier one.
+/// Adds the items with the name of an earlier one. No two of them are the same node.
 pub fn add_repeats<'t>(
     alloc: Global,
     violations: &mut Violations<'t>,
     rule: Rule,
     items: &[Mention<'t>],
 ) -> Result<(), AllocError>
+    requires { AreApart (map as_named items.now) }
     ensures { OnOk result (Adds (Repeats rule (map as_named items.now)) (AreUnique (map as_named items.now)) violations.old violations.new) }
 {
     let mut numbers: BTreeMap<&'t str, usize> = BTreeMap::new(alloc);
@@ -48,7 +49,7 @@ pub fn add_repeats<'t>(
     Ok(())
 }
 
-/// Adds the items whose name is not entered.
+/// Adds the items whose name is not entered. No two of them are the same node.
 pub(crate) fn add_unknown<'t, V>(
     violations: &mut Violations<'t>,
     rule: Rule,
@@ -56,6 +57,7 @@ pub(crate) fn add_unknown<'t, V>(
     items: &[Mention<'t>],
     known: &BTreeMap<&'t str, V>,
 ) -> Result<(), AllocError>
+    requires { AreApart (map as_named items.now) }
     ensures { OnOk result (Adds (IsUnknown rule (option_map node_place other.entry) (HasEntry known.now) (map as_named items.now)) (AreKnown (HasEntry known.now) (map as_named items.now)) violations.old violations.new) }
 {
     for item in items {
@@ -82,7 +84,8 @@ pub fn add_anonymous<'t>(
     parts: &[DefinitionParts<'t>],
     numbers: &[usize],
 ) -> Result<(), AllocError>
-    requires { numbers.now ≡ operations (map as_parts parts.now) }
+    requires document { AreInOneDocument (map as_parts parts.now) }
+    requires numbers { numbers.now ≡ operations (map as_parts parts.now) }
     ensures { OnOk result (Adds (IsNotAlone (map as_parts parts.now)) (AnonymousIsAlone (map as_parts parts.now)) violations.old violations.new) }
 {
     for number in numbers {

@@ -4,7 +4,7 @@ ghost use Rattle.directed_graph.specs.Graph.{IsClosed};
 ghost use Rattle.executable_document.specs.Definitions.{fragment_names};
 ghost use Rattle.executable_document.specs.Names.{AreFirstNumbers};
 ghost use Rattle.definition_rules.specs.Graphs.{IsSpreadGraph};
-ghost use Rattle.definition_rules.specs.Parts.{as_parts, definitions, operations};
+ghost use Rattle.definition_rules.specs.Parts.{AreInOneDocument, as_parts, definitions, operations};
 ghost use Rattle.definition_rules.specs.Rules.{FragmentsAreUsed, HasNoCycles, IsOnCycle, IsUndefinedSpread, IsUnusedFragment, SpreadsAreDefined};
 ghost use Rattle.definition_rules.specs.Violations.{Adds};
 
@@ -21,7 +21,8 @@ pub fn add_undefined_spreads<'t>(
     parts: &[DefinitionParts<'t>],
     fragments: &BTreeMap<&'t str, usize>,
 ) -> Result<(), AllocError>
-    requires { AreFirstNumbers fragments.now (fragment_names (definitions (map as_parts parts.now))) }
+    requires document { AreInOneDocument (map as_parts parts.now) }
+    requires fragments { AreFirstNumbers fragments.now (fragment_names (definitions (map as_parts parts.now))) }
     ensures { OnOk result (Adds (IsUndefinedSpread (map as_parts parts.now)) (SpreadsAreDefined (map as_parts parts.now)) violations.old violations.new) }
 {
     for number in 0..parts.len() {
@@ -47,6 +48,7 @@ pub fn add_unused_fragments<'t>(
     graph: &[Vec<usize>],
     numbers: &[usize],
 ) -> Result<(), AllocError>
+    requires document { AreInOneDocument (map as_parts parts.now) }
     requires graph { IsSpreadGraph (map as_parts parts.now) graph.now }
     requires closed { IsClosed graph.now }
     requires numbers { numbers.now ≡ operations (map as_parts parts.now) }
@@ -72,6 +74,7 @@ pub fn add_cycles<'t>(
     parts: &[DefinitionParts<'t>],
     graph: &[Vec<usize>],
 ) -> Result<(), AllocError>
+    requires document { AreInOneDocument (map as_parts parts.now) }
     requires graph { IsSpreadGraph (map as_parts parts.now) graph.now }
     requires closed { IsClosed graph.now }
     ensures { OnOk result (Adds (IsOnCycle (map as_parts parts.now)) (HasNoCycles (map as_parts parts.now)) violations.old violations.new) }

@@ -2,12 +2,12 @@
 ghost use Rattle.std.specs.Prelude.{◌≡◌, ◌↔◌, ◌<◌, OnOk, IfOk, length, map};
 ghost use Rattle.std.specs.List.{All};
 ghost use Rattle.directed_graph.specs.Graph.{IsClosed};
-ghost use Rattle.directed_graph.specs.Marks.{AreUnmarked};
+ghost use Rattle.directed_graph.specs.Marks.{AreDistinct, AreUnmarked};
 ghost use Rattle.executable_document.specs.Mentions.{as_named};
 ghost use Rattle.executable_document.specs.Names.{HasEntry, Name};
 ghost use Rattle.definition_rules.specs.Graphs.{IsSpreadGraph};
 ghost use Rattle.definition_rules.specs.Known.{AreReached, DefinedIn, EntersNames, IsUsedAmong, UndefinedIn};
-ghost use Rattle.definition_rules.specs.Parts.{as_parts, operations};
+ghost use Rattle.definition_rules.specs.Parts.{AreInOneDocument, as_parts, operations};
 ghost use Rattle.definition_rules.specs.Rules.{AllAmong, Among, BreaksVariables, BreaksVariablesOf, IsDeclared, IsUnusedVariable, VariablesAreUsed, VariablesAreWell, VariablesAreWellOf};
 ghost use Rattle.definition_rules.specs.Violations.{Adds};
 
@@ -70,6 +70,7 @@ fn add_unused<'t>(
     operation: usize,
     reached: &[usize],
 ) -> Result<(), AllocError>
+    requires document { AreInOneDocument (map as_parts parts.now) }
     requires operation { operation < length parts.now }
     requires inside { All (λ number. number < length parts.now) reached.now }
     requires reached { AreReached (map as_parts parts.now) operation reached.now }
@@ -90,8 +91,10 @@ fn add_undefined<'t>(
     numbers: &[usize],
     declared: &BTreeMap<&'t str, usize>,
 ) -> Result<(), AllocError>
+    requires document { AreInOneDocument (map as_parts parts.now) }
     requires operation { operation < length parts.now }
     requires numbers { All (λ number. number < length parts.now) numbers.now }
+    requires distinct { AreDistinct numbers.now }
     requires declared { (name : Name) → HasEntry declared.now name ↔ IsDeclared (map as_parts parts.now) operation name }
     ensures { OnOk result (Adds (Among numbers.now (UndefinedIn (map as_parts parts.now) operation)) (AllAmong numbers.now (DefinedIn (map as_parts parts.now) operation)) violations.old violations.new) }
 {
@@ -121,6 +124,7 @@ fn add_operation<'t>(
     marks: &mut Vec<bool>,
     operation: usize,
 ) -> Result<(), AllocError>
+    requires document { AreInOneDocument (map as_parts parts.now) }
     requires graph { IsSpreadGraph (map as_parts parts.now) graph.now }
     requires closed { IsClosed graph.now }
     requires operation { operation < length parts.now }
@@ -146,6 +150,7 @@ pub fn add_variables<'t>(
     graph: &[Vec<usize>],
     numbers: &[usize],
 ) -> Result<(), AllocError>
+    requires document { AreInOneDocument (map as_parts parts.now) }
     requires graph { IsSpreadGraph (map as_parts parts.now) graph.now }
     requires closed { IsClosed graph.now }
     requires numbers { numbers.now ≡ operations (map as_parts parts.now) }

@@ -6,8 +6,9 @@ use Rattle.std.specs.List.{Contains}
 use Rattle.std.proofs.lemmas.Bool.{cases_eq}
 use Rattle.std.proofs.lemmas.List.{get_or_default}
 use Rattle.std.proofs.lemmas.List.Sums.{sum_by-set}
-use Rattle.std.proofs.lemmas.List.Elements.{Contains-append_left, Contains-push, Contains-push_cases}
-use Rattle.directed_graph.specs.Marks.{IsMarked, MarksAll, Unmarks, unmarked}
+use Rattle.std.proofs.lemmas.List.Elements.{Contains-append_cases, Contains-append_left, Contains-get_or, Contains-push, Contains-push_cases}
+use Rattle.std.proofs.lemmas.List.Quantifiers.{all_pairs_push}
+use Rattle.directed_graph.specs.Marks.{AreMarked, IsMarked, MarksAll, Unmarks, unmarked}
 
 pub marks_old :
     (row : List ℕ) (vertex : ℕ) (old new : List Bool) (found_old found_new : List ℕ) → IsMarked new vertex → MarksAll row old new found_old found_new
@@ -21,7 +22,18 @@ marks_old row vertex old new found_old found_new is so = record {
   from_row = λ p there. Contains-append_left row (vertex ∷ []) p (so.from_row p there);
   no_others = so.no_others;
   budget = so.budget;
+  distinct = so.distinct;
 }
+
+-- what was found before and what is found now is marked
+pub all_marked :
+    (row : List ℕ) (old new : List Bool) (found_old found_new : List ℕ) → MarksAll row old new found_old found_new → AreMarked old found_old
+    → AreMarked new found_new
+all_marked row old new found_old found_new so were vertex there =
+    ⊎_elim
+    (λ (was : Contains found_old vertex). so.kept vertex (were vertex was))
+    (λ (is : Contains so.added vertex). so.marked vertex (so.from_row vertex is))
+    (Contains-append_cases found_old so.added vertex (rw so.found at there))
 
 marked_after : (marks : List Bool) (vertex p : ℕ) → vertex < length marks → IsMarked marks p → IsMarked (set marks vertex true) p
 marked_after marks vertex p inside is =
@@ -78,6 +90,12 @@ marks_new row vertex old new found_old found_new inside is so = record {
       let less = one_less new vertex inside is in
       let b = so.budget in
       rw length-append (omega arith);
+  distinct = λ were apart.
+      all_pairs_push (λ a b. a ≢ b) found_new vertex (so.distinct were apart)
+      (λ k d below same.
+      let on = all_marked row old new found_old found_new so were (get_or found_new k d) (Contains-get_or found_new k d below) in
+      let e : true ≡ false = sym (rw same at on) ∙ is in
+      cc);
 }
 
 pub unmarks_none : (marks : List Bool) → Unmarks [] marks marks

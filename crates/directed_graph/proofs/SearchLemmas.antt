@@ -9,7 +9,8 @@ use Rattle.std.proofs.lemmas.Bool.{cases_eq}
 use Rattle.std.proofs.lemmas.List.{get_or_default}
 use Rattle.std.proofs.lemmas.List.Elements.{Contains-append_left, Contains-append_right, Contains-append_cases, Contains-get_or}
 use Rattle.directed_graph.specs.Graph.{Graph, row_of, HasEdge, IsClosed, Reached, start, next}
-use Rattle.directed_graph.specs.Marks.{IsMarked, AreUnmarked, MarksAll}
+use Rattle.directed_graph.specs.Marks.{AreDistinct, AreMarked, AreUnmarked, IsMarked, MarksAll}
+use Rattle.directed_graph.proofs.MarkLemmas.{all_marked}
 
 pub record Searched (graph : Graph) (starts : List ℕ) (marks : List Bool) (found : List ℕ) (done : ℕ) : Type 0 where
   pub as_many : length marks ≡ length graph
@@ -18,6 +19,8 @@ pub record Searched (graph : Graph) (starts : List ℕ) (marks : List Bool) (fou
   pub inside : (vertex : ℕ) → Contains found vertex → vertex < length graph
   pub sound : (vertex : ℕ) → Contains found vertex → Reached (HasEdge graph) starts vertex
   pub listed : (vertex : ℕ) → IsMarked marks vertex → Contains found vertex
+  pub marked : AreMarked marks found
+  pub distinct : AreDistinct found
   pub begun : (vertex : ℕ) → Contains starts vertex → IsMarked marks vertex
   -- the rows of those that are done are marked
   pub closed : (k to : ℕ) → k < done → HasEdge graph (slice_index found k) to → IsMarked marks to
@@ -32,6 +35,9 @@ search_begins graph starts unset marks found inside as_many unmarked empty is_em
     in_starts : (vertex : ℕ) → Contains starts vertex → vertex < length graph
     in_starts vertex (k, below, is) = rw is at (inside k vertex below)
 
+    none_marked : AreMarked unset []
+    none_marked vertex (k, below, is) = absurd (omega arith)
+
     begins : MarksAll starts unset marks [] found → Searched graph starts marks found 0
     begins so = record {
       as_many = so.as_many ∙ as_many;
@@ -43,6 +49,8 @@ search_begins graph starts unset marks found inside as_many unmarked empty is_em
           (λ (m : IsMarked unset vertex). absurd (unmarked vertex m))
           (λ (there : Contains so.added vertex). rw so.found there)
           (so.no_others vertex is);
+      marked = all_marked starts unset marks [] found so none_marked;
+      distinct = so.distinct none_marked (λ i j d less below. absurd (omega arith));
       begun = so.marked;
       closed = λ k to below. absurd (omega arith);
     }
@@ -70,6 +78,8 @@ search_goes_on graph starts old new found_old found_new done is_closed below bef
       (λ (was : IsMarked old vertex). rw so.found (Contains-append_left found_old so.added vertex (before.listed vertex was)))
       (λ (added : Contains so.added vertex). rw so.found (Contains-append_right found_old so.added vertex added))
       (so.no_others vertex is);
+  marked = all_marked (row_of graph at_done) old new found_old found_new so before.marked;
+  distinct = so.distinct before.marked before.distinct;
   begun = λ vertex there. so.kept vertex (before.begun vertex there);
   closed = λ k to less edge.
       ⊎_elim

@@ -2,7 +2,7 @@
 ghost use Rattle.std.specs.Prelude.{◌≡◌, ◌<◌, ◌↔◌, ℕ, [], ◌∷◌, length, IfOk, OnOk};
 ghost use Rattle.std.specs.List.{All, Contains};
 ghost use Rattle.directed_graph.specs.Graph.{HasEdge, IsClosed, Reached, row_of};
-ghost use Rattle.directed_graph.specs.Marks.{AreUnmarked, IsMarked, MarksAll, Unmarks};
+ghost use Rattle.directed_graph.specs.Marks.{AreDistinct, AreUnmarked, IsMarked, MarksAll, Unmarks};
 
 use std::alloc::{AllocError, Global};
 
@@ -43,6 +43,7 @@ fn search(
     ensures marked { OnOk result ((vertex : ℕ) → IsMarked marks.new.items vertex ↔ Reached (HasEdge graph.now) starts.now vertex) }
     ensures found { IfOk result (λ found. (vertex : ℕ) → Contains found.items vertex ↔ Reached (HasEdge graph.now) starts.now vertex) }
     ensures inside { IfOk result (λ found. All (λ vertex. vertex < length graph.now) found.items) }
+    ensures distinct { IfOk result (λ found. AreDistinct found.items) }
 {
     let mut found = Vec::new(alloc);
     mark_all(marks, &mut found, starts)?;
@@ -81,7 +82,7 @@ fn unmark(marks: &mut Vec<bool>, vertices: &[usize])
     }
 }
 
-/// The vertex itself and all that edges lead to from it. The marks are room for the search, one for each vertex: all unset before and after, so
+/// The vertex itself and all that edges lead to from it, each once. The marks are room for the search, one for each vertex: all unset before and after, so
 /// that a search takes time only for the vertices that it finds.
 pub fn reach(
     alloc: Global,
@@ -97,6 +98,7 @@ pub fn reach(
     ensures unmarked { OnOk result (AreUnmarked marks.new.items) }
     ensures found { IfOk result (λ found. (vertex : ℕ) → Contains found.items vertex ↔ Reached (HasEdge graph.now) (start ∷ []) vertex) }
     ensures inside { IfOk result (λ found. All (λ vertex. vertex < length graph.now) found.items) }
+    ensures distinct { IfOk result (λ found. AreDistinct found.items) }
 {
     let found = search(alloc, graph, &[start], marks)?;
     unmark(marks, &found);

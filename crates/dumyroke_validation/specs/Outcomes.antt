@@ -53,7 +53,7 @@ root parsed = record { whole = parsed.tree; index = 0 }
 
 -- These are the breaches that validation finds in a document, up to a bound, by the root of its tree.
 pub record AreFound (most : ℕ) (document : Place) (breaches : List Breach) : Type 0 where
-  -- all of them break a rule, and if there are fewer than the bound, no others do
+  -- all of them break a rule, none is there twice, and if there are fewer than the bound, no others do
   pub exact : AreBreaches most (BreaksAs (document_kind document) document) breaches
   -- there are none exactly if the document keeps all rules
   pub valid : 0 < most → (breaches ≡ []) ↔ IsValidAs (document_kind document) document

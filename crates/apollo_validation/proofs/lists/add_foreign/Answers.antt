@@ -1,6 +1,8 @@
 use Rattle.std.proofs.Common.{ap, ◌∙◌}
+use Rattle.apollo_tree.specs.References.{node_place}
 use Rattle.apollo_tree.specs.Yields.{rest_nodes}
 use Rattle.apollo_validation.specs.Lists.{IsExecutable, IsForeign}
+use Rattle.apollo_validation.proofs.ListLemmas.{foreign_apart}
 use Rattle.apollo_validation.proofs.WalkLemmas.{walk_begins, walk_ends, walk_goes_on}
 use Rattle.apollo_validation.proofs.lists.add_foreign.Goals as goal
 
@@ -8,7 +10,8 @@ pub loop-node-init : goal.loop-node-init
 loop-node-init c = walk_begins IsForeign IsExecutable _ _ _ (ap rest_nodes c.into_iter-node-iterator.ensures.into_iter_gives ∙ c.children-node-items.ensures)
 
 pub loop-node-preserved : goal.loop-node-preserved
-loop-node-preserved c = walk_goes_on IsForeign IsExecutable _ _ _ _ _ c.loop-node.violations _ c.in-Some.ensures.steps c.loop-node.invariant
+loop-node-preserved c = walk_goes_on IsForeign IsExecutable _ _ _ _ _ c.loop-node.violations _
+    (foreign_apart (node_place c.args.document.now)) c.in-Some.ensures.steps c.loop-node.invariant
     c.in_ok-add_if_foreign.ensures
 
 pub returns : goal.returns

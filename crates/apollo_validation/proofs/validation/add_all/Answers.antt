@@ -11,6 +11,27 @@ add_cycles-requires-clause-closed c = rw c.deref-4.ensures.value c.in_ok-graph.e
 pub add_variables-requires-clause-closed : goal.add_variables-requires-clause-closed
 add_variables-requires-clause-closed c = rw c.deref-5.ensures.value c.in_ok-graph.ensures.closed
 
+pub add_repeated_names-requires : goal.add_repeated_names-requires
+add_repeated_names-requires c = (node_place c.args.document.now, c.requires.definitions)
+
+pub add_repeated_names-requires-2 : goal.add_repeated_names-requires-2
+add_repeated_names-requires-2 c = (node_place c.args.document.now, c.requires.definitions)
+
+pub add_anonymous-requires-clause-document : goal.add_anonymous-requires-clause-document
+add_anonymous-requires-clause-document c = record { document = node_place c.args.document.now; are = c.requires.parts }
+
+pub add_unused_fragments-requires-clause-document : goal.add_unused_fragments-requires-clause-document
+add_unused_fragments-requires-clause-document c = record { document = node_place c.args.document.now; are = c.requires.parts }
+
+pub add_undefined_spreads-requires-clause-document : goal.add_undefined_spreads-requires-clause-document
+add_undefined_spreads-requires-clause-document c = record { document = node_place c.args.document.now; are = c.requires.parts }
+
+pub add_cycles-requires-clause-document : goal.add_cycles-requires-clause-document
+add_cycles-requires-clause-document c = record { document = node_place c.args.document.now; are = c.requires.parts }
+
+pub add_variables-requires-clause-document : goal.add_variables-requires-clause-document
+add_variables-requires-clause-document c = record { document = node_place c.args.document.now; are = c.requires.parts }
+
 pub returns : goal.returns
 returns c =
     let d = node_place c.args.document.now in

@@ -44,7 +44,7 @@ loop-number-preserved c =
                 let inside = c.loop-number-test.true in
                 let there : first < length c.args.items.now = omega arith in
                 let read_first = item_read c.args.items.now first w.index-items-first.result there w.index-items-first.is in
-                rw w.violations-is (repeat_more c.args.rule items n first _ _ _ below is inv.adds (rw (read, read_first) w.in_ok-add_repeat.ensures))
+                rw w.violations-is (repeat_more c.args.rule items n first _ _ _ c.requires below is inv.adds (rw (read, read_first) w.in_ok-add_repeat.ensures))
             | in_default w ↦
                 rw w.violations-is (unique_more c.args.rule items n _ _ below (rw read (earlier ∙ w.in_default.is)) inv.adds)
           ];

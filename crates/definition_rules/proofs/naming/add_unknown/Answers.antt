@@ -19,7 +19,7 @@ loop-item-preserved g c =
     elim c.if-not-is_entered.branch [
       | then-not-is_entered+in_ok-add w ↦
           rw w.violations-is
-          (unknown_more c.args.rule other (HasEntry c.args.known.now) items n _ _ _
+          (unknown_more c.args.rule other (HasEntry c.args.known.now) items n _ _ _ c.requires (simp length-map c.loop-item-test.true)
           (rw read (λ has. let e : true ≡ false = sym has ∙ sym c.is_entered.ensures ∙ w.if-not-is_entered.true in cc)) inv (rw read w.in_ok-add.ensures))
       | else-not-is_entered w ↦
           rw w.violations-is

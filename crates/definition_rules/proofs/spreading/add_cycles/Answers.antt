@@ -23,13 +23,15 @@ loop-number-preserved c =
     let inv = c.loop-number.invariant in
     let long : length graph ≡ length c.args.parts.now = c.requires.graph.as_many ∙ length-map c.args.parts.now as_parts in
     let below : n < length graph = rw long c.loop-number-test.true in
+    let inside : n < length ds = simp length-map c.loop-number-test.true in
     let read = return_read graph (length graph) c.in_ok-found.found.items n c.index.result.now c.in_ok-found.ensures below c.index.ensures in
     elim c.match-index.branch [
       | in-Some+in_ok-add w ↦
           let place = sym (ap (λ (d : Parts). d.definition.place) w.part_at.ensures) in
           let other_place = sym (ap (λ (d : Parts). d.definition.place) w.part_at-in-Some.ensures) in
           rw w.violations-is
-          (cycle_more ds graph n w.in-Some.other _ _ _ c.requires.graph (rw w.in-Some.is at read) inv (rw (place, other_place) w.in_ok-add.ensures))
+          (cycle_more ds graph n w.in-Some.other _ _ _ c.requires.document inside c.requires.graph (rw w.in-Some.is at read) inv
+          (rw (place, other_place) w.in_ok-add.ensures))
       | in_default w ↦ rw w.violations-is (no_cycle_more ds graph n _ _ c.requires.graph (rw w.in_default.is at read) inv)
     ]
 

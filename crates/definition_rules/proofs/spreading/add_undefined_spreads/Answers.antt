@@ -1,17 +1,27 @@
-use Rattle.std.proofs.Common.{◌≡◌, ◌≤◌, arith, length, map, ap, ◌∙◌}
+use Rattle.std.proofs.Common.{◌≡◌, ◌<◌, ◌≤◌, arith, length, map, ap, ◌∙◌}
 use Rattle.std.proofs.lemmas.List.{length-map}
 use Rattle.std.proofs.lemmas.Bool.Decides.{nat_tests}
 use Rattle.executable_document.specs.Mentions.{as_named}
 use Rattle.definition_rules.specs.Parts.{Parts, as_parts}
 use Rattle.definition_rules.specs.Violations.{count}
+use Rattle.definition_rules.proofs.ApartLemmas.{spreads_apart}
 use Rattle.definition_rules.proofs.FragmentLemmas.{spreads_all, spreads_full, spreads_more}
 use Rattle.definition_rules.proofs.spreading.add_undefined_spreads.Goals as goal
+
+pub add_unknown-requires : goal.add_unknown-requires
+add_unknown-requires c =
+    let ds = map as_parts c.args.parts.now in
+    let inside : c.loop-number.number < length ds = simp length-map c.loop-number-test.true in
+    let same = ap (map as_named) c.deref.ensures.value ∙ ap (λ (d : Parts). d.spreads) c.part_at.ensures in
+    rw same (spreads_apart ds c.requires.document c.loop-number.number inside)
 
 pub loop-number-preserved : goal.loop-number-preserved
 loop-number-preserved c =
     let spreads = ap (λ (d : Parts). d.spreads) c.part_at.ensures in
     let same = ap (map as_named) c.deref.ensures.value ∙ spreads in
-    spreads_more (map as_parts c.args.parts.now) c.args.fragments.now c.loop-number.number _ _ _ _ c.requires same c.loop-number.invariant
+    let inside : c.loop-number.number < length (map as_parts c.args.parts.now) = simp length-map c.loop-number-test.true in
+    spreads_more (map as_parts c.args.parts.now) c.args.fragments.now c.loop-number.number _ _ _ _ c.requires.document inside c.requires.fragments same
+    c.loop-number.invariant
     c.in_ok-add_unknown.ensures
 
 pub returns-then-is_full : goal.returns-then-is_full

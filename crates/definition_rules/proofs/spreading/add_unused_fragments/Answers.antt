@@ -23,13 +23,14 @@ loop-number-preserved c =
     let inv = c.loop-number.invariant in
     let marked = c.in_ok-marks.ensures.marked n in
     let starts = c.requires.numbers in
+    let inside : n < length ds = simp length-map c.loop-number-test.true in
     let below : n < length marks = rw (c.in_ok-marks.ensures.as_many, c.requires.graph.as_many, length-map) c.loop-number-test.true in
     elim c.if-not-index.branch [
       | then-not-index+in_ok-add w ↦
           let off = read_false marks n _ c.index.ensures w.if-not-index.true in
           let place = sym (ap (λ (d : Parts). d.definition.place) w.part_at.ensures) in
           rw w.violations-is
-          (unused_more ds n _ _ _
+          (unused_more ds n _ _ _ c.requires.document inside
           (λ used. let on = marked.1 (rw starts (from_reaches ds graph
           (operations ds) c.requires.graph n used)) in let e : true ≡ false = sym on ∙ off in cc) inv
           (rw place w.in_ok-add.ensures))

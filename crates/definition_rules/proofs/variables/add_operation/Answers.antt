@@ -2,7 +2,7 @@ use Rattle.std.proofs.Common.{map}
 use Rattle.definition_rules.specs.Parts.{as_parts}
 use Rattle.definition_rules.specs.Rules.{IsUndefinedVariable, IsUnusedVariable, VariablesAreDefined, VariablesAreUsed}
 use Rattle.definition_rules.proofs.AddLemmas.{adds_then}
-use Rattle.definition_rules.proofs.VariableLemmas.{are_reached, undefined_of}
+use Rattle.definition_rules.proofs.VariableLemmas.{are_reached, undefined_of, unused_or_undefined}
 use Rattle.definition_rules.proofs.variables.add_operation.Goals as goal
 
 pub add_unused-requires-clause-reached : goal.add_unused-requires-clause-reached
@@ -17,5 +17,5 @@ returns-clause-adds c =
     let numbers = c.deref-reached.result.now in
     let are = are_reached ds c.args.graph.now o numbers c.in_ok-found.found.items c.deref-reached.ensures.value c.requires.graph c.in_ok-found.ensures.found in
     adds_then (IsUnusedVariable ds o) (IsUndefinedVariable ds o) (VariablesAreUsed ds o) (VariablesAreDefined ds o) _ c.add_unused.new.violations _
-    c.in_ok-add_unused.ensures
+    (unused_or_undefined ds o) c.in_ok-add_unused.ensures
     (undefined_of ds o numbers _ _ are c.in_ok-add_undefined.ensures)

@@ -1,12 +1,20 @@
 use Rattle.std.proofs.Common.{map, ap, ◌∙◌, Some}
+use Rattle.std.proofs.lemmas.List.{length-map}
 use Rattle.executable_document.specs.Names.{HasEntry}
 use Rattle.executable_document.specs.Mentions.{as_named}
 use Rattle.definition_rules.specs.declared.violations.Rule.TheVariants.{NoUnusedVariables}
 use Rattle.definition_rules.specs.Parts.{Parts, as_parts, at, place_at}
 use Rattle.definition_rules.specs.Rules.{IsUsed}
+use Rattle.definition_rules.proofs.ApartLemmas.{declared_apart}
 use Rattle.definition_rules.proofs.FragmentLemmas.{known_same}
 use Rattle.definition_rules.proofs.VariableLemmas.{used_from, used_to}
 use Rattle.definition_rules.proofs.variables.add_unused.Goals as goal
+
+pub add_unknown-requires : goal.add_unknown-requires
+add_unknown-requires c =
+    let ds = map as_parts c.args.parts.now in
+    let same = ap (map as_named) c.deref.ensures.value ∙ ap (λ (d : Parts). d.declared) c.part_at-2.ensures in
+    rw same (declared_apart ds c.requires.document c.args.operation (rw length-map c.requires.operation))
 
 pub returns : goal.returns
 returns c =

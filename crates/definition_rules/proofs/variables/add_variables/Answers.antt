@@ -6,7 +6,7 @@ use Rattle.definition_rules.specs.Rules.{AllAmong, Among, BreaksVariablesOf, Var
 use Rattle.definition_rules.specs.Violations.{Adds, count}
 use Rattle.definition_rules.proofs.AddLemmas.{adds_more}
 use Rattle.definition_rules.proofs.OperationLemmas.{part_inside}
-use Rattle.definition_rules.proofs.VariableLemmas.{NumberBreaks, NumberIsWell, among_all, among_full}
+use Rattle.definition_rules.proofs.VariableLemmas.{NumberBreaks, NumberIsWell, among_all, among_full, variables_apart}
 use Rattle.definition_rules.proofs.variables.add_variables.Goals as goal
 
 pub add_operation-requires-clause-operation : goal.add_operation-requires-clause-operation
@@ -23,7 +23,9 @@ loop-number-preserved c =
       adds =
           adds_more (NumberBreaks c.args.numbers.now (BreaksVariablesOf ds)) (NumberIsWell c.args.numbers.now
           (VariablesAreWellOf ds)) c.loop-number.number-index
-          _ c.loop-number.violations _ c.loop-number.invariant.adds c.in_ok-add_operation.ensures.adds;
+          _ c.loop-number.violations _
+          (λ k less. variables_apart ds c.args.numbers.now c.requires.document c.requires.numbers k c.loop-number.number-index less c.loop-number-test.true)
+          c.loop-number.invariant.adds c.in_ok-add_operation.ensures.adds;
     }
 
 pub returns-then-is_full : goal.returns-then-is_full

@@ -35,3 +35,6 @@ returns-clause-found c =
 
 pub returns-clause-inside : goal.returns-clause-inside
 returns-clause-inside c = found_inside _ _ _ _ _ c.loop-next.invariant
+
+pub returns-clause-distinct : goal.returns-clause-distinct
+returns-clause-distinct c = c.loop-next.invariant.distinct
