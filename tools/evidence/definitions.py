@@ -2,6 +2,7 @@
 
 import re
 import subprocess
+from collections import Counter
 from functools import cache
 from pathlib import Path
 
@@ -21,11 +22,6 @@ def home(crate):
 def is_generated(path):
     """Whether a program wrote the file."""
     return path.read_text().startswith("-- Generated")
-
-
-def definition_lines(path):
-    """How many lines of a file are definitions: no imports, comments or blank lines."""
-    return sum(1 for line in path.read_text().splitlines() if line.strip() and not re.match(r"\s*(--|(pub )?use |pub mod )", line))
 
 
 @cache
@@ -96,15 +92,25 @@ def used_by(path, name):
     return {found for body in source.definitions.get(name, []) for found in source.named(body, path)}
 
 
-def used_files(clauses, spared):
-    """The files of definitions that clauses use, and those that these use, without the spared ones. Clauses are pairs of a text and the file it is in."""
+def used(clauses, spared):
+    """The definitions that clauses use, and those that these use, each a file and a name, without those of the spared files. Clauses are pairs of a text and
+    the file it is in."""
     seen, left = set(), [found for text, file in clauses for found in Source.of(file).named(text, file)]
     while left:
         path, name = left.pop()
         if path and path not in spared and (path, name) not in seen:
             seen.add((path, name))
             left += used_by(path, name)
-    return {path for path, _ in seen if path.suffix == ".antt"}
+    return {(path, name) for path, name in seen if path.suffix == ".antt" and name in Source.of(path).definitions}
+
+
+def lines_by_file(definitions):
+    """How many lines the definitions have in each file, without comments and blank lines. Those that are defined together count once."""
+    bodies = {(path, body) for path, name in definitions for body in Source.of(path).definitions[name]}
+    lines = Counter()
+    for path, body in bodies:
+        lines[path] += sum(1 for line in body.splitlines() if line.strip())
+    return lines
 
 
 def in_order(files):

@@ -4,7 +4,7 @@ import re
 import textwrap
 
 from . import contracts, lemmas
-from .definitions import CRATES, KIT, Source, definition_lines, in_order, is_generated, name_of, spec, used_files
+from .definitions import CRATES, KIT, Source, in_order, is_generated, lines_by_file, name_of, spec, used
 
 # The calls that a user reads, by their part: a title, files and folders, and how much of the list of definitions is counted for it.
 PARTS = {
@@ -28,13 +28,14 @@ PARTS = {
 LAWS = """lexical_grammar/src/lib.rt lexical_grammar/src/escapes.rt document_grammar/src/kind.rt document_grammar/src/laws.rt grammar_machine/src/laws.rt
     apollo_lexer/src/laws.rt apollo_parser/src/laws.rt apollo_cst_core/src/typed.rt apollo_cst_core/src/strings.rt apollo_cst_core/src/kinds.rt
     format_layout/src/layout.rt format_layout/src/spelling.rt format_layout/src/laws.rt format_layout/src/slot.rt"""
-# How many lines of definitions a call needs, which README and docs/PROMISES.md say.
+# The calls and programs for which the lines of definitions are counted.
 COUNTED = {
     "`parse`, and parts of documents": "apollo_parser/src/parser.rt",
     "`format`": "formatter/src/lib.rt",
     "`gqlcst`": "gqlcst_run/src/program.rt",
     "`gqlfmt`": "gqlfmt_run/src/program.rt unignored_files/src/unignored.rt",
-    "`gqlls`, with the kit's words for JSON and for headers": "gqlls_files/src/running.rt",
+    "`gqlcheck`": "gqlcheck_run/src/program.rt",
+    "`gqlls`": "gqlls_files/src/running.rt",
     "C, Python and the page": "dumyroke_c/src/lib.rt",
 }
 # The four clauses of `parse` that are the main theorem.
@@ -58,8 +59,10 @@ edits that break a clause and that `./do gate` checks the prover to refuse: `CRA
 READING = """\
 ## What to read in order to believe it
 
-A clause is as good as the definitions that it uses. Each file comes with its number of lines, without imports, comments and blank lines, after those
-that it uses. A file is in the first list that needs it.
+A clause is as good as the definitions that it uses. A definition that a clause names counts, and so does each that this one names, and no other of its file.
+Comments and blank lines do not count. "Of the kit" are the words for JSON and for headers, which are the kit's own. "Written by a program" are lists of the
+kinds of nodes.
+
 """
 # Files whose definitions a reader may take as they are, and why.
 SPARED = """lexical_grammar/specs/Reads.antt lexical_grammar/specs/NumberStates.antt apollo_parser/specs/ByRules.antt parser_rules/specs/State.antt
@@ -253,45 +256,55 @@ def spared():
     return {CRATES / name for name in SPARED.split()}
 
 
-def files_of(doors):
-    return used_files(clauses_of(doors), spared())
+def definitions_of(doors):
+    return used(clauses_of(doors), spared())
 
 
-def main_files():
-    """The files that the main theorem needs."""
+def main_definitions():
+    """The definitions that the main theorem needs."""
     path, fields = contracts.fields("Promise", "apollo_parser")
-    return used_files([(fields[name], path) for name in MAIN], spared()) - {path}
+    return {found for found in used([(fields[name], path) for name in MAIN], spared()) if found[0] != path}
 
 
-def lines_needed(doors):
-    return sum(definition_lines(path) for path in files_of(doors) if not is_generated(path))
+def counts(doors):
+    """How many lines of definitions files and folders need: those by hand, those of them that are the kit's, and those that a program wrote."""
+    lines = lines_by_file(definitions_of(doors))
+    by_hand = {path: count for path, count in lines.items() if not is_generated(path)}
+    return sum(by_hand.values()), sum(count for path, count in by_hand.items() if KIT in path.parents), sum(lines.values()) - sum(by_hand.values())
 
 
-def counts():
-    return {title: lines_needed(doors.split()) for title, doors in COUNTED.items()}
+def table():
+    """The lines that each call and program needs."""
+    yield "| To believe | Read | of it of the kit | Written by a program |"
+    yield "|---|---|---|---|"
+    for title, doors in COUNTED.items():
+        by_hand, of_kit, generated = counts(doors.split())
+        yield f"| {title} | {by_hand:,} | {of_kit or '–'} | {generated} |"
 
 
 def lists():
-    """The lists of files, each with its title and without the files of those before it."""
-    main = main_files()
-    kit, listed = set(), set()
-    yield "the main theorem: " + ", ".join(f"`{name}`" for name in MAIN), in_order(main)
-    listed |= main
+    """The lists of definitions, each with its title and without those of the lists before it."""
+    listed = main_definitions()
+    kit = set()
+    yield "the main theorem: " + ", ".join(f"`{name}`" for name in MAIN), listed
     for title, doors in PARTS.items():
-        files = files_of(doors.split()) - listed
-        listed |= files
-        kit |= {path for path in files if KIT in path.parents}
-        yield title, in_order({path for path in files if KIT not in path.parents})
-    yield "the kit's words for JSON and for headers, which `gqlls` uses", in_order(kit)
+        found = definitions_of(doors.split()) - listed
+        listed = listed | found
+        of_kit = {one for one in found if KIT in one[0].parents}
+        kit |= of_kit
+        yield title, found - of_kit
+    yield "the kit's words for JSON and for headers, which `gqlls` uses", kit
 
 
 def reading():
-    made = ["\nA call needs these lines, without lists that a program wrote:\n"]
-    made += [f"- {title}, {', '.join(f'`{door}`' for door in COUNTED[title].split())}: {count:,}" for title, count in counts().items()]
-    for title, files in lists():
-        by_hand = sum(definition_lines(path) for path in files if not is_generated(path))
+    made = ["\n".join(table())]
+    made.append("\nBelow are the files, each after those that it uses, with the lines that are needed. A definition is in the first list that needs it.")
+    for title, found in lists():
+        lines = lines_by_file(found)
+        by_hand = sum(count for path, count in lines.items() if not is_generated(path))
+        files = in_order(set(lines))
         made.append(f"\n### For {title}: {by_hand:,} lines\n")
-        made.append(textwrap.fill(", ".join(f"`{name_of(path)}`\u00a0{definition_lines(path)}" for path in files), 158, break_on_hyphens=False))
+        made.append(textwrap.fill(", ".join(f"`{name_of(path)}`\u00a0{lines[path]}" for path in files), 158, break_on_hyphens=False))
     return "\n".join(made) + "\n"
 
 
