@@ -105,7 +105,8 @@ typedef struct dumyroke_counts {
  *
  * Writes the elements of the tree, the errors in the order of their report, and the messages of the errors, each as far as there is room.
  * What is beyond is left as it was. If `counts` says that there is more than there was room for, call again with that much room. With no room
- * at all the call is a check of the text, and takes less time: the text is a document within both limits exactly if there are no errors.
+ * at all the call is a check of the text, and takes less time: the text is a document within both limits exactly if the status is DUMYROKE_OK and there are
+ * no errors.
  *
  *   text       `text_length` bytes of UTF-8. No zero ends them, and there may be zeros among them.
  *   elements   room for `element_room` elements.
@@ -218,7 +219,7 @@ typedef struct dumyroke_violation {
 
 /* What dumyroke_validate found, whether or not there was room for it. All numbers are 0 unless the status is DUMYROKE_OK. */
 typedef struct dumyroke_violation_counts {
-    /* At most `most`. The text is a document that keeps all rules exactly if this is 0 and `most` is not. */
+    /* At most `most`. The text is a document that keeps all rules exactly if the status is DUMYROKE_OK, this is 0, and `most` is not. */
     size_t violations;
     /* The bytes of all messages together. */
     size_t message_bytes;
@@ -283,8 +284,7 @@ typedef struct dumyroke_measure_counts {
  * the call takes no longer for that. Fragments that no operation leads to may be on a cycle, or spread what is not defined.
  *
  *   text       `text_length` bytes of UTF-8.
- *   operations room for `operation_room` operations. If `counts` says that there are more, call again with that much room. That it is enough is
- *              tested, not proved.
+ *   operations room for `operation_room` operations. If `counts` says that there are more, call again with that much room: it is enough.
  *   counts     what there is. Never NULL.
  *
  * Any other pointer may be NULL where its length is 0. No two of the three may overlap.

@@ -4,7 +4,8 @@ ghost use Rattle.std.specs.Prelude.{◌≡◌, List, ℕ, length};
 ghost use Rattle.apollo_parser.specs.StringValues.{IsStringValue};
 ghost use Rattle.dumyroke_flat.specs.declared.rows.ByteCount.{ByteCount};
 ghost use Rattle.dumyroke_flat.specs.declared.rows.Counts.{Counts};
-ghost use Rattle.dumyroke_flat.specs.Again.{HasRoom, HoldParse};
+ghost use Rattle.dumyroke_flat.specs.Again.{HasItemRoom, HasRoom, HoldItems, HoldParse};
+ghost use Rattle.dumyroke_flat.specs.Items.{ItemBuffers, ItemsOutcome};
 ghost use Rattle.dumyroke_flat.specs.Outcomes.{Buffers, Outcome, OK, StringOutcome};
 
 /// A second parse of a text within the same limits counts what the first one did, and with just that room it writes all of the parse.
@@ -19,4 +20,12 @@ pub fn parse_again()
 pub fn string_value_again()
     ensures { (literal before after room value : List ℕ) (first second : ByteCount) → StringOutcome literal before after first → first.status ≡ OK
         → StringOutcome literal room value second → second.status ≡ OK → length room ≡ first.bytes → IsStringValue literal value }
+{}
+
+/// A second cut of a text within the same limit counts what the first one did, and with just that room it writes all items and errors.
+pub fn items_again()
+    ensures { (source : List ℕ) (max_items : ℕ) (before after room filled : ItemBuffers) (first second : Counts)
+        → ItemsOutcome source max_items before after first → first.status ≡ OK
+        → ItemsOutcome source max_items room filled second → second.status ≡ OK
+        → (second ≡ first) × (HasItemRoom room first → HoldItems source max_items filled) }
 {}

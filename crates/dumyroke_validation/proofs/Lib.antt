@@ -1,3 +1,4 @@
 pub mod Readings
 pub mod Reports
 pub mod Outcomes
+pub mod Again

@@ -1,3 +1,4 @@
 -- What the calls of this crate give.
 pub mod Rows
 pub mod Outcomes
+pub mod Again

@@ -4,6 +4,7 @@
 //! `dumyroke_c` calls the functions `.._into`. As those of `dumyroke_flat` do, each writes as far as there is room, and answers how much there is.
 #![tactic(auto)]
 
+pub mod laws;
 mod measuring;
 mod reading;
 mod rows;

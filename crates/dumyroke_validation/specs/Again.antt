@@ -1,0 +1,16 @@
+-- A second call, with the room that the first call counted.
+use Rattle.std.specs.Prelude.{◌≡◌, ℕ, List, map}
+use Rattle.apollo_parser.specs.Parsed.{Parsed}
+use Rattle.executable_document.specs.Definitions.{defined}
+use Rattle.operation_limits.specs.Measures.{AreMeasures, Measure}
+use Rattle.dumyroke_validation.specs.declared.rows.OperationRow.{OperationRow}
+use Rattle.dumyroke_validation.specs.Outcomes.{IsDocumentParse, root}
+use Rattle.dumyroke_validation.specs.Rows.{operation_row}
+
+-- The buffer holds all figures of the text's operations.
+pub record HoldMeasures (source : List ℕ) (max_depth max_items : ℕ) (buffer : List OperationRow) : Type 0 where
+  pub parsed : Parsed
+  pub parse : IsDocumentParse source max_depth max_items parsed
+  pub measures : List Measure
+  pub are_measures : AreMeasures (defined (root parsed)) measures
+  pub is : buffer ≡ map operation_row measures

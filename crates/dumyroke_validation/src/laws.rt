@@ -1,0 +1,16 @@
+//! Laws of the calls' results: calls that do nothing, each with a theorem as its contract.
+
+ghost use Rattle.std.specs.Prelude.{◌≡◌, List, ℕ, length};
+ghost use Rattle.dumyroke_flat.specs.Outcomes.{OK};
+ghost use Rattle.dumyroke_validation.specs.Again.{HoldMeasures};
+ghost use Rattle.dumyroke_validation.specs.Outcomes.{MeasureOutcome};
+ghost use Rattle.dumyroke_validation.specs.declared.rows.MeasureCounts.{MeasureCounts};
+ghost use Rattle.dumyroke_validation.specs.declared.rows.OperationRow.{OperationRow};
+
+/// A second measurement of a text within the same limits counts what the first one did, and with just that room it writes all figures.
+pub fn measures_again()
+    ensures { (source : List ℕ) (max_depth max_items : ℕ) (before after room filled : List OperationRow) (first second : MeasureCounts)
+        → MeasureOutcome source max_depth max_items before after first → first.status ≡ OK
+        → MeasureOutcome source max_depth max_items room filled second → second.status ≡ OK
+        → (second ≡ first) × (length room ≡ first.operations → HoldMeasures source max_depth max_items filled) }
+{}
