@@ -279,6 +279,8 @@ def diagnostics():
     expect("two errors in one definition", found("{ hero(id) { name }"), [(span(0, 9, 10), 1, "gqlls", "expected : (1 more error before the next definition)")])
     expect("an error in each of two definitions", found("{ a(b: ) }\n{ c"),
            [(span(0, 7, 8), 1, "gqlls", "expected a valid Value"), (span(1, 3, 3), 1, "gqlls", "expected }")])
+    shared = found("directive @a(x: ) on\ntype B { b: Int }")
+    expect("an error where a definition begins is the earlier one's", [(it[0], it[3].partition("(")[2]) for it in shared], [(span(0, 16, 17), "1 more error before the next definition)")])
     expect("a string that runs over its line", found('{ a(b: "c) }\n}')[0][0], span(0, 7, 12))
     expect("an error at the end", client.open(URI, "{ a")["diagnostics"][0]["range"], span(0, 3, 3))
     expect("tokens that belong to no definition", found("! " * 300), [(span(0, 0, 1), 1, "gqlls", "expected a definition (299 more errors before the next definition)")])

@@ -8,9 +8,10 @@ use Rattle.std.proofs.lemmas.List.{length-map, map-append, take-map, take_min}
 use Rattle.std.proofs.Math.Seq.{take-suc}
 use Rattle.std.proofs.lemmas.List.Sums.{take_while-cons}
 use Rattle.apollo_lexer.specs.Diagnostics.{Diagnostic}
+use Rattle.first_errors.specs.Groups.{Group, group_of, groups, is_earlier}
 use Rattle.editor_diagnostics.specs.Remarks.{Remarked}
 use Rattle.editor_diagnostics.specs.declared.syntax.ErrorGroup.{ErrorGroup}
-use Rattle.editor_diagnostics.specs.Syntax.{Group, IsAboutFirst, as_group, group_of, groups, is_before, more_remarks, syntax_remark, syntax_remarks}
+use Rattle.editor_diagnostics.specs.Syntax.{IsAboutFirst, as_group, more_remarks, syntax_remark, syntax_remarks}
 
 -- the remarks after that on the first group
 abbrev remarks_after : ℕ → Diagnostic → List Group → List Remarked
@@ -47,27 +48,27 @@ one_made f g h made now all k x b so_far added is item within =
     ∙ sym (ap (λ bs. map g (map h bs)) taken ∙ ap (map g) (map-append h (take k all) (b ∷ [])) ∙ map-append g (map h (take k all)) (h b ∷ []))
 
 -- whether the first error is in front of where a definition begins, or not
-in_first : (start : ℕ) (starts : List ℕ) (error : Diagnostic) (errors : List Diagnostic) → is_before start error ≡ true
+in_first : (start : ℕ) (starts : List ℕ) (error : Diagnostic) (errors : List Diagnostic) → is_earlier start error ≡ true
     → groups (start ∷ starts) (error ∷ errors)
-    ≡ record { first = error; others = length (take_while (is_before start) errors) }
-    ∷ groups starts (drop (length (take_while (is_before start) errors)) errors)
+    ≡ record { first = error; others = length (take_while (is_earlier start) errors) }
+    ∷ groups starts (drop (length (take_while (is_earlier start) errors)) errors)
 in_first start starts error errors before =
-    let these : take_while (is_before start) (error ∷ errors) ≡ error ∷ take_while (is_before start) errors =
-    take_while-cons (is_before start) error errors ∙ ap (λ (b : Bool). cond b (error ∷ take_while (is_before start) errors) []) before in
+    let these : take_while (is_earlier start) (error ∷ errors) ≡ error ∷ take_while (is_earlier start) errors =
+    take_while-cons (is_earlier start) error errors ∙ ap (λ (b : Bool). cond b (error ∷ take_while (is_earlier start) errors) []) before in
     ap (λ (xs : List Diagnostic). group_of xs ++ groups starts (drop (length xs) (error ∷ errors))) these
 
-in_later : (start : ℕ) (starts : List ℕ) (error : Diagnostic) (errors : List Diagnostic) → is_before start error ≡ false
+in_later : (start : ℕ) (starts : List ℕ) (error : Diagnostic) (errors : List Diagnostic) → is_earlier start error ≡ false
     → groups (start ∷ starts) (error ∷ errors) ≡ groups starts (error ∷ errors)
 in_later start starts error errors after =
-    let these : take_while (is_before start) (error ∷ errors) ≡ [] =
-    take_while-cons (is_before start) error errors ∙ ap (λ (b : Bool). cond b (error ∷ take_while (is_before start) errors) []) after in
+    let these : take_while (is_earlier start) (error ∷ errors) ≡ [] =
+    take_while-cons (is_earlier start) error errors ∙ ap (λ (b : Bool). cond b (error ∷ take_while (is_earlier start) errors) []) after in
     ap (λ (xs : List Diagnostic). group_of xs ++ groups starts (drop (length xs) (error ∷ errors))) these
 
 -- the first group begins with the first error
 first_group : (starts : List ℕ) (error : Diagnostic) (errors : List Diagnostic)
     → (others : ℕ) × (more : List Group) × (groups starts (error ∷ errors) ≡ record { first = error; others = others } ∷ more)
 first_group [] error errors = (length errors, [], refl)
-first_group (start ∷ starts) error errors = elim (cases_Bool (is_before start error)) [
+first_group (start ∷ starts) error errors = elim (cases_Bool (is_earlier start error)) [
   | inl before ↦ (_, _, in_first start starts error errors before)
   | inr after ↦
       let later = first_group starts error errors in

@@ -1,9 +1,10 @@
 -- The syntax errors of a document as remarks: one for each definition that has some.
-use Rattle.std.specs.Prelude.{◌≡◌, ℕ, ◌+◌, ◌-◌, ◌^◌, ◌==◌, if◌then◌else◌, Bool, not, List, [], ◌∷◌, ◌++◌, length, map, take, drop, min, nat_lt}
-use Rattle.std.specs.Prelude.{codes, decimal, flat_map, take_while, Option, None}
+use Rattle.std.specs.Prelude.{◌≡◌, ℕ, ◌+◌, ◌-◌, ◌^◌, ◌==◌, if◌then◌else◌, Bool, not, List, [], ◌∷◌, ◌++◌, length, map, take, min}
+use Rattle.std.specs.Prelude.{codes, decimal, take_while, Option, None}
 use Rattle.std.specs.List.{starts_with}
 use Rattle.apollo_lexer.specs.Diagnostics.{Diagnostic, subject_text}
 use Rattle.lexical_grammar.specs.Characters.{is_line_terminator}
+use Rattle.first_errors.specs.Groups.{Group, groups}
 use Rattle.editor_diagnostics.specs.Remarks.{Remarked, with_brace}
 use Rattle.editor_diagnostics.specs.declared.remark.Severity.TheVariants.{Error}
 use Rattle.editor_diagnostics.specs.declared.syntax.ErrorGroup.{ErrorGroup}
@@ -36,29 +37,8 @@ others_words n = if n == 0 then [] else codes " (" ++ (decimal n ++ (codes " mor
 
 -- ---- the errors of each definition
 
-abbrev pub is_before : ℕ → Diagnostic → Bool
-is_before offset error = nat_lt error.index offset
-
--- Definitions begin at some offsets: the errors in front of the first, and then those of each, up to where the next one begins.
-abbrev pub by_definition : List ℕ → List Diagnostic → List (List Diagnostic)
-by_definition [] errors = errors ∷ []
-by_definition (start ∷ starts) errors =
-    let these = take_while (is_before start) errors in these ∷ by_definition starts (drop (length these) errors)
-
--- the first of some errors, and how many others there are
-pub record Group : Type 0 where
-  pub first : Diagnostic
-  pub others : ℕ
-
-abbrev pub group_of : List Diagnostic → List Group
-group_of [] = []
-group_of (error ∷ errors) = record { first = error; others = length errors } ∷ []
-
 abbrev pub as_group : ErrorGroup → Group
 as_group g = record { first = g.first.now; others = g.others }
-
-abbrev pub groups : List ℕ → List Diagnostic → List Group
-groups starts errors = flat_map group_of (by_definition starts errors)
 
 -- ---- remarks
 

@@ -2,7 +2,8 @@
 ghost use Rattle.std.specs.Prelude.{◌≡◌, ◌++◌, IfOk, OnOk, length, map, not, string_bytes, take_while};
 ghost use Rattle.lexical_grammar.specs.Characters.{is_line_terminator};
 ghost use Rattle.editor_diagnostics.specs.Remarks.{as_remarked};
-ghost use Rattle.editor_diagnostics.specs.Syntax.{IsAboutFirst, as_group, by_definition, group_of, groups, is_before, mark_end, more_remarks, noun_of, others_words, syntax_remark, syntax_remarks, words_for};
+ghost use Rattle.first_errors.specs.Groups.{group_of, groups, is_earlier};
+ghost use Rattle.editor_diagnostics.specs.Syntax.{IsAboutFirst, as_group, mark_end, more_remarks, noun_of, others_words, syntax_remark, syntax_remarks, words_for};
 
 use crate::remark::{Remark, Severity};
 use crate::wording::words_for;
@@ -35,13 +36,13 @@ fn push_group<'e>(groups: &mut Vec<ErrorGroup<'e>>, errors: &'e [Error]) -> Resu
     Ok(())
 }
 
-// How many errors there are before the first that is not in front of an offset.
-fn count_before(errors: &[Error], offset: usize) -> usize
-    ensures { result ≡ length (take_while (is_before offset) errors.now) }
+// How many errors there are before the first that is after the beginning of a definition.
+fn count_earlier(errors: &[Error], start: usize) -> usize
+    ensures { result ≡ length (take_while (is_earlier start) errors.now) }
 {
     errors
         .iter()
-        .take_while(|error| error.index() < offset)
+        .take_while(|error| error.index() <= start)
         .count()
 }
 
@@ -56,7 +57,7 @@ fn groups<'e>(
     let mut found = Vec::new(alloc);
     let mut rest = errors;
     for start in starts {
-        let (these, others) = rest.split_at(count_before(rest, *start));
+        let (these, others) = rest.split_at(count_earlier(rest, *start));
         push_group(&mut found, these)?;
         rest = others;
     }

@@ -15,6 +15,7 @@ use Rattle.apollo_validation.specs.Validity.{AreBreaches, BreaksAs}
 use Rattle.apollo_lexer.specs.Diagnostics.{Diagnostic}
 use Rattle.editor_diagnostics.specs.Remarks.{Remarked, with_brace}
 use Rattle.editor_diagnostics.specs.Syntax.{IsAboutFirst, syntax_remarks}
+use Rattle.first_errors.specs.Groups.{definition_starts}
 use Rattle.editor_diagnostics.specs.declared.remark.Severity.{Severity}
 use Rattle.editor_diagnostics.specs.declared.remark.Severity.TheVariants.{Error, Warning}
 use Rattle.editor_validation.specs.Braces.{open_brace}
@@ -54,10 +55,6 @@ pub record AreRemarks (others : List Fragments) (document : Place) (remarks : Li
   pub are : remarks ≡ map remark_of (take 100 (filter (λ b. not (is_mended others b)) breaches))
 
 -- ---- all remarks
-
--- where the definitions of a document begin
-abbrev pub definition_starts : Place → List ℕ
-definition_starts document = map (λ p. (range_at p).0) (child_nodes document)
 
 -- the brace that the first error follows from, where it is named
 abbrev pub brace_of : Bool → Place → Diagnostic → Option ℕ

@@ -4,7 +4,8 @@ ghost use Rattle.apollo_tree.specs.References.{node_place};
 ghost use Rattle.editor_diagnostics.specs.Remarks.{as_remarked, with_brace};
 ghost use Rattle.editor_diagnostics.specs.Syntax.{IsAboutFirst, syntax_remarks};
 ghost use Rattle.editor_validation.specs.Fragments.{as_fragments};
-ghost use Rattle.editor_validation.specs.Remarks.{AreRemarksOn, brace_of, definition_starts};
+ghost use Rattle.first_errors.specs.Groups.{definition_starts};
+ghost use Rattle.editor_validation.specs.Remarks.{AreRemarksOn, brace_of};
 
 use crate::braces::open_brace;
 use crate::broken_rules::rule_remarks;
@@ -12,18 +13,8 @@ use crate::fragments::FragmentNames;
 use apollo_lexer::Error;
 use apollo_tree::SyntaxNode;
 use editor_diagnostics::{Remark, name_brace, syntax_remarks};
+use first_errors::definition_starts;
 use std::alloc::{AllocError, Global};
-
-// Where the definitions of a document begin, by the root of its tree.
-fn definition_starts(alloc: Global, document: &SyntaxNode<'_>) -> Result<Vec<usize>, AllocError>
-    ensures { IfOk result (λ starts. starts.items ≡ definition_starts (node_place document.now)) }
-{
-    let mut starts = Vec::new(alloc);
-    for definition in document.children() {
-        starts.push(definition.text_range().start())?;
-    }
-    Ok(starts)
-}
 
 // The brace that the first error of a document follows from, where it is named.
 fn brace_of(

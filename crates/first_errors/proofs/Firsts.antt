@@ -1,28 +1,46 @@
 -- The first errors of a text.
-use Rattle.std.proofs.Common.{◌≡◌, ℕ, ◌+◌, ◌<◌, List, [], ◌∷◌, ◌++◌, refl, map, take, drop, length, get_or, ap, sym, ◌∙◌, append_assoc}
-use Rattle.std.proofs.lemmas.List.{take-map, drop_more}
+use Rattle.std.proofs.Common.{◌≡◌, ◌<◌, ◌+◌, ℕ, Bool, List, [], ◌∷◌, ◌++◌, append_assoc, cond, drop, get_or, inl, inr, length, map, take, ap, refl, sym, ◌∙◌}
+use Rattle.std.specs.Prelude.{take_while}
+use Rattle.std.proofs.lemmas.Bool.{cases_Bool}
+use Rattle.std.proofs.lemmas.List.{drop-map, drop_more, map-append, take-map}
+use Rattle.std.proofs.lemmas.List.Sums.{take_while-cons}
 use Rattle.apollo_parser.specs.Diagnostics.{Diagnostic}
-use Rattle.first_errors.specs.First.{begun, first_of, first_of_each}
+use Rattle.first_errors.specs.First.{firsts}
+use Rattle.first_errors.specs.Groups.{Group, group_of, groups, is_earlier}
 
 -- At most that number of them are kept.
 pub cut : {X Y : Type 0} (h : X → Y) (most : ℕ) (items kept : List X) (all : List Y) → kept ≡ take most items → map h items ≡ all
     → map h kept ≡ take most all
 cut h most items kept all cuts are = ap (map h) cuts ∙ sym (take-map h most items) ∙ ap (take most) are
 
--- Where no part is left, no error is the first of one.
-pub none_left : (errors : List Diagnostic) → first_of_each [] errors ≡ []
-none_left [] = refl
-none_left (error ∷ errors) = none_left errors
+-- The first of them that pass are as many as pass from the front on.
+taken_while : {X : Type 0} (p : X → Bool) (xs : List X) → take (length (take_while p xs)) xs ≡ take_while p xs
+taken_while p [] = refl
+taken_while {X = X} p (x ∷ xs) = elim (cases_Bool (p x)) [
+  | inl passes ↦
+      let it : take_while p (x ∷ xs) ≡ x ∷ take_while p xs = take_while-cons p x xs ∙ ap (λ (b : Bool). cond b (x ∷ take_while p xs) []) passes in
+      ap (λ (ys : List X). take (length ys) (x ∷ xs)) it ∙ ap (λ (ys : List X). x ∷ ys) (taken_while p xs) ∙ sym it
+  | inr fails ↦
+      let it : take_while p (x ∷ xs) ≡ [] = take_while-cons p x xs ∙ ap (λ (b : Bool). cond b (x ∷ take_while p xs) []) fails in
+      ap (λ (ys : List X). take (length ys) (x ∷ xs)) it ∙ sym it
+]
 
--- One error more.
-pub next : {X : Type 0} (h : X → Diagnostic) (left later : List ℕ) (errors : List X) (i : ℕ) (error : X) (found found' whole : List Diagnostic)
-    → i < length errors → later ≡ drop (begun (h error).index left) left → found' ≡ found ++ first_of (begun (h error).index left) (h error)
-    → get_or errors i error ≡ error → found ++ first_of_each left (map h (drop i errors)) ≡ whole
-    → found' ++ first_of_each later (map h (drop (i + 1) errors)) ≡ whole
-next h left later errors i error found found' whole within moved pushed at before =
-    let rest = map h (drop (i + 1) errors) in
-    ap (λ (l : List Diagnostic). l ++ first_of_each later rest) pushed
-    ∙ ap (λ (l : List ℕ). (found ++ first_of (begun (h error).index left) (h error)) ++ first_of_each l rest) moved
-    ∙ append_assoc found (first_of (begun (h error).index left) (h error)) (first_of_each (drop (begun (h error).index left) left) rest)
-    ∙ ap (λ e. found ++ (first_of (begun (h e).index left) (h e) ++ first_of_each (drop (begun (h e).index left) left) rest)) (sym at)
-    ∙ ap (λ l. found ++ first_of_each left (map h l)) (sym (drop_more errors i error within)) ∙ before
+-- One definition more.
+pub next : {X : Type 0} (h : X → Diagnostic) (starts : List ℕ) (i d start count : ℕ) (errors these later : List X) (found found' whole : List Diagnostic)
+    → i < length starts → get_or starts i d ≡ start → count ≡ length (take_while (is_earlier start) (map h errors))
+    → these ≡ take count errors → later ≡ drop count errors → found' ≡ found ++ firsts (group_of (map h these))
+    → found ++ firsts (groups (drop i starts) (map h errors)) ≡ whole → found' ++ firsts (groups (drop (i + 1) starts) (map h later)) ≡ whole
+next h starts i d start count errors these later found found' whole within at counted taken left pushed before =
+    let es = map h errors in
+    let mine = take_while (is_earlier start) es in
+    let of_these : map h these ≡ mine = ap (map h) taken ∙ sym (take-map h count errors) ∙ ap (λ (n : ℕ). take n es) counted
+    ∙ taken_while (is_earlier start) es in
+    let of_later : map h later ≡ drop (length mine) es = ap (map h) left ∙ sym (drop-map h count errors) ∙ ap (λ (n : ℕ). drop n es) counted in
+    let rest = drop (i + 1) starts in
+    ap (λ (l : List Diagnostic). l ++ firsts (groups rest (map h later))) pushed
+    ∙ ap (λ (l : List Diagnostic). (found ++ firsts (group_of l)) ++ firsts (groups rest (map h later))) of_these
+    ∙ ap (λ (l : List Diagnostic). (found ++ firsts (group_of mine)) ++ firsts (groups rest l)) of_later
+    ∙ append_assoc found (firsts (group_of mine)) (firsts (groups rest (drop (length mine) es)))
+    ∙ ap (λ (l : List Diagnostic). found ++ l) (sym (map-append (λ (g : Group). g.first) (group_of mine) (groups rest (drop (length mine) es))))
+    ∙ ap (λ (s : ℕ). found ++ firsts (groups (s ∷ rest) es)) (sym at)
+    ∙ ap (λ l. found ++ firsts (groups l es)) (sym (drop_more starts i d within)) ∙ before

@@ -1,8 +1,9 @@
-// The first error of each part of a document.
-ghost use Rattle.std.specs.Prelude.{◌≡◌, ◌++◌, ◌≤◌, IfOk, OnOk, length, map};
+// The first error of each definition of a document.
+ghost use Rattle.std.specs.Prelude.{◌≡◌, ◌++◌, ◌≤◌, IfOk, OnOk, length, map, take_while};
 ghost use Rattle.apollo_parser.specs.Errors.{error_of};
 ghost use Rattle.apollo_parser.specs.References.{node_place};
-ghost use Rattle.first_errors.specs.First.{begun, definition_starts, first_of, first_of_each, IsFirst};
+ghost use Rattle.first_errors.specs.First.{IsFirst, firsts};
+ghost use Rattle.first_errors.specs.Groups.{definition_starts, group_of, groups, is_earlier};
 
 use apollo_parser::{BorrowedError, SyntaxNode};
 use std::alloc::{AllocError, Allocator};
@@ -15,73 +16,66 @@ pub struct FirstErrors<'i, A: Allocator> {
     pub more: usize,
 }
 
-// Where the document and its definitions begin.
-fn definition_starts<A: Allocator>(
+/// Where the definitions of a document begin, as byte offsets, by the root of its tree. It fails only where memory is refused.
+pub fn definition_starts<A: Allocator>(
     alloc: A,
     document: &SyntaxNode<'_>,
 ) -> Result<Vec<usize, A>, AllocError>
     ensures { IfOk result (λ starts. starts.items ≡ definition_starts (node_place document.now)) }
 {
     let mut starts = Vec::new(alloc);
-    starts.push(0)?;
     for node in document.children() {
         starts.push(node.text_range().start())?;
     }
     Ok(starts)
 }
 
-// How many of the first parts have begun before an offset, or with the text.
-fn begun(starts: &[usize], offset: usize) -> usize
-    ensures value { result ≡ begun offset starts.now }
-    ensures within { result ≤ length starts.now }
+// How many errors there are before the first that is after the beginning of a definition.
+fn count_earlier(errors: &[BorrowedError<'_>], start: usize) -> usize
+    ensures value { result ≡ length (take_while (is_earlier start) (map error_of errors.now)) }
+    ensures within { result ≤ length errors.now }
 {
-    for (count, start) in starts.iter().enumerate() {
-        if *start > 0 && *start >= offset {
+    for (count, error) in errors.iter().enumerate() {
+        if error.index() > start {
             return count;
         }
     }
-    starts.len()
+    errors.len()
 }
 
-// Adds an error, if parts have begun before it and not before the last one.
+// Adds the first of some errors, if there are any.
 fn push_first<'i, A: Allocator>(
     found: &mut Vec<BorrowedError<'i>, A>,
-    count: usize,
-    error: BorrowedError<'i>,
+    errors: &[BorrowedError<'i>],
 ) -> Result<(), AllocError>
-    ensures { OnOk result (map error_of found.new.items ≡ map error_of found.old.items ++ first_of count (error_of error.entry)) }
+    ensures { OnOk result (map error_of found.new.items ≡ map error_of found.old.items ++ firsts (group_of (map error_of errors.now))) }
 {
-    if count > 0 {
-        found.push(error)?;
+    if let Some(error) = errors.first() {
+        found.push(*error)?;
     }
     Ok(())
 }
 
-// The first error of each part that has one.
+// The first error of each definition that has one.
 fn first_of_each<'i, A: Allocator>(
     alloc: A,
     starts: &[usize],
     errors: &[BorrowedError<'i>],
 ) -> Result<Vec<BorrowedError<'i>, A>, AllocError>
-    ensures { IfOk result (λ found. map error_of found.items ≡ first_of_each starts.now (map error_of errors.now)) }
+    ensures { IfOk result (λ found. map error_of found.items ≡ firsts (groups starts.now (map error_of errors.now))) }
 {
     let mut found = Vec::new(alloc);
-    let mut left = starts;
-    for error in errors {
-        // the last part has its error, and there may be millions more
-        if left.is_empty() {
-            return Ok(found);
-        }
-        let count = begun(left, error.index());
-        let (_, later) = left.split_at(count);
-        push_first(&mut found, count, *error)?;
-        left = later;
+    let mut seen = 0;
+    for start in starts {
+        let count = count_earlier(&errors[seen..], *start);
+        push_first(&mut found, &errors[seen..seen + count])?;
+        seen += count;
     }
+    push_first(&mut found, &errors[seen..])?;
     Ok(found)
 }
 
-/// The errors of a document that people see, by the root of its tree: of each part that begins with a definition the first, and at most `most` in all;
-/// and how many more there are. It fails only where memory is refused.
+/// The errors of a document that people see, by the root of its tree: the first of each definition, at most `most` in all; and how many more there are. It fails only where memory is refused.
 pub fn first_errors<'i, A: Allocator + Copy>(
     alloc: A,
     document: &SyntaxNode<'_>,

@@ -1,5 +1,6 @@
 use Rattle.std.proofs.Common.{◌≡◌, ◌++◌, drop, map}
-use Rattle.editor_diagnostics.specs.Syntax.{as_group, groups}
+use Rattle.first_errors.specs.Groups.{groups}
+use Rattle.editor_diagnostics.specs.Syntax.{as_group}
 use Rattle.editor_diagnostics.proofs.syntax.groups.Given as goal
 
 -- the groups so far, and those of the errors that are left

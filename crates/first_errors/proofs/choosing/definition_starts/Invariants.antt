@@ -2,7 +2,7 @@ use Rattle.std.proofs.Common.{◌≡◌, ◌++◌, map}
 use Rattle.apollo_parser.specs.Order.{range_at}
 use Rattle.apollo_parser.specs.References.{node_place}
 use Rattle.apollo_parser.specs.Yields.{rest_nodes}
-use Rattle.first_errors.specs.First.{definition_starts}
+use Rattle.first_errors.specs.Groups.{definition_starts}
 use Rattle.first_errors.proofs.choosing.definition_starts.Given as goal
 
 abbrev pub invariant-loop-node : goal.invariant-loop-node
