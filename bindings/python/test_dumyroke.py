@@ -292,6 +292,10 @@ class Validation(unittest.TestCase):
         self.assertEqual(dumyroke.validate("query Q($a: B) {c(d: $a) ...F} fragment F on T {e}"), [])
         (repeated,) = dumyroke.validate("type T { a: B a: C }")
         self.assertEqual(str(repeated), '1:15: Field "T.a" can only be defined once.')
+        (member,) = dumyroke.validate("union U = A | B | A")
+        self.assertEqual((member.rule, str(member)), ("UniqueUnionMemberTypes", "1:19: Union type U can only include type A once."))
+        (interface,) = dumyroke.validate("interface I implements J & J { a: B }")
+        self.assertEqual((interface.rule, str(interface)), ("UniqueImplementedInterfaces", "1:28: Type I can only implement J once."))
 
     def test_places(self):
         text = "query E {a}\nquery Q($b: B) { c }"

@@ -183,8 +183,9 @@ uint32_t dumyroke_string_value(const uint8_t *literal, size_t literal_length, ui
  * written. */
 uint32_t dumyroke_format(const uint8_t *text, size_t text_length, dumyroke_limits limits, uint8_t *formatted, size_t room, size_t *bytes);
 
-/* The rules of validation that need no schema, under the names that graphql-js gives them, each with its section of the standard (October 2021). The
- * last three are for documents that have definitions of the type system alone, with the two on arguments and input fields. */
+/* The rules of validation, under the names that graphql-js gives them, each with its section of the standard (October 2021). The first twelve are for
+ * documents with operations or fragments. The last five, with the two on arguments and input fields, are for documents of the type system: the items of
+ * one list in one definition have different names. The last two have no name in graphql-js. Other rules of section 3 are not judged. */
 enum dumyroke_rule {
     DUMYROKE_EXECUTABLE_DEFINITIONS = 0,   /* 5.1.1: a document has operations and fragments alone */
     DUMYROKE_UNIQUE_OPERATION_NAMES = 1,   /* 5.2.1.1 */
@@ -200,12 +201,14 @@ enum dumyroke_rule {
     DUMYROKE_NO_UNUSED_VARIABLES = 11,     /* 5.8.4: it, or a fragment it reaches, uses each variable that it declares */
     DUMYROKE_UNIQUE_FIELD_DEFINITION_NAMES = 12,    /* 3.6, 3.7 and 3.10 */
     DUMYROKE_UNIQUE_ARGUMENT_DEFINITION_NAMES = 13, /* 3.6.1 and 3.13 */
-    DUMYROKE_UNIQUE_ENUM_VALUE_NAMES = 14           /* 3.9 */
+    DUMYROKE_UNIQUE_ENUM_VALUE_NAMES = 14,          /* 3.9 */
+    DUMYROKE_UNIQUE_UNION_MEMBER_TYPES = 15,        /* 3.8 */
+    DUMYROKE_UNIQUE_IMPLEMENTED_INTERFACES = 16     /* 3.6 and 3.7 */
 };
 
 /* A violation of a rule. Offsets are in bytes of the text. */
 typedef struct dumyroke_violation {
-    /* The node that breaks the rule: a definition, a spread, a variable, an argument, a field of an object or a variable's definition. */
+    /* The node that breaks the rule: a definition, a spread, a variable, an argument, a field of an object, a variable's definition, or a type's name. */
     size_t start, end;
     /* The other party: the first of the name, the operation whose variables are meant, or the other operation or fragment. Zeros if there is none. */
     size_t other_start, other_end;
@@ -227,7 +230,7 @@ typedef struct dumyroke_violation_counts {
     uint32_t status;
 } dumyroke_violation_counts;
 
-/* Validates a document by the rules that need no schema, within both limits of a parse.
+/* Validates a document by the rules of dumyroke_rule, within both limits of a parse.
  *
  * Writes the violations and their messages, each as far as there is room, as dumyroke_parse does. No two violations are the same, and if there are
  * fewer than `most`, they are all. That a second call needs just the counted room is tested, not proved.

@@ -457,6 +457,10 @@ static void violations(void)
     memset(said, UNTOUCHED, sizeof said);
     CHECK(dumyroke_validate(bytes_of(text), 27, dumyroke_default_limits(), 9, NULL, 0, said, 7, &counts) == DUMYROKE_OK && counts.message_bytes == 66);
     CHECK(!memcmp(said, "Unknown\xee", 8));
+    CHECK(validate("union U = A | A", 9, found, 2, &counts) == DUMYROKE_OK && counts.violations == 1);
+    CHECK(found[0].rule == DUMYROKE_UNIQUE_UNION_MEMBER_TYPES && found[0].start == 14 && found[0].other_start == 10);
+    CHECK(validate("extend type T implements I & I", 9, found, 2, &counts) == DUMYROKE_OK && counts.violations == 1);
+    CHECK(found[0].rule == DUMYROKE_UNIQUE_IMPLEMENTED_INTERFACES && found[0].start == 29 && found[0].other_start == 25);
     CHECK(validate("type T { a: B a: C }", 9, found, 2, &counts) == DUMYROKE_OK && counts.violations == 1);
     CHECK(found[0].rule == DUMYROKE_UNIQUE_FIELD_DEFINITION_NAMES && found[0].start == 14 && found[0].other_start == 9);
     CHECK(validate(text, 1, NULL, 0, &counts) == DUMYROKE_OK && counts.violations == 1);

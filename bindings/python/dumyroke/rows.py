@@ -30,6 +30,8 @@ RULES = (
     "UniqueFieldDefinitionNames",
     "UniqueArgumentDefinitionNames",
     "UniqueEnumValueNames",
+    "UniqueUnionMemberTypes",
+    "UniqueImplementedInterfaces",
 )
 """The rules of validation, by their numbers."""
 

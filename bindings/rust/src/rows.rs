@@ -153,7 +153,11 @@ pub enum Rule {
     UniqueArgumentDefinitionNames,
     /// Section 3.9.
     UniqueEnumValueNames,
+    /// Section 3.8.
+    UniqueUnionMemberTypes,
+    /// Section 3.6 and 3.7.
+    UniqueImplementedInterfaces,
 }
 
 /// The rules, by their numbers.
-pub(crate) const RULES: [Rule; 15] = [Rule::ExecutableDefinitions, Rule::UniqueOperationNames, Rule::LoneAnonymousOperation, Rule::UniqueArgumentNames, Rule::UniqueFragmentNames, Rule::NoUnusedFragments, Rule::KnownFragmentNames, Rule::NoFragmentCycles, Rule::UniqueInputFieldNames, Rule::UniqueVariableNames, Rule::NoUndefinedVariables, Rule::NoUnusedVariables, Rule::UniqueFieldDefinitionNames, Rule::UniqueArgumentDefinitionNames, Rule::UniqueEnumValueNames];
+pub(crate) const RULES: [Rule; 17] = [Rule::ExecutableDefinitions, Rule::UniqueOperationNames, Rule::LoneAnonymousOperation, Rule::UniqueArgumentNames, Rule::UniqueFragmentNames, Rule::NoUnusedFragments, Rule::KnownFragmentNames, Rule::NoFragmentCycles, Rule::UniqueInputFieldNames, Rule::UniqueVariableNames, Rule::NoUndefinedVariables, Rule::NoUnusedVariables, Rule::UniqueFieldDefinitionNames, Rule::UniqueArgumentDefinitionNames, Rule::UniqueEnumValueNames, Rule::UniqueUnionMemberTypes, Rule::UniqueImplementedInterfaces];

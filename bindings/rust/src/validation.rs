@@ -18,8 +18,8 @@ pub struct Violation {
     pub message: String,
 }
 
-/// The places at which a document breaks a rule of the standard's section 5 that needs no schema, at most `most` of them. No two are the same. If there
-/// are fewer, they are all, and there are none exactly if the document keeps all these rules.
+/// The places at which a document breaks a [`Rule`], at most `most` of them. No two are the same. If there are fewer, they are all, and there are none
+/// exactly if the document keeps all these rules. A document of the type system is judged only by those on what one definition has twice.
 ///
 /// ```
 /// use dumyroke::validation::{validate, Rule};

@@ -22,6 +22,11 @@ fn a_document_for_each_rule() {
         (Rule::UniqueVariableNames, "query Q($a: B, $a: B) {c(d: $a)}"),
         (Rule::NoUndefinedVariables, "query Q {a(b: $c)}"),
         (Rule::NoUnusedVariables, "query Q($a: B) {c}"),
+        (Rule::UniqueFieldDefinitionNames, "type T {a: B a: C}"),
+        (Rule::UniqueArgumentDefinitionNames, "directive @d(a: B a: C) on FIELD"),
+        (Rule::UniqueEnumValueNames, "enum E {A A}"),
+        (Rule::UniqueUnionMemberTypes, "union U = A | A"),
+        (Rule::UniqueImplementedInterfaces, "extend type T implements I & I"),
     ];
     for (rule, text) in broken {
         assert!(rules(text).contains(&rule), "{rule:?}");

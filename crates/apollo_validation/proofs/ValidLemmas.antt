@@ -24,7 +24,7 @@ use Rattle.definition_rules.proofs.NameLemmas.{unique_repeats}
 use Rattle.definition_rules.proofs.OperationLemmas.{find_has, find_passes}
 use Rattle.apollo_validation.specs.declared.lists.NamedList.{NamedList}
 use Rattle.apollo_validation.specs.declared.lists.NamedList.TheVariants.{Arguments, ObjectFields, Variables, FieldDefinitions}
-use Rattle.apollo_validation.specs.declared.lists.NamedList.TheVariants.{InputFieldDefinitions, ArgumentDefinitions, EnumValues}
+use Rattle.apollo_validation.specs.declared.lists.NamedList.TheVariants.{InputFieldDefinitions, ArgumentDefinitions, EnumValues, UnionMembers, Interfaces}
 use Rattle.apollo_validation.specs.declared.lists.DocumentKind.{DocumentKind}
 use Rattle.apollo_validation.specs.declared.lists.DocumentKind.TheVariants.{Executable, TypeSystem}
 use Rattle.apollo_validation.specs.Lists.{EachOf, IsExecutable, IsForeign, OneOf, RepeatsAs, RepeatsIn, UniqueAs, UniqueIn}
@@ -67,6 +67,8 @@ unique_of document valid p there FieldDefinitions is judged = let e : false ≡ 
 unique_of document valid p there InputFieldDefinitions is judged = let e : false ≡ true = judged in cc
 unique_of document valid p there ArgumentDefinitions is judged = let e : false ≡ true = judged in cc
 unique_of document valid p there EnumValues is judged = let e : false ≡ true = judged in cc
+unique_of document valid p there UnionMembers is judged = let e : false ≡ true = judged in cc
+unique_of document valid p there Interfaces is judged = let e : false ≡ true = judged in cc
 
 unique_of_type_system : (document : Place) → IsValidTypeSystem document → (p : Place) → Contains (nodes document) p → (list : NamedList)
     → list_of p ≡ Some list → is_judged list TypeSystem ≡ true → AreUnique (items_of p)
@@ -77,6 +79,8 @@ unique_of_type_system document valid p there FieldDefinitions is judged = valid.
 unique_of_type_system document valid p there InputFieldDefinitions is judged = valid.input_field_names p there is
 unique_of_type_system document valid p there ArgumentDefinitions is judged = valid.argument_names p there is
 unique_of_type_system document valid p there EnumValues is judged = valid.enum_values p there is
+unique_of_type_system document valid p there UnionMembers is judged = valid.union_members p there is
+unique_of_type_system document valid p there Interfaces is judged = valid.interfaces p there is
 
 pub type_system_keeps : (document : Place) → IsValidTypeSystem document → (b : Breach) → ¬ BreaksTypeSystem document b
 type_system_keeps document valid b (p, there, so) = no_repeat TypeSystem p (list_of p) refl (unique_of_type_system document valid p there) b so
@@ -84,7 +88,9 @@ type_system_keeps document valid b (p, there, so) = no_repeat TypeSystem p (list
 pub is_type_system : (document : Place) → EachOf (nodes document) (UniqueIn TypeSystem) → IsValidTypeSystem document
 is_type_system document unique = record {
   field_names = λ p there is. unique_at TypeSystem p FieldDefinitions is refl (unique p there);
+  interfaces = λ p there is. unique_at TypeSystem p Interfaces is refl (unique p there);
   argument_names = λ p there is. unique_at TypeSystem p ArgumentDefinitions is refl (unique p there);
+  union_members = λ p there is. unique_at TypeSystem p UnionMembers is refl (unique p there);
   enum_values = λ p there is. unique_at TypeSystem p EnumValues is refl (unique p there);
   input_field_names = λ p there is. unique_at TypeSystem p InputFieldDefinitions is refl (unique p there);
   given_names = λ p there is. unique_at TypeSystem p Arguments is refl (unique p there);
@@ -201,6 +207,8 @@ stage_of_list FieldDefinitions = refl
 stage_of_list InputFieldDefinitions = refl
 stage_of_list ArgumentDefinitions = refl
 stage_of_list EnumValues = refl
+stage_of_list UnionMembers = refl
+stage_of_list Interfaces = refl
 
 stage_of : (b c : Breach) → b ≡ c → stage b.rule ≡ stage c.rule
 stage_of b c is = ap (λ (x : Breach). stage x.rule) is

@@ -3,7 +3,7 @@ use Rattle.std.specs.Prelude.{◌≡◌, List, Bool, true, false, not, ◌&&◌,
 use Rattle.std.specs.List.{Contains, filter, filter_map, list_any}
 use Rattle.document_grammar.specs.declared.kind.SyntaxKind.TheVariants.{ARGUMENTS, ARGUMENTS_DEFINITION, ENUM_VALUES_DEFINITION, FIELDS_DEFINITION}
 use Rattle.document_grammar.specs.declared.kind.SyntaxKind.TheVariants.{FRAGMENT_DEFINITION, INPUT_FIELDS_DEFINITION, OBJECT_VALUE, OPERATION_DEFINITION}
-use Rattle.document_grammar.specs.declared.kind.SyntaxKind.TheVariants.{VARIABLE_DEFINITIONS}
+use Rattle.document_grammar.specs.declared.kind.SyntaxKind.TheVariants.{IMPLEMENTS_INTERFACES, UNION_MEMBER_TYPES, VARIABLE_DEFINITIONS}
 use Rattle.document_grammar.specs.Numbers.{is_kind}
 use Rattle.apollo_tree.specs.Order.{Place, kind_at}
 use Rattle.apollo_tree.specs.Children.{child_nodes, is_node_place}
@@ -12,13 +12,14 @@ use Rattle.executable_document.specs.Mentions.{Named}
 use Rattle.definition_rules.specs.declared.violations.Rule.{Rule}
 use Rattle.definition_rules.specs.declared.violations.Rule.TheVariants.{ExecutableDefinitions, UniqueArgumentNames, UniqueInputFieldNames, UniqueVariableNames}
 use Rattle.definition_rules.specs.declared.violations.Rule.TheVariants.{UniqueFieldDefinitionNames, UniqueArgumentDefinitionNames, UniqueEnumValueNames}
+use Rattle.definition_rules.specs.declared.violations.Rule.TheVariants.{UniqueUnionMemberTypes, UniqueImplementedInterfaces}
 use Rattle.definition_rules.specs.Violations.{Breach, breach}
 use Rattle.definition_rules.specs.Rules.{AreUnique, Repeats}
 use Rattle.apollo_validation.specs.declared.lists.DocumentKind.{DocumentKind}
 use Rattle.apollo_validation.specs.declared.lists.DocumentKind.TheVariants.{Executable, TypeSystem}
 use Rattle.apollo_validation.specs.declared.lists.NamedList.{NamedList}
 use Rattle.apollo_validation.specs.declared.lists.NamedList.TheVariants.{Arguments, ObjectFields, Variables, FieldDefinitions}
-use Rattle.apollo_validation.specs.declared.lists.NamedList.TheVariants.{InputFieldDefinitions, ArgumentDefinitions, EnumValues}
+use Rattle.apollo_validation.specs.declared.lists.NamedList.TheVariants.{InputFieldDefinitions, ArgumentDefinitions, EnumValues, UnionMembers, Interfaces}
 use Rattle.apollo_validation.specs.OwnNames.{own_name}
 
 -- the list that an element is
@@ -38,7 +39,11 @@ list_of p =
     then Some ArgumentDefinitions
     else (if is_kind ENUM_VALUES_DEFINITION (kind_at p)
     then Some EnumValues
-    else None))))))
+    else (if is_kind UNION_MEMBER_TYPES (kind_at p)
+    then Some UnionMembers
+    else (if is_kind IMPLEMENTS_INTERFACES (kind_at p)
+    then Some Interfaces
+    else None))))))))
 
 abbrev pub rule_of : NamedList → Rule
 rule_of Arguments = UniqueArgumentNames
@@ -48,6 +53,8 @@ rule_of FieldDefinitions = UniqueFieldDefinitionNames
 rule_of InputFieldDefinitions = UniqueFieldDefinitionNames
 rule_of ArgumentDefinitions = UniqueArgumentDefinitionNames
 rule_of EnumValues = UniqueEnumValueNames
+rule_of UnionMembers = UniqueUnionMemberTypes
+rule_of Interfaces = UniqueImplementedInterfaces
 
 abbrev pub is_as_executable : DocumentKind → Bool
 is_as_executable Executable = true
@@ -62,6 +69,8 @@ is_judged FieldDefinitions kind = not (is_as_executable kind)
 is_judged InputFieldDefinitions kind = not (is_as_executable kind)
 is_judged ArgumentDefinitions kind = not (is_as_executable kind)
 is_judged EnumValues kind = not (is_as_executable kind)
+is_judged UnionMembers kind = not (is_as_executable kind)
+is_judged Interfaces kind = not (is_as_executable kind)
 
 -- the list that an element is, if documents of a kind are judged by it
 abbrev pub judged_list : DocumentKind → Place → Option NamedList

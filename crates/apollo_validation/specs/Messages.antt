@@ -9,7 +9,7 @@ use Rattle.definition_rules.specs.declared.violations.Rule.TheVariants.{Executab
 use Rattle.definition_rules.specs.declared.violations.Rule.TheVariants.{UniqueArgumentNames, UniqueFragmentNames, NoUnusedFragments, KnownFragmentNames}
 use Rattle.definition_rules.specs.declared.violations.Rule.TheVariants.{NoFragmentCycles, UniqueInputFieldNames, UniqueVariableNames, NoUndefinedVariables}
 use Rattle.definition_rules.specs.declared.violations.Rule.TheVariants.{NoUnusedVariables, UniqueFieldDefinitionNames, UniqueArgumentDefinitionNames}
-use Rattle.definition_rules.specs.declared.violations.Rule.TheVariants.{UniqueEnumValueNames}
+use Rattle.definition_rules.specs.declared.violations.Rule.TheVariants.{UniqueEnumValueNames, UniqueUnionMemberTypes, UniqueImplementedInterfaces}
 use Rattle.definition_rules.specs.Violations.{Breach}
 use Rattle.apollo_validation.specs.OwnNames.{name_at, or_nothing, own_name}
 
@@ -54,9 +54,13 @@ owner p = option_and_then parent_place (parent_place p)
 abbrev pub name_of_other : Option Place → Option Name
 name_of_other other = option_and_then own_name other
 
+-- the name of that definition
+abbrev pub holder : Place → Name
+holder p = or_nothing (name_of_other (owner p))
+
 -- a field or an enum value: `Type.field`
 abbrev pub member : Place → Text
-member p = or_nothing (name_of_other (owner p)) ++ codes "." ++ name_at p
+member p = holder p ++ codes "." ++ name_at p
 
 -- the directive or the field that has an argument: `@directive` or `Type.field`
 abbrev pub with_arguments : Option Place → Text
@@ -70,6 +74,13 @@ argument p = with_arguments (owner p) ++ codes "(" ++ name_at p ++ codes ":)"
 -- `field`, `argument` or `enum value`, and where it is
 abbrev pub only_once : Text → Text → Text
 only_once noun thing = noun ++ codes " \"" ++ thing ++ codes "\" can only be defined once."
+
+-- a union that has a type twice, and a type that has an interface twice
+abbrev pub member_type : Name → Name → Text
+member_type definition name = codes "Union type " ++ definition ++ codes " can only include type " ++ name ++ codes " once."
+
+abbrev pub interface : Name → Name → Text
+interface definition name = codes "Type " ++ definition ++ codes " can only implement " ++ name ++ codes " once."
 
 abbrev pub wording : Rule → Place → Option Place → Text
 wording ExecutableDefinitions p other = not_executable p
@@ -87,6 +98,8 @@ wording NoUnusedVariables p other = never_used (name_at p) (name_of_other other)
 wording UniqueFieldDefinitionNames p other = only_once (codes "Field") (member p)
 wording UniqueArgumentDefinitionNames p other = only_once (codes "Argument") (argument p)
 wording UniqueEnumValueNames p other = only_once (codes "Enum value") (member p)
+wording UniqueUnionMemberTypes p other = member_type (holder p) (name_at p)
+wording UniqueImplementedInterfaces p other = interface (holder p) (name_at p)
 
 -- the message of a breach
 abbrev pub message_of : Breach → Text

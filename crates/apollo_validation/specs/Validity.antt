@@ -13,7 +13,7 @@ use Rattle.definition_rules.specs.Violations.{AreDistinct, Breach}
 use Rattle.apollo_validation.specs.declared.lists.DocumentKind.{DocumentKind}
 use Rattle.apollo_validation.specs.declared.lists.DocumentKind.TheVariants.{Executable, TypeSystem}
 use Rattle.apollo_validation.specs.declared.lists.NamedList.TheVariants.{Arguments, ObjectFields, Variables, FieldDefinitions}
-use Rattle.apollo_validation.specs.declared.lists.NamedList.TheVariants.{InputFieldDefinitions, ArgumentDefinitions, EnumValues}
+use Rattle.apollo_validation.specs.declared.lists.NamedList.TheVariants.{InputFieldDefinitions, ArgumentDefinitions, EnumValues, UnionMembers, Interfaces}
 use Rattle.apollo_validation.specs.Lists.{EachOf, IsExecutable, IsForeign, OneOf, RepeatsIn, items_of, list_of, nodes}
 
 -- ---- documents of operations and fragments: section 5
@@ -60,8 +60,12 @@ pub data Breaks (document : Place) (b : Breach) : Type 0 where
 pub record IsValidTypeSystem (document : Place) : Type 0 where
   -- 3.6, 3.7: no two fields of an object type or an interface have the same name
   pub field_names : (p : Place) → Contains (nodes document) p → list_of p ≡ Some FieldDefinitions → AreUnique (items_of p)
+  -- 3.6, 3.7: no object type or interface has an interface twice in one list
+  pub interfaces : (p : Place) → Contains (nodes document) p → list_of p ≡ Some Interfaces → AreUnique (items_of p)
   -- 3.6.1, 3.13: no two arguments of a field or a directive have the same name
   pub argument_names : (p : Place) → Contains (nodes document) p → list_of p ≡ Some ArgumentDefinitions → AreUnique (items_of p)
+  -- 3.8: no union has a member type twice in one list
+  pub union_members : (p : Place) → Contains (nodes document) p → list_of p ≡ Some UnionMembers → AreUnique (items_of p)
   -- 3.9: no two values of an enum have the same name
   pub enum_values : (p : Place) → Contains (nodes document) p → list_of p ≡ Some EnumValues → AreUnique (items_of p)
   -- 3.10: no two fields of an input object type have the same name

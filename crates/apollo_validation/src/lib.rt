@@ -1,7 +1,7 @@
 //! Validation by the rules of the standard (GraphQL October 2021) that need no schema.
 //!
 //! `validate_executable` finds each place at which operations and fragments break a rule of section 5, up to a bound, and none exactly if the
-//! document keeps them all; `validate_type_system` finds names that are defined twice in one definition (section 3). `validate` takes the one
+//! document keeps them all; `validate_type_system` finds names that one definition has twice in a list (section 3). `validate` takes the one
 //! that fits the document, and `message` says what is wrong. `document_checks`, `editor_validation` and `dumyroke_validation` call both.
 #![tactic(auto)]
 

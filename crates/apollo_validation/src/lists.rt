@@ -32,6 +32,8 @@ pub(crate) enum NamedList {
     InputFieldDefinitions,
     ArgumentDefinitions,
     EnumValues,
+    UnionMembers,
+    Interfaces,
 }
 
 // The list that a node is.
@@ -60,6 +62,12 @@ fn list_of(node: &SyntaxNode<'_>) -> Option<NamedList>
     if kind.is(SyntaxKind::ENUM_VALUES_DEFINITION) {
         return Some(NamedList::EnumValues);
     }
+    if kind.is(SyntaxKind::UNION_MEMBER_TYPES) {
+        return Some(NamedList::UnionMembers);
+    }
+    if kind.is(SyntaxKind::IMPLEMENTS_INTERFACES) {
+        return Some(NamedList::Interfaces);
+    }
     None
 }
 
@@ -73,7 +81,9 @@ fn is_judged(list: NamedList, kind: DocumentKind) -> bool
         NamedList::FieldDefinitions
         | NamedList::InputFieldDefinitions
         | NamedList::ArgumentDefinitions
-        | NamedList::EnumValues => matches!(kind, DocumentKind::TypeSystem),
+        | NamedList::EnumValues
+        | NamedList::UnionMembers
+        | NamedList::Interfaces => matches!(kind, DocumentKind::TypeSystem),
     }
 }
 
@@ -101,6 +111,8 @@ fn rule_of(list: NamedList) -> Rule
         }
         NamedList::ArgumentDefinitions => Rule::UniqueArgumentDefinitionNames,
         NamedList::EnumValues => Rule::UniqueEnumValueNames,
+        NamedList::UnionMembers => Rule::UniqueUnionMemberTypes,
+        NamedList::Interfaces => Rule::UniqueImplementedInterfaces,
     }
 }
 

@@ -3,7 +3,7 @@ ghost use Rattle.std.specs.Prelude.{◌≡◌, ◌++◌, IfOk, bytes_eq, codes, 
 ghost use Rattle.apollo_tree.specs.References.{node_place};
 ghost use Rattle.definition_rules.specs.Violations.{as_breach};
 ghost use Rattle.apollo_validation.specs.OwnNames.{own_name};
-ghost use Rattle.apollo_validation.specs.Messages.{argument, is_schema, member, message_of, name_of_other, never_used, not_defined, not_executable, only_once, only_one, owner, with_arguments, within_itself};
+ghost use Rattle.apollo_validation.specs.Messages.{argument, holder, interface, is_schema, member, member_type, message_of, name_of_other, never_used, not_defined, not_executable, only_once, only_one, owner, with_arguments, within_itself};
 
 use crate::names::{name_at, or_nothing, own_name};
 use apollo_tree::{SyntaxKind, SyntaxNode};
@@ -152,12 +152,18 @@ fn name_of_other<'t>(other: Option<SyntaxNode<'t>>) -> Option<&'t str>
     own_name(&other?)
 }
 
+// The name of that definition.
+fn holder<'t>(node: &SyntaxNode<'t>) -> &'t str
+    ensures { result.now ≡ holder (node_place node.now) }
+{
+    or_nothing(name_of_other(owner(node)))
+}
+
 // A field or an enum value, as `Type.field`.
 fn member<A: Allocator>(alloc: A, node: &SyntaxNode<'_>) -> Result<String<A>, AllocError>
     ensures { IfOk result (λ text. string_bytes text ≡ member (node_place node.now)) }
 {
-    let holder = or_nothing(name_of_other(owner(node)));
-    let mut text = String::from_str(alloc, holder)?;
+    let mut text = String::from_str(alloc, holder(node))?;
     text.push_str(".")?;
     text.push_str(name_at(node))?;
     Ok(text)
@@ -223,6 +229,38 @@ fn argument_once<A: Allocator + Copy>(
     only_once(alloc, "Argument", thing.as_str())
 }
 
+// A type that a union has twice.
+fn member_type<A: Allocator>(
+    alloc: A,
+    definition: &str,
+    name: &str,
+) -> Result<String<A>, AllocError>
+    ensures { IfOk result (λ text. string_bytes text ≡ member_type definition.now name.now) }
+{
+    with_names(
+        alloc,
+        "Union type ",
+        definition,
+        " can only include type ",
+        name,
+        " once.",
+    )
+}
+
+// An interface that a type has twice.
+fn interface<A: Allocator>(alloc: A, definition: &str, name: &str) -> Result<String<A>, AllocError>
+    ensures { IfOk result (λ text. string_bytes text ≡ interface definition.now name.now) }
+{
+    with_names(
+        alloc,
+        "Type ",
+        definition,
+        " can only implement ",
+        name,
+        " once.",
+    )
+}
+
 /// The message of a violation, in the words of graphql-js 16 with double quotes. For a fragment that is spread within itself, graphql-js names
 /// each fragment on the way; here it is the first.
 pub fn message<A: Allocator + Copy>(
@@ -252,5 +290,7 @@ pub fn message<A: Allocator + Copy>(
         Rule::UniqueFieldDefinitionNames => member_once(alloc, "Field", node),
         Rule::UniqueArgumentDefinitionNames => argument_once(alloc, node),
         Rule::UniqueEnumValueNames => member_once(alloc, "Enum value", node),
+        Rule::UniqueUnionMemberTypes => member_type(alloc, holder(node), name),
+        Rule::UniqueImplementedInterfaces => interface(alloc, holder(node), name),
     }
 }

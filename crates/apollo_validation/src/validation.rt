@@ -104,7 +104,7 @@ pub fn validate_executable<'t>(
     Ok(list)
 }
 
-/// The same for a document of the type system: the names that are defined, or given, twice in one list.
+/// The same for a document of the type system: the names that are defined, mentioned or given twice in one list. Other rules of section 3 are not judged.
 pub fn validate_type_system<'t>(
     alloc: Global,
     document: &SyntaxNode<'t>,

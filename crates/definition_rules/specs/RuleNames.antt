@@ -6,9 +6,9 @@ use Rattle.definition_rules.specs.declared.violations.Rule.TheVariants.{UniqueAr
 use Rattle.definition_rules.specs.declared.violations.Rule.TheVariants.{KnownFragmentNames, NoFragmentCycles, UniqueInputFieldNames}
 use Rattle.definition_rules.specs.declared.violations.Rule.TheVariants.{UniqueVariableNames, NoUndefinedVariables, NoUnusedVariables}
 use Rattle.definition_rules.specs.declared.violations.Rule.TheVariants.{UniqueFieldDefinitionNames, UniqueArgumentDefinitionNames}
-use Rattle.definition_rules.specs.declared.violations.Rule.TheVariants.{UniqueEnumValueNames}
+use Rattle.definition_rules.specs.declared.violations.Rule.TheVariants.{UniqueEnumValueNames, UniqueUnionMemberTypes, UniqueImplementedInterfaces}
 
--- as in graphql-js, without the `Rule` at the end
+-- as in graphql-js, without the `Rule` at the end; the last two have no name there
 abbrev pub rule_name : Rule → List ℕ
 rule_name ExecutableDefinitions = codes "ExecutableDefinitions"
 rule_name UniqueOperationNames = codes "UniqueOperationNames"
@@ -25,3 +25,5 @@ rule_name NoUnusedVariables = codes "NoUnusedVariables"
 rule_name UniqueFieldDefinitionNames = codes "UniqueFieldDefinitionNames"
 rule_name UniqueArgumentDefinitionNames = codes "UniqueArgumentDefinitionNames"
 rule_name UniqueEnumValueNames = codes "UniqueEnumValueNames"
+rule_name UniqueUnionMemberTypes = codes "UniqueUnionMemberTypes"
+rule_name UniqueImplementedInterfaces = codes "UniqueImplementedInterfaces"

@@ -2,7 +2,7 @@
 use apollo_tree::SyntaxNode;
 use std::alloc::{AllocError, Global};
 
-/// A rule of validation, under the name that graphql-js gives it, with its sections (GraphQL October 2021).
+/// A rule of validation, under the name that graphql-js gives it, with its sections (GraphQL October 2021). The last two have no name there.
 #[derive(Clone, Copy)]
 pub enum Rule {
     /// 5.1.1
@@ -35,6 +35,10 @@ pub enum Rule {
     UniqueArgumentDefinitionNames,
     /// 3.9
     UniqueEnumValueNames,
+    /// 3.8
+    UniqueUnionMemberTypes,
+    /// 3.6 and 3.7
+    UniqueImplementedInterfaces,
 }
 
 impl Rule {
@@ -61,6 +65,8 @@ impl Rule {
             Rule::UniqueFieldDefinitionNames => "UniqueFieldDefinitionNames",
             Rule::UniqueArgumentDefinitionNames => "UniqueArgumentDefinitionNames",
             Rule::UniqueEnumValueNames => "UniqueEnumValueNames",
+            Rule::UniqueUnionMemberTypes => "UniqueUnionMemberTypes",
+            Rule::UniqueImplementedInterfaces => "UniqueImplementedInterfaces",
         }
     }
 }

@@ -38,6 +38,8 @@ rule_number rule.NoUnusedVariables = 11
 rule_number rule.UniqueFieldDefinitionNames = 12
 rule_number rule.UniqueArgumentDefinitionNames = 13
 rule_number rule.UniqueEnumValueNames = 14
+rule_number rule.UniqueUnionMemberTypes = 15
+rule_number rule.UniqueImplementedInterfaces = 16
 
 -- The messages of violations, one after another.
 abbrev pub messages : List Breach → List ℕ
