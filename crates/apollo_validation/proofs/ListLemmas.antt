@@ -10,14 +10,18 @@ use Rattle.executable_document.specs.Mentions.{Named}
 use Rattle.executable_document.proofs.Lists.{in_filter_map}
 use Rattle.definition_rules.specs.declared.violations.Violations.{Violations}
 use Rattle.definition_rules.specs.Violations.{Adds, Breach}
-use Rattle.definition_rules.specs.Rules.{AreApart, AreUnique, Repeats, item_at}
+use Rattle.definition_rules.specs.Parts.{AreApart, item_at}
+use Rattle.definition_rules.specs.Rules.{AreUnique}
+use Rattle.definition_rules.specs.Broken.{Repeats}
 use Rattle.definition_rules.proofs.ApartLemmas.{named_place}
 use Rattle.definition_rules.proofs.PairLemmas.{pairs_filter_map}
 use Rattle.definition_rules.proofs.TreeLemmas.{IsBefore, child_node_parent, child_nodes_apart, nodes_rise}
 use Rattle.apollo_validation.specs.declared.lists.DocumentKind.{DocumentKind}
 use Rattle.apollo_validation.specs.declared.lists.NamedList.{NamedList}
 use Rattle.apollo_validation.specs.OwnNames.{own_name}
-use Rattle.apollo_validation.specs.Lists.{IsForeign, RepeatsAs, RepeatsIn, UniqueAs, UniqueIn, item_of, items_of, judged_list, nodes, rule_of}
+use Rattle.apollo_validation.specs.Breaches.{IsForeign, RepeatsAs, RepeatsIn, judged_list, rule_of}
+use Rattle.apollo_validation.specs.Unique.{UniqueAs, UniqueIn}
+use Rattle.apollo_validation.specs.Lists.{item_of, items_of, nodes}
 use Rattle.apollo_validation.proofs.WalkLemmas.{DifferAt}
 
 -- the subtree of one place ends before the other begins, so they differ

@@ -17,8 +17,10 @@ use Rattle.definition_rules.specs.declared.violations.Violation.{Violation}
 use Rattle.definition_rules.specs.declared.violations.Violations.{Violations}
 use Rattle.definition_rules.specs.Violations.{Adds, Breach, as_breach, count, found}
 use Rattle.definition_rules.specs.Parts.{at, operations, parts_in, targets}
-use Rattle.definition_rules.specs.Rules.{AnonymousIsAlone, AreUnique, BreaksVariables, FragmentsAreUsed, HasNoCycles, IsNotAlone, IsOnCycle, IsUndefinedSpread}
-use Rattle.definition_rules.specs.Rules.{IsUndefinedVariable, IsUnusedFragment, IsUnusedVariable, Repeats, SpreadsAreDefined, VariablesAreWell}
+use Rattle.definition_rules.specs.Rules.{AnonymousIsAlone, AreUnique, FragmentsAreUsed, HasNoCycles}
+use Rattle.definition_rules.specs.Broken.{BreaksVariables, IsNotAlone, IsOnCycle, IsUndefinedSpread}
+use Rattle.definition_rules.specs.Broken.{IsUndefinedVariable, IsUnusedFragment, IsUnusedVariable, Repeats}
+use Rattle.definition_rules.specs.Rules.{SpreadsAreDefined, VariablesAreWell}
 use Rattle.definition_rules.proofs.AddLemmas.{adds_same, adds_then}
 use Rattle.definition_rules.proofs.NameLemmas.{unique_repeats}
 use Rattle.definition_rules.proofs.OperationLemmas.{find_has, find_passes}
@@ -27,11 +29,14 @@ use Rattle.apollo_validation.specs.declared.lists.NamedList.TheVariants.{Argumen
 use Rattle.apollo_validation.specs.declared.lists.NamedList.TheVariants.{InputFieldDefinitions, ArgumentDefinitions, EnumValues, UnionMembers, Interfaces}
 use Rattle.apollo_validation.specs.declared.lists.DocumentKind.{DocumentKind}
 use Rattle.apollo_validation.specs.declared.lists.DocumentKind.TheVariants.{Executable, TypeSystem}
-use Rattle.apollo_validation.specs.Lists.{EachOf, IsExecutable, IsForeign, OneOf, RepeatsAs, RepeatsIn, UniqueAs, UniqueIn}
-use Rattle.apollo_validation.specs.Lists.{is_judged, items_of, list_of, nodes, rule_of}
-use Rattle.apollo_validation.specs.Validity.{AreBreaches, Breaks, BreaksTypeSystem, IsValid, IsValidTypeSystem}
-use Rattle.apollo_validation.specs.Validity.{executable_definitions, operation_names, lone_anonymous_operation, lists}
-use Rattle.apollo_validation.specs.Validity.{fragment_names, fragments_used, spreads_defined, no_cycles, variables}
+use Rattle.apollo_validation.specs.Breaches.{IsForeign, OneOf, RepeatsAs, RepeatsIn}
+use Rattle.apollo_validation.specs.Unique.{UniqueAs, UniqueIn}
+use Rattle.apollo_validation.specs.Breaches.{is_judged, rule_of}
+use Rattle.apollo_validation.specs.Lists.{items_of, list_of, nodes}
+use Rattle.apollo_validation.specs.Breaches.{AreBreaches, Breaks, BreaksTypeSystem}
+use Rattle.apollo_validation.specs.Validity.{IsValid, IsValidTypeSystem, EachOf, IsExecutable}
+use Rattle.apollo_validation.specs.Breaches.{executable_definitions, operation_names, lone_anonymous_operation, lists}
+use Rattle.apollo_validation.specs.Breaches.{fragment_names, fragments_used, spreads_defined, no_cycles, variables}
 
 -- a list by which documents of a kind are judged
 abbrev judge : DocumentKind → Option NamedList → Option NamedList

@@ -8,7 +8,8 @@ use Rattle.apollo_tree.specs.Order.{Place}
 use Rattle.definition_rules.specs.declared.violations.Violations.{Violations}
 use Rattle.definition_rules.specs.Violations.{Breach, Adds}
 use Rattle.definition_rules.proofs.AddLemmas.{adds_nothing, adds_same, adds_then}
-use Rattle.apollo_validation.specs.Lists.{EachOf, OneOf}
+use Rattle.apollo_validation.specs.Validity.{EachOf}
+use Rattle.apollo_validation.specs.Breaches.{OneOf}
 
 -- nothing is a breach at two of the elements
 abbrev pub DifferAt : (Place → Breach → Type 0) → List Place → Type 0

@@ -1,20 +1,23 @@
--- Which documents are valid by the rules that need no schema (GraphQL October 2021), and what breaks these rules.
-use Rattle.std.specs.Prelude.{◌≡◌, ℕ, ◌<◌, ◌≤◌, List, length, Some}
+-- Which documents are valid by the rules that need no schema (GraphQL October 2021).
+use Rattle.std.specs.Prelude.{◌≡◌, ℕ, List, true, Some}
 use Rattle.std.specs.List.{Contains}
 use Rattle.apollo_tree.specs.Order.{Place}
 use Rattle.apollo_tree.specs.Children.{child_nodes}
 use Rattle.executable_document.specs.declared.executables.DefinitionKind.TheVariants.{Operation, Fragment}
 use Rattle.executable_document.specs.Definitions.{defined, named_definitions}
-use Rattle.definition_rules.specs.declared.violations.Rule.TheVariants.{UniqueFragmentNames, UniqueOperationNames}
 use Rattle.definition_rules.specs.Parts.{operations, parts_in}
-use Rattle.definition_rules.specs.Rules.{AnonymousIsAlone, AreUnique, BreaksVariables, FragmentsAreUsed, HasNoCycles, IsNotAlone}
-use Rattle.definition_rules.specs.Rules.{IsOnCycle, IsUndefinedSpread, IsUnusedFragment, Repeats, SpreadsAreDefined, VariablesAreDefined, VariablesAreUsed}
-use Rattle.definition_rules.specs.Violations.{AreDistinct, Breach}
+use Rattle.definition_rules.specs.Rules.{AnonymousIsAlone, AreUnique, FragmentsAreUsed, HasNoCycles, SpreadsAreDefined, VariablesAreDefined, VariablesAreUsed}
 use Rattle.apollo_validation.specs.declared.lists.DocumentKind.{DocumentKind}
 use Rattle.apollo_validation.specs.declared.lists.DocumentKind.TheVariants.{Executable, TypeSystem}
 use Rattle.apollo_validation.specs.declared.lists.NamedList.TheVariants.{Arguments, ObjectFields, Variables, FieldDefinitions}
 use Rattle.apollo_validation.specs.declared.lists.NamedList.TheVariants.{InputFieldDefinitions, ArgumentDefinitions, EnumValues, UnionMembers, Interfaces}
-use Rattle.apollo_validation.specs.Lists.{EachOf, IsExecutable, IsForeign, OneOf, RepeatsIn, items_of, list_of, nodes}
+use Rattle.apollo_validation.specs.Lists.{is_executable, items_of, list_of, nodes}
+
+abbrev pub EachOf : List Place → (Place → Type 0) → Type 0
+EachOf places IsWell = (p : Place) → Contains places p → IsWell p
+
+abbrev pub IsExecutable : Place → Type 0
+IsExecutable p = is_executable p ≡ true
 
 -- ---- documents of operations and fragments: section 5
 -- The document keeps all of these rules.
@@ -44,18 +47,6 @@ pub record IsValid (document : Place) : Type 0 where
   -- 5.8.4: an operation uses each variable that it declares, in itself or in a fragment that it reaches
   pub variables_used : (operation : ℕ) → Contains (operations (parts_in document)) operation → VariablesAreUsed (parts_in document) operation
 
--- It breaks one of these rules.
-pub data Breaks (document : Place) (b : Breach) : Type 0 where
-  executable_definitions : OneOf (child_nodes document) IsForeign b → Breaks document b
-  operation_names : Repeats UniqueOperationNames (named_definitions Operation (defined document)) b → Breaks document b
-  lone_anonymous_operation : IsNotAlone (parts_in document) b → Breaks document b
-  lists : OneOf (nodes document) (RepeatsIn Executable) b → Breaks document b
-  fragment_names : Repeats UniqueFragmentNames (named_definitions Fragment (defined document)) b → Breaks document b
-  fragments_used : IsUnusedFragment (parts_in document) b → Breaks document b
-  spreads_defined : IsUndefinedSpread (parts_in document) b → Breaks document b
-  no_cycles : IsOnCycle (parts_in document) b → Breaks document b
-  variables : BreaksVariables (parts_in document) b → Breaks document b
-
 -- ---- documents of the type system: names within one definition
 pub record IsValidTypeSystem (document : Place) : Type 0 where
   -- 3.6, 3.7: no two fields of an object type or an interface have the same name
@@ -75,22 +66,7 @@ pub record IsValidTypeSystem (document : Place) : Type 0 where
   -- 5.6.3: no two fields of an object value have the same name
   pub object_field_names : (p : Place) → Contains (nodes document) p → list_of p ≡ Some ObjectFields → AreUnique (items_of p)
 
--- An item of one of these lists has the name of an earlier one.
-abbrev pub BreaksTypeSystem : Place → Breach → Type 0
-BreaksTypeSystem document b = OneOf (nodes document) (RepeatsIn TypeSystem) b
-
 -- ---- documents of either kind
 abbrev pub IsValidAs : DocumentKind → Place → Type 0
 IsValidAs Executable document = IsValid document
 IsValidAs TypeSystem document = IsValidTypeSystem document
-
-abbrev pub BreaksAs : DocumentKind → Place → Breach → Type 0
-BreaksAs Executable document b = Breaks document b
-BreaksAs TypeSystem document b = BreaksTypeSystem document b
-
--- All of these break a rule, and none is there twice. Unless there are as many as the bound allows, they are all that do.
-pub record AreBreaches (most : ℕ) (Breaks : Breach → Type 0) (found : List Breach) : Type 0 where
-  pub no_others : (b : Breach) → Contains found b → Breaks b
-  pub all : length found < most → (b : Breach) → Breaks b → Contains found b
-  pub few : length found ≤ most
-  pub distinct : AreDistinct found

@@ -5,7 +5,10 @@ ghost use Rattle.apollo_tree.specs.Children.{child_nodes};
 ghost use Rattle.apollo_tree.specs.References.{node_place};
 ghost use Rattle.executable_document.specs.Mentions.{as_named};
 ghost use Rattle.definition_rules.specs.Violations.{Adds};
-ghost use Rattle.apollo_validation.specs.Lists.{EachOf, IsExecutable, IsForeign, OneOf, RepeatsIn, UniqueIn, document_kind, has_item, is_executable, is_judged, item_of, items_of, judged_list, list_of, nodes, rule_of};
+ghost use Rattle.apollo_validation.specs.Validity.{EachOf, IsExecutable};
+ghost use Rattle.apollo_validation.specs.Lists.{document_kind, has_item, is_executable, item_of, items_of, list_of, nodes};
+ghost use Rattle.apollo_validation.specs.Breaches.{IsForeign, OneOf, RepeatsIn, is_judged, judged_list, rule_of};
+ghost use Rattle.apollo_validation.specs.Unique.{UniqueIn};
 
 use crate::names::own_name;
 use apollo_tree::{SyntaxKind, SyntaxNode};

@@ -5,9 +5,11 @@ ghost use Rattle.apollo_tree.specs.References.{node_place};
 ghost use Rattle.executable_document.specs.Names.{AreFirstNumbers};
 ghost use Rattle.executable_document.specs.Definitions.{as_defined, defined, fragment_names, named_definitions};
 ghost use Rattle.definition_rules.specs.Parts.{as_parts, definitions as definitions_of, parts_in};
-ghost use Rattle.definition_rules.specs.Rules.{AreUnique, Repeats};
+ghost use Rattle.definition_rules.specs.Rules.{AreUnique};
+ghost use Rattle.definition_rules.specs.Broken.{Repeats};
 ghost use Rattle.definition_rules.specs.Violations.{Adds, as_breach};
-ghost use Rattle.apollo_validation.specs.Validity.{AreBreaches, Breaks, BreaksAs, BreaksTypeSystem, IsValid, IsValidAs, IsValidTypeSystem};
+ghost use Rattle.apollo_validation.specs.Breaches.{AreBreaches, Breaks, BreaksAs, BreaksTypeSystem};
+ghost use Rattle.apollo_validation.specs.Validity.{IsValid, IsValidAs, IsValidTypeSystem};
 ghost use Rattle.apollo_validation.specs.Lists.{document_kind as kind_of};
 
 use crate::lists::{DocumentKind, add_foreign, add_lists, document_kind};

@@ -20,7 +20,7 @@ use Rattle.executable_document.specs.Mentions.{Named, mentioned, mentioned_name,
 use Rattle.executable_document.proofs.Lists.{in_filter, in_filter_map}
 use Rattle.definition_rules.specs.declared.reading.DefinitionParts.{DefinitionParts}
 use Rattle.definition_rules.specs.Parts.{AreInOneDocument, Parts, as_parts, at, is_operation, nothing, operations, parts_of, place_at}
-use Rattle.definition_rules.specs.Rules.{AreApart}
+use Rattle.definition_rules.specs.Parts.{AreApart}
 use Rattle.definition_rules.proofs.PairLemmas.{in_map, pairs_filter_map, pairs_map, range_rises}
 use Rattle.definition_rules.proofs.TreeLemmas.{IsBefore, below_range, child_nodes_apart, nodes_rise}
 

@@ -16,8 +16,11 @@ use Rattle.definition_rules.specs.declared.violations.Violations.{Violations}
 use Rattle.definition_rules.specs.Violations.{Breach, breach, Adds, count}
 use Rattle.definition_rules.specs.Parts.{AreInOneDocument, Parts, at, nothing, definitions, fragment_named, place_at, operations, targets, Reaches}
 use Rattle.definition_rules.specs.Graphs.{IsSpreadGraph}
-use Rattle.definition_rules.specs.Rules.{AreKnown, IsUnknown, IsFragmentName, IsUndefinedSpreadOf, IsUndefinedSpread}
-use Rattle.definition_rules.specs.Rules.{SpreadsAreDefined, FragmentsAreUsed, IsUnusedFragment, HasNoCycles, IsOnCycle, LeadsBack}
+use Rattle.definition_rules.specs.Rules.{AreKnown}
+use Rattle.definition_rules.specs.Parts.{IsFragmentName, LeadsBack}
+use Rattle.definition_rules.specs.Broken.{IsUnknown, IsUndefinedSpreadOf, IsUndefinedSpread}
+use Rattle.definition_rules.specs.Rules.{SpreadsAreDefined, FragmentsAreUsed, HasNoCycles}
+use Rattle.definition_rules.specs.Broken.{IsUnusedFragment, IsOnCycle}
 use Rattle.definition_rules.proofs.AddLemmas.{Below, AllBelow, adds_full, adds_more, adds_nothing, adds_same}
 use Rattle.definition_rules.proofs.ApartLemmas.{own_place, spread_below, subtrees_apart}
 use Rattle.definition_rules.proofs.OperationLemmas.{to_reaches, from_reaches}

@@ -14,7 +14,9 @@ use Rattle.executable_document.specs.Mentions.{Named, as_named}
 use Rattle.definition_rules.specs.declared.violations.Rule.{Rule}
 use Rattle.definition_rules.specs.declared.violations.Violations.{Violations}
 use Rattle.definition_rules.specs.Violations.{Breach, breach, Adds, count}
-use Rattle.definition_rules.specs.Rules.{item_at, names, AreApart, IsUnknown, AreKnown, Repeats, AreUnique}
+use Rattle.definition_rules.specs.Rules.{AreKnown, AreUnique}
+use Rattle.definition_rules.specs.Broken.{names, IsUnknown, Repeats}
+use Rattle.definition_rules.specs.Parts.{AreApart, item_at}
 use Rattle.definition_rules.proofs.AddLemmas.{Below, AllBelow, adds_full, adds_more, adds_nothing, adds_same}
 
 abbrev pub no_item : Named

@@ -13,7 +13,8 @@ use Rattle.definition_rules.specs.declared.violations.Violations.{Violations}
 use Rattle.definition_rules.specs.Violations.{Breach, breach, Adds, count}
 use Rattle.definition_rules.specs.Parts.{AreInOneDocument, Parts, as_parts, at, place_at, operations, is_anonymous, is_operation, Reaches}
 use Rattle.definition_rules.specs.Graphs.{IsSpreadGraph}
-use Rattle.definition_rules.specs.Rules.{AnonymousIsAlone, IsNotAlone, IsOnlyOperation}
+use Rattle.definition_rules.specs.Rules.{AnonymousIsAlone, IsOnlyOperation}
+use Rattle.definition_rules.specs.Broken.{IsNotAlone}
 use Rattle.definition_rules.proofs.ApartLemmas.{operations_apart, own_place}
 use Rattle.definition_rules.proofs.AddLemmas.{Below, AllBelow, adds_full, adds_more, adds_nothing, adds_same}
 

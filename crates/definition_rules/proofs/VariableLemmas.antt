@@ -14,8 +14,9 @@ use Rattle.definition_rules.specs.declared.violations.Violations.{Violations}
 use Rattle.definition_rules.specs.Violations.{Breach, Adds, count}
 use Rattle.definition_rules.specs.Graphs.{IsSpreadGraph}
 use Rattle.definition_rules.specs.Known.{AreReached, DefinedIn, EntersNames, IsUsedAmong, UndefinedIn}
-use Rattle.definition_rules.specs.Parts.{AreInOneDocument, Parts, at, operations, place_at}
-use Rattle.definition_rules.specs.Rules.{AllAmong, Among, BreaksVariablesOf, HasName, IsUndefinedVariable, IsUnusedVariable, IsUsed, VariablesAreDefined}
+use Rattle.definition_rules.specs.Parts.{AreInOneDocument, Parts, at, operations, place_at, HasName, IsUsed}
+use Rattle.definition_rules.specs.Rules.{AllAmong, VariablesAreDefined}
+use Rattle.definition_rules.specs.Broken.{Among, BreaksVariablesOf, IsUndefinedVariable, IsUnusedVariable}
 use Rattle.definition_rules.specs.declared.violations.Rule.TheVariants.{NoUndefinedVariables, NoUnusedVariables}
 use Rattle.definition_rules.proofs.ApartLemmas.{subtrees_apart, used_below}
 use Rattle.definition_rules.proofs.OperationLemmas.{from_reaches, to_reaches, two_operations}

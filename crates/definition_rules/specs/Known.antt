@@ -5,8 +5,9 @@ use Rattle.executable_document.specs.Names.{Name, Entries, HasEntry}
 use Rattle.executable_document.specs.Mentions.{Named}
 use Rattle.definition_rules.specs.declared.violations.Rule.TheVariants.{NoUndefinedVariables}
 use Rattle.definition_rules.specs.Violations.{Breach}
-use Rattle.definition_rules.specs.Parts.{Parts, Reaches, at, place_at}
-use Rattle.definition_rules.specs.Rules.{AreKnown, HasName, IsDeclared, IsUnknown}
+use Rattle.definition_rules.specs.Parts.{Parts, Reaches, at, place_at, HasName, IsDeclared}
+use Rattle.definition_rules.specs.Rules.{AreKnown}
+use Rattle.definition_rules.specs.Broken.{IsUnknown}
 
 -- The new map has the names that the old one has, and those of the items.
 pub record EntersNames {V : Type 0} (old new : Entries V) (items : List Named) : Type 0 where

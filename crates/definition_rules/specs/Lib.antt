@@ -1,3 +1,4 @@
+pub mod Broken
 pub mod Graphs
 pub mod Known
 pub mod Parts

@@ -1,6 +1,6 @@
 -- What the rules ask of operations and fragments: their names, and the names that they mention.
-use Rattle.std.specs.Prelude.{◌≡◌, ℕ, List, [], length, map, Bool, true, false, Option, None, is_none, slice_index_or}
-use Rattle.std.specs.List.{Contains, filter, filter_map, range_with_len}
+use Rattle.std.specs.Prelude.{◌≡◌, ◌≢◌, ℕ, List, [], ◌∷◌, length, map, Bool, true, false, Option, Some, None, is_none, slice_index_or}
+use Rattle.std.specs.List.{AllPairs, Contains, filter, filter_map, range_with_len}
 use Rattle.document_grammar.specs.Forests.{none}
 use Rattle.apollo_tree.specs.Order.{Place}
 use Rattle.executable_document.specs.Names.{Name, first_number}
@@ -83,3 +83,34 @@ Spreads ds from to = Contains (targets ds (at ds from)) to
 -- A definition is one of these, or one of these spreads it, directly or through other fragments.
 abbrev pub Reaches : List Parts → List ℕ → ℕ → Type 0
 Reaches ds starts number = Reached (Spreads ds) starts number
+
+-- ---- items with names
+-- no two items are one element
+abbrev pub AreApart : List Named → Type 0
+AreApart items = AllPairs (λ a b. a.place ≢ b.place) items
+
+abbrev pub item_at : List Named → ℕ → Named
+item_at items number = slice_index_or items number (record { place = nowhere; name = [] })
+
+-- one of the items has the name
+abbrev pub HasName : List Named → Name → Type 0
+HasName items name = (item : Named) × Contains items item × (item.name ≡ name)
+
+-- ---- what rules say of definitions
+-- a fragment of the name is defined
+abbrev pub IsFragmentName : List Parts → Name → Type 0
+IsFragmentName ds name = (number : ℕ) × (fragment_named ds name ≡ Some number)
+
+-- fragments that are spread lead from the other definition to this one
+abbrev pub LeadsBack : List Parts → ℕ → ℕ → Type 0
+LeadsBack ds number other = Reaches ds (other ∷ []) number
+
+-- the operation declares the variable
+abbrev pub IsDeclared : List Parts → ℕ → Name → Type 0
+IsDeclared ds operation name = HasName (at ds operation).declared name
+
+-- the operation uses the variable, in itself or in a fragment that it reaches
+pub record IsUsed (ds : List Parts) (operation : ℕ) (name : Name) : Type 0 where
+  pub number : ℕ
+  pub reached : Reaches ds (operation ∷ []) number
+  pub has : HasName (at ds number).used name

@@ -5,7 +5,9 @@ ghost use Rattle.apollo_tree.specs.References.{node_place};
 ghost use Rattle.executable_document.specs.Names.{HasEntry};
 ghost use Rattle.executable_document.specs.Mentions.{as_named};
 ghost use Rattle.definition_rules.specs.Parts.{AreInOneDocument, as_parts, operations};
-ghost use Rattle.definition_rules.specs.Rules.{AnonymousIsAlone, AreApart, AreKnown, AreUnique, IsNotAlone, IsUnknown, Repeats};
+ghost use Rattle.definition_rules.specs.Rules.{AnonymousIsAlone, AreKnown, AreUnique};
+ghost use Rattle.definition_rules.specs.Parts.{AreApart};
+ghost use Rattle.definition_rules.specs.Broken.{IsNotAlone, IsUnknown, Repeats};
 ghost use Rattle.definition_rules.specs.Violations.{Adds, breach};
 
 use crate::reading::{DefinitionParts, part_at};

@@ -5,7 +5,8 @@ ghost use Rattle.executable_document.specs.Definitions.{fragment_names};
 ghost use Rattle.executable_document.specs.Names.{AreFirstNumbers};
 ghost use Rattle.definition_rules.specs.Graphs.{IsSpreadGraph};
 ghost use Rattle.definition_rules.specs.Parts.{AreInOneDocument, as_parts, definitions, operations};
-ghost use Rattle.definition_rules.specs.Rules.{FragmentsAreUsed, HasNoCycles, IsOnCycle, IsUndefinedSpread, IsUnusedFragment, SpreadsAreDefined};
+ghost use Rattle.definition_rules.specs.Rules.{FragmentsAreUsed, HasNoCycles, SpreadsAreDefined};
+ghost use Rattle.definition_rules.specs.Broken.{IsOnCycle, IsUndefinedSpread, IsUnusedFragment};
 ghost use Rattle.definition_rules.specs.Violations.{Adds};
 
 use crate::naming::add_unknown;

@@ -7,8 +7,9 @@ ghost use Rattle.executable_document.specs.Mentions.{as_named};
 ghost use Rattle.executable_document.specs.Names.{HasEntry, Name};
 ghost use Rattle.definition_rules.specs.Graphs.{IsSpreadGraph};
 ghost use Rattle.definition_rules.specs.Known.{AreReached, DefinedIn, EntersNames, IsUsedAmong, UndefinedIn};
-ghost use Rattle.definition_rules.specs.Parts.{AreInOneDocument, as_parts, operations};
-ghost use Rattle.definition_rules.specs.Rules.{AllAmong, Among, BreaksVariables, BreaksVariablesOf, IsDeclared, IsUnusedVariable, VariablesAreUsed, VariablesAreWell, VariablesAreWellOf};
+ghost use Rattle.definition_rules.specs.Parts.{AreInOneDocument, as_parts, operations, IsDeclared};
+ghost use Rattle.definition_rules.specs.Rules.{AllAmong, VariablesAreUsed, VariablesAreWell, VariablesAreWellOf};
+ghost use Rattle.definition_rules.specs.Broken.{Among, BreaksVariables, BreaksVariablesOf, IsUnusedVariable};
 ghost use Rattle.definition_rules.specs.Violations.{Adds};
 
 use crate::naming::add_unknown;

@@ -9,7 +9,8 @@ use Rattle.formatter.specs.Formatted.{IsDocument}
 use Rattle.executable_document.specs.Definitions.{as_defined, defined}
 use Rattle.definition_rules.specs.Violations.{Breach}
 use Rattle.apollo_validation.specs.Lists.{document_kind}
-use Rattle.apollo_validation.specs.Validity.{AreBreaches, BreaksAs, IsValidAs}
+use Rattle.apollo_validation.specs.Breaches.{AreBreaches, BreaksAs}
+use Rattle.apollo_validation.specs.Validity.{IsValidAs}
 use Rattle.operation_limits.specs.Measures.{AreMeasures, IsMeasureError, Measure}
 use Rattle.operation_limits.specs.declared.measuring.MeasureError.{MeasureError}
 use Rattle.operation_limits.specs.declared.measuring.MeasureError.TheVariants as error

@@ -11,7 +11,7 @@ use Rattle.definition_rules.specs.RuleNames.{rule_name}
 use Rattle.definition_rules.specs.Violations.{Breach}
 use Rattle.apollo_validation.specs.Lists.{document_kind}
 use Rattle.apollo_validation.specs.Messages.{message_of}
-use Rattle.apollo_validation.specs.Validity.{AreBreaches, BreaksAs}
+use Rattle.apollo_validation.specs.Breaches.{AreBreaches, BreaksAs}
 use Rattle.apollo_lexer.specs.Diagnostics.{Diagnostic}
 use Rattle.editor_diagnostics.specs.Remarks.{Remarked, with_brace}
 use Rattle.editor_diagnostics.specs.Syntax.{IsAboutFirst, syntax_remarks}

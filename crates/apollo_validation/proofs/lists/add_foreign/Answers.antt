@@ -1,7 +1,8 @@
 use Rattle.std.proofs.Common.{ap, ◌∙◌}
 use Rattle.apollo_tree.specs.References.{node_place}
 use Rattle.apollo_tree.specs.Yields.{rest_nodes}
-use Rattle.apollo_validation.specs.Lists.{IsExecutable, IsForeign}
+use Rattle.apollo_validation.specs.Validity.{IsExecutable}
+use Rattle.apollo_validation.specs.Breaches.{IsForeign}
 use Rattle.apollo_validation.proofs.ListLemmas.{foreign_apart}
 use Rattle.apollo_validation.proofs.WalkLemmas.{walk_begins, walk_ends, walk_goes_on}
 use Rattle.apollo_validation.proofs.lists.add_foreign.Goals as goal

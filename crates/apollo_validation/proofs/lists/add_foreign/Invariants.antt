@@ -1,7 +1,8 @@
 use Rattle.apollo_tree.specs.Children.{child_nodes}
 use Rattle.apollo_tree.specs.References.{node_place}
 use Rattle.apollo_tree.specs.Yields.{rest_nodes}
-use Rattle.apollo_validation.specs.Lists.{IsExecutable, IsForeign}
+use Rattle.apollo_validation.specs.Validity.{IsExecutable}
+use Rattle.apollo_validation.specs.Breaches.{IsForeign}
 use Rattle.apollo_validation.proofs.WalkLemmas.{Walked}
 use Rattle.apollo_validation.proofs.lists.add_foreign.Given as goal
 

@@ -3,7 +3,9 @@ use Rattle.apollo_tree.specs.References.{node_place}
 use Rattle.definition_rules.specs.declared.violations.Rule.TheVariants.{ExecutableDefinitions}
 use Rattle.definition_rules.specs.Violations.{breach}
 use Rattle.definition_rules.proofs.AddLemmas.{adds_same}
-use Rattle.apollo_validation.specs.Lists.{IsExecutable, IsForeign, is_executable}
+use Rattle.apollo_validation.specs.Validity.{IsExecutable}
+use Rattle.apollo_validation.specs.Lists.{is_executable}
+use Rattle.apollo_validation.specs.Breaches.{IsForeign}
 use Rattle.apollo_validation.proofs.lists.add_if_foreign.Goals as goal
 
 pub returns-in_ok-add : goal.returns-in_ok-add

@@ -1,7 +1,8 @@
 use Rattle.std.proofs.Common.{ap, ◌∙◌}
 use Rattle.apollo_tree.specs.References.{node_place}
 use Rattle.apollo_tree.specs.Yields.{rest_descendant_nodes}
-use Rattle.apollo_validation.specs.Lists.{RepeatsIn, UniqueIn}
+use Rattle.apollo_validation.specs.Breaches.{RepeatsIn}
+use Rattle.apollo_validation.specs.Unique.{UniqueIn}
 use Rattle.apollo_validation.proofs.ListLemmas.{lists_apart}
 use Rattle.apollo_validation.proofs.WalkLemmas.{walk_begins, walk_ends, walk_goes_on}
 use Rattle.apollo_validation.proofs.lists.add_lists.Goals as goal

@@ -1,6 +1,8 @@
 use Rattle.apollo_tree.specs.References.{node_place}
 use Rattle.apollo_tree.specs.Yields.{rest_descendant_nodes}
-use Rattle.apollo_validation.specs.Lists.{RepeatsIn, UniqueIn, nodes}
+use Rattle.apollo_validation.specs.Breaches.{RepeatsIn}
+use Rattle.apollo_validation.specs.Unique.{UniqueIn}
+use Rattle.apollo_validation.specs.Lists.{nodes}
 use Rattle.apollo_validation.proofs.WalkLemmas.{Walked}
 use Rattle.apollo_validation.proofs.lists.add_lists.Given as goal
 

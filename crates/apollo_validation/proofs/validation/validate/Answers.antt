@@ -5,7 +5,8 @@ use Rattle.definition_rules.specs.Violations.{as_breach}
 use Rattle.apollo_validation.specs.declared.lists.DocumentKind.{DocumentKind}
 use Rattle.apollo_validation.specs.declared.lists.DocumentKind.TheVariants.{Executable, TypeSystem}
 use Rattle.apollo_validation.specs.Lists.{document_kind}
-use Rattle.apollo_validation.specs.Validity.{AreBreaches, BreaksAs, IsValidAs}
+use Rattle.apollo_validation.specs.Breaches.{AreBreaches, BreaksAs}
+use Rattle.apollo_validation.specs.Validity.{IsValidAs}
 use Rattle.apollo_validation.proofs.validation.validate.Goals as goal
 
 pub returns-in-Executable-clause-exact : goal.returns-in-Executable-clause-exact

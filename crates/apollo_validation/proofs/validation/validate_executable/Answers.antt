@@ -3,7 +3,8 @@ use Rattle.apollo_tree.specs.References.{node_place}
 use Rattle.executable_document.specs.Names.{AreFirstNumbers}
 use Rattle.executable_document.specs.Definitions.{Defined, as_defined, fragment_names}
 use Rattle.definition_rules.specs.Parts.{as_parts, definitions, parts_of}
-use Rattle.apollo_validation.specs.Validity.{Breaks, IsValid}
+use Rattle.apollo_validation.specs.Breaches.{Breaks}
+use Rattle.apollo_validation.specs.Validity.{IsValid}
 use Rattle.apollo_validation.proofs.ReadLemmas.{definitions_are, parts_are}
 use Rattle.apollo_validation.proofs.ValidLemmas.{exact, valid_if_none, valid_keeps}
 use Rattle.apollo_validation.proofs.validation.validate_executable.Goals as goal

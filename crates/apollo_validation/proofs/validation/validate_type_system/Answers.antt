@@ -1,8 +1,10 @@
 use Rattle.apollo_tree.specs.References.{node_place}
 use Rattle.definition_rules.proofs.AddLemmas.{adds_same}
 use Rattle.apollo_validation.specs.declared.lists.DocumentKind.TheVariants.{TypeSystem}
-use Rattle.apollo_validation.specs.Lists.{EachOf, UniqueIn, nodes}
-use Rattle.apollo_validation.specs.Validity.{BreaksTypeSystem, IsValidTypeSystem}
+use Rattle.apollo_validation.specs.Lists.{nodes}
+use Rattle.apollo_validation.specs.Unique.{UniqueIn}
+use Rattle.apollo_validation.specs.Breaches.{BreaksTypeSystem}
+use Rattle.apollo_validation.specs.Validity.{IsValidTypeSystem, EachOf}
 use Rattle.apollo_validation.proofs.ValidLemmas.{exact, is_type_system, type_system_keeps, valid_if_none}
 use Rattle.apollo_validation.proofs.validation.validate_type_system.Goals as goal
 

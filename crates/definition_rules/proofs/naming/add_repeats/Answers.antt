@@ -5,7 +5,8 @@ use Rattle.executable_document.specs.Mentions.{as_named}
 use Rattle.executable_document.specs.Names.{first_number}
 use Rattle.executable_document.proofs.Numbers.{named_more}
 use Rattle.definition_rules.specs.Violations.{count}
-use Rattle.definition_rules.specs.Rules.{item_at, names}
+use Rattle.definition_rules.specs.Parts.{item_at}
+use Rattle.definition_rules.specs.Broken.{names}
 use Rattle.definition_rules.proofs.NameLemmas.{first_earlier, item_read, names_long}
 use Rattle.definition_rules.proofs.NameLemmas.{names_more, repeat_more, repeats_all, repeats_full, unique_more}
 use Rattle.definition_rules.proofs.naming.add_repeats.Goals as goal

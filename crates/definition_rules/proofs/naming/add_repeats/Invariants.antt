@@ -1,7 +1,7 @@
 use Rattle.std.proofs.Common.{map, take}
 use Rattle.executable_document.specs.Mentions.{as_named}
 use Rattle.executable_document.specs.Names.{AreFirstNumbers}
-use Rattle.definition_rules.specs.Rules.{names}
+use Rattle.definition_rules.specs.Broken.{names}
 use Rattle.definition_rules.specs.Violations.{Adds}
 use Rattle.definition_rules.proofs.AddLemmas.{AllBelow, Below}
 use Rattle.definition_rules.proofs.NameLemmas.{RepeatAt, UniqueAt}

@@ -1,6 +1,7 @@
 use Rattle.std.proofs.Common.{map}
-use Rattle.definition_rules.specs.Parts.{as_parts, at}
-use Rattle.definition_rules.specs.Rules.{AreKnown, IsFragmentName, IsUndefinedSpreadOf}
+use Rattle.definition_rules.specs.Parts.{as_parts, at, IsFragmentName}
+use Rattle.definition_rules.specs.Rules.{AreKnown}
+use Rattle.definition_rules.specs.Broken.{IsUndefinedSpreadOf}
 use Rattle.definition_rules.specs.Violations.{Adds}
 use Rattle.definition_rules.proofs.AddLemmas.{AllBelow, Below}
 use Rattle.definition_rules.proofs.spreading.add_undefined_spreads.Given as goal

@@ -1,6 +1,7 @@
 use Rattle.std.proofs.Common.{map}
 use Rattle.definition_rules.specs.Parts.{as_parts}
-use Rattle.definition_rules.specs.Rules.{IsUndefinedVariable, IsUnusedVariable, VariablesAreDefined, VariablesAreUsed}
+use Rattle.definition_rules.specs.Broken.{IsUndefinedVariable, IsUnusedVariable}
+use Rattle.definition_rules.specs.Rules.{VariablesAreDefined, VariablesAreUsed}
 use Rattle.definition_rules.proofs.AddLemmas.{adds_then}
 use Rattle.definition_rules.proofs.VariableLemmas.{are_reached, undefined_of, unused_or_undefined}
 use Rattle.definition_rules.proofs.variables.add_operation.Goals as goal

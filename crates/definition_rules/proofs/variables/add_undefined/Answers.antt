@@ -5,8 +5,7 @@ use Rattle.executable_document.specs.Names.{HasEntry}
 use Rattle.executable_document.specs.Mentions.{as_named}
 use Rattle.definition_rules.specs.declared.violations.Rule.TheVariants.{NoUndefinedVariables}
 use Rattle.definition_rules.specs.Known.{DefinedIn, UndefinedIn}
-use Rattle.definition_rules.specs.Parts.{Parts, as_parts, at, place_at}
-use Rattle.definition_rules.specs.Rules.{IsDeclared}
+use Rattle.definition_rules.specs.Parts.{Parts, as_parts, at, place_at, IsDeclared}
 use Rattle.definition_rules.specs.Violations.{count}
 use Rattle.definition_rules.proofs.AddLemmas.{adds_more}
 use Rattle.definition_rules.proofs.FragmentLemmas.{known_same}

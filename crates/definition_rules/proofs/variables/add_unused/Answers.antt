@@ -3,8 +3,7 @@ use Rattle.std.proofs.lemmas.List.{length-map}
 use Rattle.executable_document.specs.Names.{HasEntry}
 use Rattle.executable_document.specs.Mentions.{as_named}
 use Rattle.definition_rules.specs.declared.violations.Rule.TheVariants.{NoUnusedVariables}
-use Rattle.definition_rules.specs.Parts.{Parts, as_parts, at, place_at}
-use Rattle.definition_rules.specs.Rules.{IsUsed}
+use Rattle.definition_rules.specs.Parts.{Parts, as_parts, at, place_at, IsUsed}
 use Rattle.definition_rules.proofs.ApartLemmas.{declared_apart}
 use Rattle.definition_rules.proofs.FragmentLemmas.{known_same}
 use Rattle.definition_rules.proofs.VariableLemmas.{used_from, used_to}

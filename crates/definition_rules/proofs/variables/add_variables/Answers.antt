@@ -2,7 +2,8 @@ use Rattle.std.proofs.Common.{◌≡◌, ◌≤◌, arith, length, map, subst, L
 use Rattle.std.proofs.lemmas.Bool.Decides.{nat_tests}
 use Rattle.std.proofs.lemmas.List.Elements.{Contains-get_or}
 use Rattle.definition_rules.specs.Parts.{as_parts}
-use Rattle.definition_rules.specs.Rules.{AllAmong, Among, BreaksVariablesOf, VariablesAreWellOf}
+use Rattle.definition_rules.specs.Rules.{AllAmong, VariablesAreWellOf}
+use Rattle.definition_rules.specs.Broken.{Among, BreaksVariablesOf}
 use Rattle.definition_rules.specs.Violations.{Adds, count}
 use Rattle.definition_rules.proofs.AddLemmas.{adds_more}
 use Rattle.definition_rules.proofs.OperationLemmas.{part_inside}

@@ -1,7 +1,8 @@
 use Rattle.std.proofs.Common.{◌≡◌, length, map}
 use Rattle.directed_graph.specs.Marks.{AreUnmarked}
 use Rattle.definition_rules.specs.Parts.{as_parts}
-use Rattle.definition_rules.specs.Rules.{BreaksVariablesOf, VariablesAreWellOf}
+use Rattle.definition_rules.specs.Broken.{BreaksVariablesOf}
+use Rattle.definition_rules.specs.Rules.{VariablesAreWellOf}
 use Rattle.definition_rules.specs.Violations.{Adds}
 use Rattle.definition_rules.proofs.AddLemmas.{AllBelow, Below}
 use Rattle.definition_rules.proofs.VariableLemmas.{NumberBreaks, NumberIsWell}
