@@ -4,7 +4,9 @@ use denote.Ref.{Bor}
 use Rattle.program_words.specs.Gqlcheck as gqlcheck
 use Rattle.program_words.specs.Gqlcheck.{Run}
 use Rattle.program_words.specs.Gqlfmt.{texts}
+use Rattle.program_words.specs.Words.{Given}
 use Rattle.program_words.specs.declared.gqlcheck.Plan.{Plan}
+use Rattle.program_words.specs.declared.gqlcheck.Read.{Read}
 use Rattle.program_words.specs.declared.gqlcheck.Settings.{Settings}
 
 abbrev pub as_settings : Settings → gqlcheck.Settings
@@ -14,7 +16,6 @@ as_settings set = record {
   operation = option_map (λ (name : Bor (List ℕ)). name.now) set.operation;
   figures = set.figures;
   json = set.json;
-  input = set.input;
 }
 
 abbrev pub as_plan : {A : Type 0} → Plan A → Run
@@ -26,3 +27,7 @@ as_plan plan = record {
   json = plan.json;
   files = texts plan.files.items;
 }
+
+-- what the words have given so far
+abbrev pub as_given : {A : Type 0} → Read A → Given gqlcheck.Settings
+as_given read = record { settings = as_settings read.settings; input = read.input; files = texts read.files.items }

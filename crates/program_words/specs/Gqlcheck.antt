@@ -1,14 +1,15 @@
 -- The words of `gqlcheck`: options and files in any order, each option at most once; or a page of the program.
-use Rattle.std.specs.Prelude.{ℕ, ◌-◌, ◌^◌, Bool, true, false, ◌||◌, ◌&&◌, nat_lt, List, [], ◌∷◌, ◌++◌, length, codes, bytes_eq, if◌then◌else◌}
+use Rattle.std.specs.Prelude.{ℕ, ◌-◌, ◌^◌, Bool, true, false, ◌||◌, List, codes, bytes_eq, if◌then◌else◌}
 use Rattle.std.specs.Prelude.{Option, Some, None, option_and_then, option_map, unwrap_or, is_some}
 use Rattle.apollo_lexer.specs.declared.limits.Limits.{Limits}
 use Rattle.expansion_figures.specs.declared.figures.Figures.{Figures}
 use Rattle.expansion_figures.specs.declared.limits.Limit.{Limit}
 use Rattle.expansion_figures.specs.declared.limits.Limit.TheVariants.{Depth, Fields, RootFields, Aliases, Directives, Height, DistinctRootFields}
 use Rattle.program_words.specs.Numbers.{number_of}
-use Rattle.program_words.specs.OwnValue.{has_own_value, option_name, own_value}
 use Rattle.program_words.specs.SetLimits.{limits_set, with_limit}
-use Rattle.program_words.specs.Gqlfmt.{is_input, is_option, information_or_run}
+use Rattle.program_words.specs.Gqlfmt.{information_or_run}
+use Rattle.program_words.specs.Words as words
+use Rattle.program_words.specs.Words.{Given, nothing_given}
 use Rattle.program_words.specs.Information.{information_of}
 use Rattle.program_words.specs.declared.gqlcheck.SetFigures.{SetFigures}
 use Rattle.program_words.specs.declared.gqlfmt.Request.{Request}
@@ -78,7 +79,6 @@ pub record Settings : Type 0 where
   pub operation : Option (List ℕ)
   pub figures : Bool
   pub json : Bool
-  pub input : Bool
 
 -- before the first option
 abbrev pub no_settings : Settings
@@ -88,7 +88,6 @@ no_settings = record {
   operation = None;
   figures = false;
   json = false;
-  input = false;
 }
 
 -- the options that need no other word
@@ -100,10 +99,6 @@ with_flag word set =
     if bytes_eq word (codes "--figures") then (if set.figures then None else Some (record set { figures = true }))
     else (if bytes_eq word (codes "--json") then (if set.json then None else Some (record set { json = true }))
     else None)
-
--- standard input, named by a dash
-abbrev pub with_input : Settings → Option Settings
-with_input set = if set.input then None else Some (record set { input = true })
 
 -- those that a value follows
 abbrev pub sets_limit : List ℕ → Bool
@@ -140,31 +135,13 @@ run_set set files = record {
   files = files;
 }
 
--- It is over standard input or over files, not both.
-abbrev pub run_unless : Settings → List (List ℕ) → Option Run
-run_unless set files = if set.input && nat_lt 0 (length files) then None else Some (run_set set files)
-
-abbrev mutual
-  -- The run of words after others that gave these settings and files. After `--` all words are files.
-  pub run_from : Settings → List (List ℕ) → List (List ℕ) → Option Run
-  run_from set files [] = run_unless set files
-  run_from set files (word ∷ more) =
-      if bytes_eq word (codes "--") then run_unless set (files ++ more)
-      else (if is_input word then option_and_then (λ set. run_from set files more) (with_input set)
-      else (if is_flag word then option_and_then (λ set. run_from set files more) (with_flag word set)
-      else (if is_option word && has_own_value word
-      then option_and_then (λ set. run_from set files more) (with_value (option_name word) (own_value word) set)
-      else (if is_option word then run_after set files word more
-      else run_from set (files ++ word ∷ []) more))))
-
-  -- the same after an option whose value is the next word
-  pub run_after : Settings → List (List ℕ) → List ℕ → List (List ℕ) → Option Run
-  run_after set files name [] = None
-  run_after set files name (value ∷ more) = option_and_then (λ set. run_from set files more) (with_value name value set)
+-- The run of words after others.
+abbrev pub run_from : Given Settings → List (List ℕ) → Option Run
+run_from given more = words.run_from is_flag with_flag with_value run_set given more
 
 -- The run of the words.
 abbrev pub run_of : List (List ℕ) → Option Run
-run_of words = run_from no_settings [] words
+run_of words = run_from (nothing_given no_settings) words
 
 -- The request of the words: nothing where the program is not called so.
 abbrev pub request_of : List (List ℕ) → Option (Request Run)

@@ -1,13 +1,14 @@
 -- The words of `gqlfmt`: options and files in any order, each option at most once; or a page of the program.
-use Rattle.std.specs.Prelude.{◌≡◌, ℕ, Bool, true, false, ◌==◌, ◌&&◌, ◌||◌, nat_lt, List, [], ◌∷◌, ◌++◌, length, codes, bytes_eq, map, if◌then◌else◌}
+use Rattle.std.specs.Prelude.{◌≡◌, ℕ, Bool, ◌||◌, List, codes, bytes_eq, map, if◌then◌else◌}
 use Rattle.std.specs.Prelude.{Option, Some, None, option_and_then, option_map, unwrap_or, is_some, Result, Ok, Err}
 use denote.Ref.{Bor}
 use Rattle.apollo_lexer.specs.declared.limits.Limits.{Limits}
 use Rattle.gqlfmt_files.specs.declared.settling.Mode.{Mode}
 use Rattle.gqlfmt_files.specs.declared.settling.Mode.TheVariants.{Write, Check, Diff, Print as PrintText}
 use Rattle.program_words.specs.Numbers.{number_of}
-use Rattle.program_words.specs.OwnValue.{has_own_value, option_name, own_value}
 use Rattle.program_words.specs.SetLimits.{limits_set, with_limit}
+use Rattle.program_words.specs.Words as words
+use Rattle.program_words.specs.Words.{Given, nothing_given}
 use Rattle.program_words.specs.declared.information.Information.{Information}
 use Rattle.program_words.specs.Information.{information_of}
 use Rattle.program_words.specs.declared.gqlfmt.Request.{Request}
@@ -22,15 +23,6 @@ use Rattle.program_words.specs.declared.misuse.WordsError.TheVariants.{Usage, Me
 abbrev pub texts : List (Bor (List ℕ)) → List (List ℕ)
 texts words = map (λ word. word.now) words
 
--- an option is a dash with more; a dash alone is standard input
-abbrev pub is_option : List ℕ → Bool
-is_option [] = false
-is_option (b ∷ []) = false
-is_option (b ∷ c ∷ bytes) = b == 45
-
-abbrev pub is_input : List ℕ → Bool
-is_input word = bytes_eq word (codes "-")
-
 -- What options have set.
 pub record Settings : Type 0 where
   pub mode : Option Mode
@@ -38,7 +30,6 @@ pub record Settings : Type 0 where
   pub most_output : Option ℕ
   pub line_endings : Option LineEndings
   pub name : Option (List ℕ)
-  pub input : Bool
 
 -- before the first option
 abbrev pub no_settings : Settings
@@ -48,7 +39,6 @@ no_settings = record {
   most_output = None;
   line_endings = None;
   name = None;
-  input = false;
 }
 
 abbrev pub is_write : List ℕ → Bool
@@ -63,12 +53,14 @@ mode_of word =
     else (if bytes_eq word (codes "--print") then Some PrintText
     else None)))
 
+abbrev pub is_flag : List ℕ → Bool
+is_flag word = is_some (mode_of word)
+
 abbrev pub with_mode : Settings → Mode → Option Settings
 with_mode set mode = if is_some set.mode then None else Some (record set { mode = Some mode })
 
--- standard input, named by a dash
-abbrev pub with_input : Settings → Option Settings
-with_input set = if set.input then None else Some (record set { input = true })
+abbrev pub with_flag : List ℕ → Settings → Option Settings
+with_flag word set = option_and_then (with_mode set) (mode_of word)
 
 -- the options that a value follows
 abbrev pub with_most_output : Settings → ℕ → Option Settings
@@ -117,31 +109,13 @@ run_set set files = record {
   files = files;
 }
 
--- It is over standard input or over files, not both.
-abbrev pub run_unless : Settings → List (List ℕ) → Option Run
-run_unless set files = if set.input && nat_lt 0 (length files) then None else Some (run_set set files)
-
-abbrev mutual
-  -- The run of words after others that gave these settings and files. After `--` all words are files.
-  pub run_from : Settings → List (List ℕ) → List (List ℕ) → Option Run
-  run_from set files [] = run_unless set files
-  run_from set files (word ∷ more) =
-      if bytes_eq word (codes "--") then run_unless set (files ++ more)
-      else (if is_input word then option_and_then (λ set. run_from set files more) (with_input set)
-      else (if is_some (mode_of word) then option_and_then (λ set. run_from set files more) (option_and_then (with_mode set) (mode_of word))
-      else (if is_option word && has_own_value word
-      then option_and_then (λ set. run_from set files more) (with_value (option_name word) (own_value word) set)
-      else (if is_option word then run_after set files word more
-      else run_from set (files ++ word ∷ []) more))))
-
-  -- the same after an option whose value is the next word
-  pub run_after : Settings → List (List ℕ) → List ℕ → List (List ℕ) → Option Run
-  run_after set files name [] = None
-  run_after set files name (value ∷ more) = option_and_then (λ set. run_from set files more) (with_value name value set)
+-- The run of words after others.
+abbrev pub run_from : Given Settings → List (List ℕ) → Option Run
+run_from given more = words.run_from is_flag with_flag with_value run_set given more
 
 -- The run of the words.
 abbrev pub run_of : List (List ℕ) → Option Run
-run_of words = run_from no_settings [] words
+run_of words = run_from (nothing_given no_settings) words
 
 abbrev pub information_or_run : {R : Type 0} → Option Information → Option R → Option (Request R)
 information_or_run (Some page) run = Some (Print page)

@@ -3,6 +3,7 @@ pub mod OwnValue
 pub mod LimitOptions
 pub mod SetLimits
 pub mod Information
+pub mod Words
 pub mod Gqlcst
 pub mod Gqlfmt
 pub mod Gqlls

@@ -21,14 +21,13 @@ abbrev pub IsSetLimit : SetLimits → (GivenLimits → Option GivenLimits) → O
 IsSetLimit old with_option (Some new) = (given : GivenLimits) → option_and_then (limits_after old) (with_option given) ≡ limits_after new given
 IsSetLimit old with_option None = (given : GivenLimits) → option_and_then (limits_after old) (with_option given) ≡ None
 
--- Settings and files with a word before some others, of which as many as are answered go with it; or that the program is not called so. `run_from` is
+-- What words have given with a word before some others, of which as many as are answered go with it; or that the program is not called so. `run_from` is
 -- the program's definition.
-module _ {S R : Type 0} (run_from : S → List (List ℕ) → List (List ℕ) → Option R) where
-  abbrev pub IsTakenFrom : List ℕ → List (Bor (List ℕ)) → S → List (List ℕ) → S → List (List ℕ) → Result ℕ WordsError → Type 0
-  IsTakenFrom word more set files set' files' (Ok count) =
-      run_from set files (word ∷ texts more) ≡ run_from set' files' (texts (drop count more))
-  IsTakenFrom word more set files set' files' (Err (Usage misuse)) = run_from set files (word ∷ texts more) ≡ None
-  IsTakenFrom word more set files set' files' (Err Memory) = Unit {0}
+module _ {G R : Type 0} (run_from : G → List (List ℕ) → Option R) where
+  abbrev pub IsTakenFrom : List ℕ → List (Bor (List ℕ)) → G → G → Result ℕ WordsError → Type 0
+  IsTakenFrom word more given given' (Ok count) = run_from given (word ∷ texts more) ≡ run_from given' (texts (drop count more))
+  IsTakenFrom word more given given' (Err (Usage misuse)) = run_from given (word ∷ texts more) ≡ None
+  IsTakenFrom word more given given' (Err Memory) = Unit {0}
 
 -- Limits with a word that is an option and as many of the words after it as are answered, or that the words set no limits.
 abbrev pub IsLimitsFrom : Option (List ℕ) → List ℕ → List (Bor (List ℕ)) → SetLimits → Result (SetLimits × ℕ) WordsError → Type 0

@@ -1,17 +1,17 @@
 // The words of `gqlcheck`.
 ghost use Rattle.std.specs.Prelude.{◌≡◌, ◌≤◌, [], length, IfOk, option_map, codes};
-ghost use Rattle.std.specs.Result.{result_ok};
 ghost use Rattle.program_words.specs.Gqlfmt.{texts, request_map, IsRead};
 ghost use Rattle.program_words.specs.Gqlcheck.{figure_set, figures_set, is_flag, limit_named, no_settings, put_figure, request_of, run_from, sets_limit};
+ghost use Rattle.program_words.specs.Words.{nothing_given};
 ghost use Rattle.program_words.specs.Misuse.{IsAbout, IsAmong};
 ghost use Rattle.program_words.specs.Reading.{IsTakenFrom};
-ghost use Rattle.program_words.specs.Gqlcheck.{run_unless, with_input, with_figure, with_flag, with_operation, with_value};
-ghost use Rattle.program_words.specs.CheckReading.{as_plan, as_settings};
+ghost use Rattle.program_words.specs.Gqlcheck.{with_figure, with_flag, with_operation, with_value};
+ghost use Rattle.program_words.specs.CheckReading.{as_given, as_plan, as_settings};
 
 use crate::gqlfmt::{Request, is_input, is_option};
 use crate::information::information_of;
 use crate::limits::SetLimits;
-use crate::misuse::{Mistake, WordsError};
+use crate::misuse::{Mistake, WordsError, or_misuse};
 use crate::numbers::number_of;
 use crate::own_value::name_and_value;
 use apollo_lexer::Limits;
@@ -162,8 +162,6 @@ struct Settings<'a> {
     operation: Option<&'a str>,
     figures: bool,
     json: bool,
-    // whether standard input is named by a dash
-    input: bool,
 }
 
 fn is_flag(word: &str) -> bool
@@ -189,7 +187,6 @@ impl<'a> Settings<'a> {
             operation: None,
             figures: false,
             json: false,
-            input: false,
         }
     }
 
@@ -205,19 +202,6 @@ impl<'a> Settings<'a> {
             "--json" if !self.json => Some(Settings { json: true, ..self }),
             _ => None,
         }
-    }
-
-    // The settings with standard input, or nothing where they have it.
-    fn with_input(self) -> Option<Settings<'a>>
-        ensures { option_map as_settings result ≡ with_input (as_settings self.entry) }
-    {
-        if self.input {
-            return None;
-        }
-        Some(Settings {
-            input: true,
-            ..self
-        })
     }
 
     // The settings with the name of an operation, or nothing where they have one.
@@ -247,28 +231,14 @@ impl<'a> Settings<'a> {
         let most = self.most.with(name, value)?;
         Some(Settings { most, ..self })
     }
-
-    // The same, or what is wrong with the word.
-    fn with_option(
-        self,
-        word: &'a str,
-        name: &str,
-        value: &'a str,
-    ) -> Result<Settings<'a>, WordsError<'a>>
-        ensures settings { option_map as_settings (result_ok result) ≡ with_value name.now value.now (as_settings self.entry) }
-        ensures about { IsAbout (λ wrong. wrong ≡ word.now) result }
-    {
-        match self.with_value(name, value) {
-            Some(settings) => Ok(settings),
-            None => Err(WordsError::of(word, mistake_of(name, value))),
-        }
-    }
 }
 
 // What is read so far.
 #[derive(Drop)]
 struct Read<'a, A: Allocator> {
     settings: Settings<'a>,
+    // whether standard input is named by a dash
+    input: bool,
     files: Vec<&'a str, A>,
 }
 
@@ -301,8 +271,7 @@ fn take_first<'a, A: Allocator>(
     word: &'a str,
     more: &[&'a str],
 ) -> Result<usize, WordsError<'a>>
-    ensures taken { IsTakenFrom run_from word.now more.now (as_settings read.old.settings) (texts read.old.files.items)
-        (as_settings read.new.settings) (texts read.new.files.items) result }
+    ensures taken { IsTakenFrom run_from word.now more.now (as_given read.old) (as_given read.new) result }
     ensures within { IfOk result (λ count. count ≤ length more.now) }
     ensures about { IsAbout (λ wrong. wrong ≡ word.now) result }
 {
@@ -311,13 +280,11 @@ fn take_first<'a, A: Allocator>(
         return Ok(more.len());
     }
     if is_input(word) {
-        return match read.settings.with_input() {
-            Some(settings) => {
-                read.settings = settings;
-                Ok(0)
-            }
-            None => Err(WordsError::of(word, Mistake::Again)),
-        };
+        if read.input {
+            return Err(WordsError::of(word, Mistake::Again));
+        }
+        read.input = true;
+        return Ok(0);
     }
     if is_flag(word) {
         return match read.settings.with_flag(word) {
@@ -330,13 +297,15 @@ fn take_first<'a, A: Allocator>(
     }
     if is_option(word) {
         if let Some((name, value)) = name_and_value(word) {
-            read.settings = read.settings.with_option(word, name, value)?;
+            let settings = read.settings.with_value(name, value);
+            read.settings = or_misuse(settings, word, mistake_of(name, value))?;
             return Ok(0);
         }
         let Some(value) = more.first() else {
             return Err(WordsError::of(word, mistake_at_end(word)));
         };
-        read.settings = read.settings.with_option(word, word, value)?;
+        let settings = read.settings.with_value(word, value);
+        read.settings = or_misuse(settings, word, mistake_of(word, value))?;
         return Ok(1);
     }
     read.files.extend_from_slice(&[word])?;
@@ -345,11 +314,11 @@ fn take_first<'a, A: Allocator>(
 
 // The run of these settings and files.
 fn finished<'a, A: Allocator>(read: Read<'a, A>) -> Result<Plan<'a, A>, WordsError<'a>>
-    ensures run { IsRead as_plan (run_unless (as_settings read.entry.settings) (texts read.entry.files.items)) result }
+    ensures run { IsRead as_plan (run_from (as_given read.entry) []) result }
     ensures about { IsAbout (λ wrong. wrong ≡ codes "-") result }
 {
     let settings = read.settings;
-    if settings.input && read.files.len() > 0 {
+    if read.input && read.files.len() > 0 {
         return Err(WordsError::of("-", Mistake::BesideFiles));
     }
     Ok(Plan {
@@ -364,11 +333,12 @@ fn finished<'a, A: Allocator>(read: Read<'a, A>) -> Result<Plan<'a, A>, WordsErr
 
 // The run of the words.
 fn plan_of<'a, A: Allocator>(alloc: A, words: &[&'a str]) -> Result<Plan<'a, A>, WordsError<'a>>
-    ensures run { IsRead as_plan (run_from no_settings [] (texts words.now)) result }
+    ensures run { IsRead as_plan (run_from (nothing_given no_settings) (texts words.now)) result }
     ensures about { IsAbout (IsAmong (texts words.now)) result }
 {
     let mut read = Read {
         settings: Settings::nothing(),
+        input: false,
         files: Vec::new(alloc),
     };
     let mut index = 0;

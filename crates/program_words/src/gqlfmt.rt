@@ -1,15 +1,15 @@
 // The words of `gqlfmt`.
 ghost use Rattle.std.specs.Prelude.{◌≡◌, ◌≤◌, [], length, IfOk, option_map, codes};
-ghost use Rattle.std.specs.Result.{result_ok};
-ghost use Rattle.program_words.specs.FormatReading.{as_plan, as_settings};
-ghost use Rattle.program_words.specs.Gqlfmt.{IsRead, is_input, is_option, line_endings_of, mode_of, no_settings, request_map, request_of, run_from, run_unless};
-ghost use Rattle.program_words.specs.Gqlfmt.{texts, with_input, with_line_endings, with_mode, with_most_output, with_name, with_value};
+ghost use Rattle.program_words.specs.FormatReading.{as_given, as_plan, as_settings};
+ghost use Rattle.program_words.specs.Gqlfmt.{IsRead, line_endings_of, mode_of, no_settings, request_map, request_of, run_from};
+ghost use Rattle.program_words.specs.Gqlfmt.{texts, with_line_endings, with_mode, with_most_output, with_name, with_value};
+ghost use Rattle.program_words.specs.Words.{is_input, is_option, nothing_given};
 ghost use Rattle.program_words.specs.Misuse.{IsAbout, IsAmong};
 ghost use Rattle.program_words.specs.Reading.{IsTakenFrom};
 
 use crate::information::{Information, information_of};
 use crate::limits::SetLimits;
-use crate::misuse::{Mistake, WordsError};
+use crate::misuse::{Mistake, WordsError, or_misuse};
 use crate::numbers::number_of;
 use crate::own_value::name_and_value;
 use apollo_lexer::Limits;
@@ -59,8 +59,6 @@ struct Settings<'a> {
     most_output: Option<usize>,
     line_endings: Option<LineEndings>,
     name: Option<&'a str>,
-    // whether standard input is named by a dash
-    input: bool,
 }
 
 pub(crate) fn is_option(word: &str) -> bool
@@ -135,7 +133,6 @@ impl<'a> Settings<'a> {
             most_output: None,
             line_endings: None,
             name: None,
-            input: false,
         }
     }
 
@@ -150,19 +147,6 @@ impl<'a> Settings<'a> {
                 ..self
             }),
         }
-    }
-
-    // The settings with standard input, or nothing where they have it.
-    fn with_input(self) -> Option<Settings<'a>>
-        ensures { option_map as_settings result ≡ with_input (as_settings self.entry) }
-    {
-        if self.input {
-            return None;
-        }
-        Some(Settings {
-            input: true,
-            ..self
-        })
     }
 
     // The settings with a number of bytes, or nothing where they have one.
@@ -222,28 +206,14 @@ impl<'a> Settings<'a> {
         let limits = self.limits.with(name, value)?;
         Some(Settings { limits, ..self })
     }
-
-    // The same, or what is wrong with the word.
-    fn with_option(
-        self,
-        word: &'a str,
-        name: &str,
-        value: &'a str,
-    ) -> Result<Settings<'a>, WordsError<'a>>
-        ensures settings { option_map as_settings (result_ok result) ≡ with_value name.now value.now (as_settings self.entry) }
-        ensures about { IsAbout (λ wrong. wrong ≡ word.now) result }
-    {
-        match self.with_value(name, value) {
-            Some(settings) => Ok(settings),
-            None => Err(WordsError::of(word, mistake_of(name, value))),
-        }
-    }
 }
 
 // What is read so far.
 #[derive(Drop)]
 struct Read<'a, A: Allocator> {
     settings: Settings<'a>,
+    // whether standard input is named by a dash
+    input: bool,
     files: Vec<&'a str, A>,
 }
 
@@ -253,8 +223,7 @@ fn take_first<'a, A: Allocator>(
     word: &'a str,
     more: &[&'a str],
 ) -> Result<usize, WordsError<'a>>
-    ensures taken { IsTakenFrom run_from word.now more.now (as_settings read.old.settings) (texts read.old.files.items)
-        (as_settings read.new.settings) (texts read.new.files.items) result }
+    ensures taken { IsTakenFrom run_from word.now more.now (as_given read.old) (as_given read.new) result }
     ensures within { IfOk result (λ count. count ≤ length more.now) }
     ensures about { IsAbout (λ wrong. wrong ≡ word.now) result }
 {
@@ -263,13 +232,11 @@ fn take_first<'a, A: Allocator>(
         return Ok(more.len());
     }
     if is_input(word) {
-        return match read.settings.with_input() {
-            Some(settings) => {
-                read.settings = settings;
-                Ok(0)
-            }
-            None => Err(WordsError::of(word, Mistake::Again)),
-        };
+        if read.input {
+            return Err(WordsError::of(word, Mistake::Again));
+        }
+        read.input = true;
+        return Ok(0);
     }
     if let Some(mode) = mode_of(word) {
         return match read.settings.with_mode(mode) {
@@ -282,13 +249,15 @@ fn take_first<'a, A: Allocator>(
     }
     if is_option(word) {
         if let Some((name, value)) = name_and_value(word) {
-            read.settings = read.settings.with_option(word, name, value)?;
+            let settings = read.settings.with_value(name, value);
+            read.settings = or_misuse(settings, word, mistake_of(name, value))?;
             return Ok(0);
         }
         let Some(value) = more.first() else {
             return Err(WordsError::of(word, mistake_at_end(word)));
         };
-        read.settings = read.settings.with_option(word, word, value)?;
+        let settings = read.settings.with_value(word, value);
+        read.settings = or_misuse(settings, word, mistake_of(word, value))?;
         return Ok(1);
     }
     read.files.extend_from_slice(&[word])?;
@@ -297,11 +266,11 @@ fn take_first<'a, A: Allocator>(
 
 // The run of these settings and files.
 fn finished<'a, A: Allocator>(read: Read<'a, A>) -> Result<Plan<'a, A>, WordsError<'a>>
-    ensures run { IsRead as_plan (run_unless (as_settings read.entry.settings) (texts read.entry.files.items)) result }
+    ensures run { IsRead as_plan (run_from (as_given read.entry) []) result }
     ensures about { IsAbout (λ wrong. wrong ≡ codes "-") result }
 {
     let settings = read.settings;
-    if settings.input && read.files.len() > 0 {
+    if read.input && read.files.len() > 0 {
         return Err(WordsError::of("-", Mistake::BesideFiles));
     }
     Ok(Plan {
@@ -316,11 +285,12 @@ fn finished<'a, A: Allocator>(read: Read<'a, A>) -> Result<Plan<'a, A>, WordsErr
 
 // The run of the words.
 fn plan_of<'a, A: Allocator>(alloc: A, words: &[&'a str]) -> Result<Plan<'a, A>, WordsError<'a>>
-    ensures run { IsRead as_plan (run_from no_settings [] (texts words.now)) result }
+    ensures run { IsRead as_plan (run_from (nothing_given no_settings) (texts words.now)) result }
     ensures about { IsAbout (IsAmong (texts words.now)) result }
 {
     let mut read = Read {
         settings: Settings::nothing(),
+        input: false,
         files: Vec::new(alloc),
     };
     let mut index = 0;

@@ -1,7 +1,6 @@
 // The two options that set limits.
 ghost use Rattle.std.specs.Prelude.{◌≡◌, ◌≤◌, IfOk, length, option_map};
 ghost use Rattle.std.specs.List.{Contains};
-ghost use Rattle.std.specs.Result.{result_ok};
 ghost use Rattle.program_words.specs.Gqlfmt.{IsRead, texts};
 ghost use Rattle.program_words.specs.LimitOptions.{is_passed, limits_of, with_option};
 ghost use Rattle.program_words.specs.Misuse.{IsAbout};
@@ -9,7 +8,7 @@ ghost use Rattle.program_words.specs.Reading.{IsLimitsFrom, IsSetLimit};
 ghost use Rattle.program_words.specs.SetLimits.{limits_set, with_limit};
 
 use crate::gqlfmt::is_option;
-use crate::misuse::{Mistake, WordsError};
+use crate::misuse::{Mistake, WordsError, or_misuse};
 use crate::numbers::number_of;
 use crate::own_value::name_and_value;
 use apollo_lexer::Limits;
@@ -44,22 +43,6 @@ impl SetLimits {
                 ..self
             }),
             _ => None,
-        }
-    }
-
-    // The same, or what is wrong with the word.
-    fn with_option<'a>(
-        self,
-        word: &'a str,
-        name: &str,
-        value: &str,
-    ) -> Result<SetLimits, WordsError<'a>>
-        ensures given { IsSetLimit self (with_option name.now value.now) (result_ok result) }
-        ensures about { IsAbout (λ wrong. wrong ≡ word.now) result }
-    {
-        match self.with(name, value) {
-            Some(set) => Ok(set),
-            None => Err(WordsError::of(word, mistake_of(name, value))),
         }
     }
 
@@ -128,13 +111,13 @@ fn take_first<'a>(
         return Ok((set, 0));
     }
     if let Some((name, value)) = name_and_value(word) {
-        let set = set.with_option(word, name, value)?;
+        let set = or_misuse(set.with(name, value), word, mistake_of(name, value))?;
         return Ok((set, 0));
     }
     let Some(value) = more.first() else {
         return Err(WordsError::of(word, mistake_at_end(word)));
     };
-    let set = set.with_option(word, word, value)?;
+    let set = or_misuse(set.with(word, value), word, mistake_of(word, value))?;
     Ok((set, 1))
 }
 

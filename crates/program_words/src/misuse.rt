@@ -1,6 +1,7 @@
 // Why a program is not called so.
 ghost use Rattle.std.specs.Prelude.{◌≡◌, ◌++◌, IfOk, string_bytes};
-ghost use Rattle.program_words.specs.Misuse.{after, before, complaint};
+ghost use Rattle.std.specs.Result.{result_ok};
+ghost use Rattle.program_words.specs.Misuse.{IsAbout, after, before, complaint};
 ghost use Rattle.program_words.specs.declared.misuse.WordsError.TheVariants.{Memory, Usage};
 
 use marked_lines::push_escaped;
@@ -100,5 +101,20 @@ impl<'a> WordsError<'a> {
         ensures { result ≡ Usage (record { word = word.entry; mistake = mistake }) }
     {
         WordsError::Usage(Misuse { word, mistake })
+    }
+}
+
+/// What was found, or what is wrong with the word.
+pub(crate) fn or_misuse<'a, T>(
+    found: Option<T>,
+    word: &'a str,
+    mistake: Mistake,
+) -> Result<T, WordsError<'a>>
+    ensures found { result_ok result ≡ found }
+    ensures about { IsAbout (λ wrong. wrong ≡ word.now) result }
+{
+    match found {
+        Some(value) => Ok(value),
+        None => Err(WordsError::of(word, mistake)),
     }
 }
