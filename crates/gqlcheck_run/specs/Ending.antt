@@ -1,9 +1,11 @@
--- How checking a text ends, and the status for it.
-use Rattle.std.specs.Prelude.{◌≡◌, ◌↔◌, ℕ, Bool, true, false, List, codes, Result, Ok, Err, ⊤}
-use Rattle.std.specs.Str.{IsUtf8}
+-- How checking a text ends: the status for it, what is written of it, and what is said.
+use Rattle.std.specs.Prelude.{◌≡◌, ◌↔◌, ℕ, Bool, true, false, List, [], Result, Ok, Err}
+use Rattle.byte_devices.specs.Devices.{Account}
 use Rattle.byte_devices.specs.declared.fault.Fault.{Fault}
-use Rattle.byte_devices.specs.declared.fault.Fault.TheVariants.{Read, Utf8, Memory, Write}
 use Rattle.document_checks.specs.Checking.{Asked, Passes}
+use Rattle.program_words.specs.Complaints.{Tells, TellsOfFile}
+use Rattle.program_words.specs.declared.complaints.FileFault.{FileFault}
+use Rattle.gqlcheck_run.specs.declared.command.TheConstants.{PROGRAM}
 
 -- 0 where a text passes, 1 where it does not, 2 where that was not found out or not said
 abbrev pub status_of : {E : Type 0} → Result Bool E → ℕ
@@ -11,27 +13,18 @@ status_of (Ok true) = 0
 status_of (Ok false) = 1
 status_of (Err fault) = 2
 
-abbrev pub reason_of : Fault → List ℕ
-reason_of Read = codes "cannot read"
-reason_of Utf8 = codes "not UTF-8"
-reason_of Memory = codes "out of memory"
-reason_of Write = codes "cannot write"
+-- What is written of a text that is found to pass, or not to: of one that passes nothing, unless its figures are wanted. How findings and figures are
+-- printed is not stated.
+pub record IsOutput (asked : Asked) (figures : Bool) (source : List ℕ) (passes : Bool) (output : List ℕ) : Type 0 where
+  pub judged : (passes ≡ true) ↔ Passes asked source
+  pub quiet : passes ≡ true → figures ≡ false → output ≡ []
 
--- a text is found to pass exactly if it does
-abbrev pub IsJudged : Asked → List ℕ → Bool → Type 0
-IsJudged asked source passes = (passes ≡ true) ↔ Passes asked source
+-- What is said on standard error: nothing of a text that was checked, and why one was not.
+abbrev pub Says : List ℕ → Result Bool Fault → Account → Account → Type 0
+Says name (Ok passes) old new = new ≡ old
+Says name (Err fault) old new = Tells PROGRAM.now name fault old new
 
--- How checking these bytes ended.
-abbrev pub Ends : Asked → List ℕ → Result Bool Fault → Type 0
-Ends asked bytes (Ok passes) = IsUtf8 bytes × IsJudged asked bytes passes
-Ends asked bytes (Err Utf8) = ¬ IsUtf8 bytes
-Ends asked bytes (Err Read) = ⊤
-Ends asked bytes (Err Memory) = ⊤
-Ends asked bytes (Err Write) = ⊤
-
--- what may go wrong once the text is read
-abbrev pub IsAfterReading : Fault → Type 0
-IsAfterReading Memory = ⊤
-IsAfterReading Write = ⊤
-IsAfterReading Read = ⊥
-IsAfterReading Utf8 = ⊥
+-- the same of a file
+abbrev pub SaysOfFile : List ℕ → Result Bool FileFault → Account → Account → Type 0
+SaysOfFile path (Ok passes) old new = new ≡ old
+SaysOfFile path (Err fault) old new = TellsOfFile PROGRAM.now path fault old new

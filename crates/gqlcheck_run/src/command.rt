@@ -1,13 +1,13 @@
 // What the program prints of itself.
 
+/// The name of the program, as its messages have it.
+pub const PROGRAM: &str = "gqlcheck";
+
 /// The version of the program.
 pub const VERSION: &str = "gqlcheck 0.1.0\n";
 
 /// How the program is called.
 pub const USAGE: &str = "usage: gqlcheck [OPTION..] [FILE..]\n";
-
-/// What is said where there is no memory for more.
-pub const NO_MEMORY: &str = "gqlcheck: out of memory\n";
 
 /// What it does, and its options.
 pub const HELP: &str = "usage: gqlcheck [OPTION..] [FILE..]

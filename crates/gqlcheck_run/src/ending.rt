@@ -1,27 +1,12 @@
 // How checking a text ends.
 ghost use Rattle.std.specs.Prelude.{◌≡◌};
-ghost use Rattle.gqlcheck_run.specs.Ending.{reason_of, status_of};
-ghost use Rattle.gqlcheck_run.specs.declared.ending.FileFault.TheVariants.{Device};
+ghost use Rattle.byte_devices.specs.Devices.{Account};
+ghost use Rattle.gqlcheck_run.specs.Ending.{Says, SaysOfFile, status_of};
 
-use byte_devices::Fault;
-use std::io;
-
-/// Why a file, or standard input, was not checked.
-#[derive(Clone, Copy)]
-pub enum FileFault {
-    /// The file was not read.
-    NotRead(io::Error),
-    /// A device failed, the text is not UTF-8, or memory was refused.
-    Device(Fault),
-}
-
-impl From<Fault> for FileFault {
-    ghost from_gives = { λ fault it. it ≡ Device fault };
-
-    fn from(fault: Fault) -> FileFault {
-        FileFault::Device(fault)
-    }
-}
+use crate::command::PROGRAM;
+use byte_devices::{Fault, Sink};
+use program_words::complaints::{FileFault, tell, tell_of_file};
+use std::alloc::Allocator;
 
 /// The status that the program ends with for this text alone, by whether it passes.
 pub fn status_of<E>(ended: &Result<bool, E>) -> u8
@@ -34,14 +19,34 @@ pub fn status_of<E>(ended: &Result<bool, E>) -> u8
     }
 }
 
-/// Why, in words.
-pub fn reason_of(fault: Fault) -> &'static str
-    ensures { result.now ≡ reason_of fault }
+/// Tells why standard input was not checked, if it was not, and gives the status for it.
+pub fn end<A: Allocator, E: Sink>(
+    alloc: A,
+    complaints: &mut E,
+    name: &str,
+    ended: &Result<bool, Fault>,
+) -> u8
+    ensures says { Says name.now ended.now (E.account complaints.old) (E.account complaints.new) }
+    ensures counted { result ≡ status_of ended.now }
 {
-    match fault {
-        Fault::Read => "cannot read",
-        Fault::Utf8 => "not UTF-8",
-        Fault::Memory => "out of memory",
-        Fault::Write => "cannot write",
+    if let Err(fault) = ended {
+        tell(alloc, PROGRAM, complaints, name, *fault);
     }
+    status_of(ended)
+}
+
+/// Tells why the file at a path was not checked, if it was not, and gives the status for it.
+pub fn end_of_file<A: Allocator + Copy, E: Sink>(
+    alloc: A,
+    complaints: &mut E,
+    path: &str,
+    ended: &Result<bool, FileFault>,
+) -> u8
+    ensures says { SaysOfFile path.now ended.now (E.account complaints.old) (E.account complaints.new) }
+    ensures counted { result ≡ status_of ended.now }
+{
+    if let Err(fault) = ended {
+        tell_of_file(alloc, PROGRAM, complaints, path, fault);
+    }
+    status_of(ended)
 }

@@ -1,14 +1,16 @@
 // Checking the files that paths of the command line name.
 ghost use Rattle.document_checks.specs.Checking.{as_asked};
 ghost use Rattle.program_words.specs.Gqlfmt.{texts};
-ghost use Rattle.gqlcheck_run.specs.Program.{ChecksPath, ChecksPaths};
+ghost use Rattle.named_files.specs.Handling.{HandlesNamed};
+ghost use Rattle.gqlcheck_run.specs.Program.{ChecksFound, ChecksPaths};
 
+use crate::command::PROGRAM;
 use crate::job::Job;
-use crate::telling::tell_fault;
 use byte_devices::{Fault, Sink};
 use document_checks::DocumentChecker;
 use gqlfmt_files::Files;
 use named_files::named_files;
+use program_words::complaints::tell;
 use std::alloc::Allocator;
 
 impl<A: Allocator + Copy, C: DocumentChecker> Job<'_, '_, A, C> {
@@ -20,14 +22,14 @@ impl<A: Allocator + Copy, C: DocumentChecker> Job<'_, '_, A, C> {
         complaints: &mut E,
         path: &str,
     ) -> u8
-        ensures { ChecksPath F.lists F.reads (as_asked self.now.checks) self.now.figures path.now result
+        ensures { HandlesNamed F.lists PROGRAM.now (ChecksFound F.reads (as_asked self.now.checks) self.now.figures) path.now result
             (record { files = files.old; output = W.account writer.old; complaints = E.account complaints.old })
             (record { files = files.new; output = W.account writer.new; complaints = E.account complaints.new }) }
     {
         match named_files(self.alloc, files, path) {
             Ok(found) => self.check_files(files, writer, complaints, found.as_slice()),
             Err(_) => {
-                tell_fault(self.alloc, complaints, path, Fault::Memory);
+                tell(self.alloc, PROGRAM, complaints, path, Fault::Memory);
                 2
             }
         }

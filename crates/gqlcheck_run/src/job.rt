@@ -1,9 +1,9 @@
 // What a run does with each text.
 ghost use Rattle.std.specs.Prelude.{◌≢◌, IfErr, IfOk};
+ghost use Rattle.byte_devices.specs.Runs.{Writes};
 ghost use Rattle.byte_devices.specs.declared.fault.Fault.TheVariants.{Read};
 ghost use Rattle.document_checks.specs.Checking.{as_asked};
-ghost use Rattle.gqlcheck_run.specs.Ending.{Ends, IsAfterReading, IsJudged};
-ghost use Rattle.gqlcheck_run.specs.Program.{IsQuiet};
+ghost use Rattle.gqlcheck_run.specs.Ending.{IsOutput};
 
 use crate::json_lines::json_lines;
 use crate::rendering::rendered;
@@ -36,19 +36,16 @@ impl<A: Allocator + Copy, C: DocumentChecker> Job<'_, '_, A, C> {
         }
     }
 
-    // Checks a text, and prints what keeps it from passing, and its figures if they are wanted.
-    fn check_text<W: Sink>(&self, writer: &mut W, name: &str, source: &str) -> Result<bool, Fault>
-        ensures judged { IfOk result (IsJudged (as_asked self.now.checks) source.now) }
-        ensures quiet { IsQuiet self.now.figures result (W.account writer.old) (W.account writer.new) }
-        ensures reads { IfErr result (λ fault. IsAfterReading fault) }
+    // Whether a text passes, and what is printed of it: what keeps it from passing, and its figures if they are wanted.
+    fn judge(&self, name: &str, source: &str) -> Result<(bool, Vec<u8, A>), AllocError>
+        ensures { IfOk result (λ it. IsOutput (as_asked self.now.checks) self.now.figures source.now it.0 it.1.items) }
     {
         let report = self.checker.check(source, &self.checks)?;
         if report.passes && !self.figures {
-            return Ok(true);
+            return Ok((true, Vec::new(self.alloc)));
         }
         let output = self.output_of(name, source, &report)?;
-        write_all(writer, output.as_slice())?;
-        Ok(report.passes)
+        Ok((report.passes, output))
     }
 
     /// Checks the text that these bytes are, and prints what keeps it from passing, and its figures if they are wanted.
@@ -58,13 +55,14 @@ impl<A: Allocator + Copy, C: DocumentChecker> Job<'_, '_, A, C> {
         name: &str,
         bytes: &[u8],
     ) -> Result<bool, Fault>
-        ensures ends { Ends (as_asked self.now.checks) bytes.now result }
-        ensures quiet { IsQuiet self.now.figures result (W.account writer.old) (W.account writer.new) }
+        ensures output { Writes (IsOutput (as_asked self.now.checks) self.now.figures) result bytes.now (W.account writer.old) (W.account writer.new) }
         ensures reads { IfErr result (λ fault. fault ≢ Read) }
     {
         let Ok(source) = str::from_utf8(bytes) else {
             return Err(Fault::Utf8);
         };
-        self.check_text(writer, name, source)
+        let (passes, output) = self.judge(name, source)?;
+        write_all(writer, output.as_slice())?;
+        Ok(passes)
     }
 }

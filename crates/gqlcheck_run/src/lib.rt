@@ -9,13 +9,10 @@ mod ending;
 mod folders;
 mod job;
 mod json_lines;
-mod misuse;
 mod program;
 mod rendering;
-mod telling;
 mod texts;
 
 pub use command::{HELP, USAGE, VERSION};
 pub use document_checks::{Checker, DocumentChecker};
-pub use ending::FileFault;
 pub use program::run;

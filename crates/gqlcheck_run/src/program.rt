@@ -2,19 +2,18 @@
 ghost use Rattle.std.specs.Prelude.{◌≡◌};
 ghost use Rattle.document_checks.specs.Checking.{as_asked};
 ghost use Rattle.program_words.specs.Gqlfmt.{texts};
-ghost use Rattle.gqlcheck_run.specs.Program.{ChecksTexts, IsPrinted, Runs, information_text};
+ghost use Rattle.gqlcheck_run.specs.Program.{ChecksTexts, Runs, information_text};
 
-use crate::command::{HELP, NO_MEMORY, VERSION};
+use crate::command::{HELP, PROGRAM, USAGE, VERSION};
 use crate::job::Job;
-use crate::misuse::explain;
-use crate::telling::say;
-use byte_devices::{Sink, Source, write_all};
+use byte_devices::{Sink, Source};
 use document_checks::{Checks, DocumentChecker};
 use gqlfmt_files::Files;
 use program_words::gqlcheck::{Plan, options};
 use program_words::gqlfmt::Request;
 use program_words::information::Information;
 use program_words::misuse::WordsError;
+use program_words::streams::{explain, print, say_no_memory};
 use std::alloc::Allocator;
 
 // How many findings of a text are printed at most.
@@ -29,16 +28,6 @@ fn information_text(page: Information) -> &'static str
     match page {
         Information::Help => HELP,
         Information::Version => VERSION,
-    }
-}
-
-// Prints a page, and gives the status.
-fn print<W: Sink>(writer: &mut W, page: Information) -> u8
-    ensures { IsPrinted (information_text page) result (W.account writer.old) (W.account writer.new) }
-{
-    match write_all(writer, information_text(page).as_bytes()) {
-        Ok(()) => 0,
-        Err(_) => 2,
     }
 }
 
@@ -101,17 +90,17 @@ pub fn run<A: Allocator + Copy, C: DocumentChecker, R: Source, W: Sink, E: Sink,
         (record { input = R.account reader.new; output = W.account writer.new; complaints = E.account complaints.new; files = files.new }) }
 {
     match options(alloc, words) {
-        Ok(Request::Print(page)) => print(writer, page),
+        Ok(Request::Print(page)) => print(writer, information_text(page)),
         Ok(Request::Process(plan)) => {
             let job = Job::of(alloc, checker, &plan);
             job.check(reader, writer, complaints, files, plan.files.as_slice())
         }
         Err(WordsError::Usage(misuse)) => {
-            explain(alloc, complaints, misuse);
+            explain(alloc, PROGRAM, USAGE, complaints, misuse);
             2
         }
         Err(WordsError::Memory) => {
-            say(complaints, NO_MEMORY);
+            say_no_memory(PROGRAM, complaints);
             2
         }
     }

@@ -1,18 +1,19 @@
 // Checking standard input, or files.
-ghost use Rattle.std.specs.Prelude.{◌≡◌, ℕ, List, map, IfOk, true, false};
-ghost use Rattle.byte_devices.specs.Runs.{Reads};
+ghost use Rattle.std.specs.Prelude.{ℕ, List, map};
+ghost use Rattle.byte_devices.specs.Runs.{Reads, Writes};
 ghost use Rattle.document_checks.specs.Checking.{as_asked};
 ghost use Rattle.named_files.specs.Finding.{as_named};
-ghost use Rattle.gqlcheck_run.specs.Ending.{Ends};
-ghost use Rattle.gqlcheck_run.specs.Program.{ChecksFiles, ChecksInput, IsQuiet, Handles, HandlesFound};
+ghost use Rattle.named_files.specs.Handling.{InTurn, ReadsAndWrites};
+ghost use Rattle.gqlcheck_run.specs.Ending.{IsOutput};
+ghost use Rattle.gqlcheck_run.specs.Program.{ChecksFound, ChecksInput, HandlesFound};
 
-use crate::ending::{FileFault, status_of};
+use crate::ending::{end, end_of_file};
 use crate::job::Job;
-use crate::telling::{tell, tell_of_file};
 use byte_devices::{Fault, Sink, Source, read_to_end};
 use document_checks::DocumentChecker;
 use gqlfmt_files::Files;
 use named_files::Named;
+use program_words::complaints::FileFault;
 use std::alloc::Allocator;
 
 /// The name of standard input in messages.
@@ -21,8 +22,8 @@ pub const INPUT: &str = "<stdin>";
 impl<A: Allocator + Copy, C: DocumentChecker> Job<'_, '_, A, C> {
     // Reads to the end, and checks the whole text.
     fn read_input<R: Source, W: Sink>(&self, reader: &mut R, writer: &mut W) -> Result<bool, Fault>
-        ensures ends { (input : List ℕ) × Reads result input (R.account reader.old) (R.account reader.new) × Ends (as_asked self.now.checks) input result }
-        ensures quiet { IsQuiet self.now.figures result (W.account writer.old) (W.account writer.new) }
+        ensures { (input : List ℕ) × Reads result input (R.account reader.old) (R.account reader.new)
+            × Writes (IsOutput (as_asked self.now.checks) self.now.figures) result input (W.account writer.old) (W.account writer.new) }
     {
         let bytes = read_to_end(self.alloc, reader)?;
         self.check_bytes(writer, INPUT, bytes.as_slice())
@@ -40,8 +41,7 @@ impl<A: Allocator + Copy, C: DocumentChecker> Job<'_, '_, A, C> {
             (record { input = R.account reader.new; output = W.account writer.new; complaints = E.account complaints.new }) }
     {
         let ended = self.read_input(reader, writer);
-        tell(self.alloc, complaints, INPUT, &ended);
-        status_of(&ended)
+        end(self.alloc, complaints, INPUT, &ended)
     }
 
     // Checks the file at a path.
@@ -51,8 +51,8 @@ impl<A: Allocator + Copy, C: DocumentChecker> Job<'_, '_, A, C> {
         writer: &mut W,
         path: &str,
     ) -> Result<bool, FileFault>
-        ensures handles { Handles F.reads (as_asked self.now.checks) path.now result files.old files.new }
-        ensures quiet { IsQuiet self.now.figures result (W.account writer.old) (W.account writer.new) }
+        ensures { ReadsAndWrites (IsOutput (as_asked self.now.checks) self.now.figures) F.reads path.now result
+            files.old (W.account writer.old) files.new (W.account writer.new) }
     {
         match files.read(self.alloc, path) {
             Ok(bytes) => {
@@ -63,20 +63,36 @@ impl<A: Allocator + Copy, C: DocumentChecker> Job<'_, '_, A, C> {
         }
     }
 
-    // Checks a file that was found.
+    // Checks what was found, if it is a file.
     fn check_named<F: Files, W: Sink>(
         &self,
         files: &mut F,
         writer: &mut W,
         named: &Named<A>,
     ) -> Result<bool, FileFault>
-        ensures handles { HandlesFound F.reads (as_asked self.now.checks) (as_named named.now) result files.old files.new }
-        ensures quiet { IsQuiet self.now.figures result (W.account writer.old) (W.account writer.new) }
+        ensures { HandlesFound F.reads (as_asked self.now.checks) self.now.figures (as_named named.now) result
+            files.old (W.account writer.old) files.new (W.account writer.new) }
     {
         match named {
             Named::File(path) => self.check_file(files, writer, path.as_str()),
             Named::Failed(_, error) => Err(FileFault::NotRead(*error)),
         }
+    }
+
+    // Does that, tells why it was not checked, and gives the status.
+    fn check_found<F: Files, W: Sink, E: Sink>(
+        &self,
+        files: &mut F,
+        writer: &mut W,
+        complaints: &mut E,
+        named: &Named<A>,
+    ) -> u8
+        ensures { ChecksFound F.reads (as_asked self.now.checks) self.now.figures (as_named named.now) result
+            (record { files = files.old; output = W.account writer.old; complaints = E.account complaints.old })
+            (record { files = files.new; output = W.account writer.new; complaints = E.account complaints.new }) }
+    {
+        let ended = self.check_named(files, writer, named);
+        end_of_file(self.alloc, complaints, named.path(), &ended)
     }
 
     /// Checks the files that were found in order, also after one that is not read, and gives the greatest of their statuses.
@@ -87,15 +103,14 @@ impl<A: Allocator + Copy, C: DocumentChecker> Job<'_, '_, A, C> {
         complaints: &mut E,
         found: &[Named<A>],
     ) -> u8
-        ensures { ChecksFiles F.reads (as_asked self.now.checks) self.now.figures (map as_named found.now) result
+        ensures { InTurn (ChecksFound F.reads (as_asked self.now.checks) self.now.figures) (map as_named found.now) result
             (record { files = files.old; output = W.account writer.old; complaints = E.account complaints.old })
             (record { files = files.new; output = W.account writer.new; complaints = E.account complaints.new }) }
     {
         let mut status = 0;
         for named in found {
-            let ended = self.check_named(files, writer, named);
-            tell_of_file(self.alloc, complaints, named.path(), &ended);
-            status = status.max(status_of(&ended));
+            let one = self.check_found(files, writer, complaints, named);
+            status = status.max(one);
         }
         status
     }

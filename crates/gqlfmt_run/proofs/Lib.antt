@@ -1,6 +1,5 @@
 pub mod PathLemmas
 pub mod FolderLemmas
-pub mod Printing
 pub mod Outputs
 pub mod Saying
 pub mod Quotes

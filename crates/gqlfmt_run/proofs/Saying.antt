@@ -7,13 +7,19 @@ use Rattle.byte_devices.specs.declared.fault.Fault.{Fault}
 use Rattle.byte_devices.specs.declared.fault.Fault.TheVariants.{Read, Utf8, Memory, Write}
 use Rattle.gqlfmt_files.specs.declared.settling.Settled.{Settled}
 use Rattle.gqlfmt_files.specs.declared.settling.Settled.TheVariants.{Done, Found, Refused}
-use Rattle.gqlfmt_run.specs.declared.fault.FileFault.{FileFault}
-use Rattle.gqlfmt_run.specs.Complaints.{IsSilent, SaysOfFile}
+use Rattle.program_words.specs.declared.complaints.FileFault.{FileFault}
+use Rattle.gqlfmt_run.specs.Complaints.{IsSilent, Says, SaysOfFile}
 
-pub silent_says : (path : List ℕ) (settled : Settled) (old new : Account) → IsSilent {E = FileFault} (Ok settled) old new → SaysOfFile path (Ok settled) old new
-silent_says path Done old new same = same
-silent_says path Found old new same = same
-silent_says path Refused old new any = any
+pub silent_says : (name : List ℕ) (settled : Settled) (old new : Account) → IsSilent {E = Fault} (Ok settled) old new → Says name (Ok settled) old new
+silent_says name Done old new same = same
+silent_says name Found old new same = same
+silent_says name Refused old new any = any
+
+pub silent_says_of_file : (path : List ℕ) (settled : Settled) (old new : Account) → IsSilent {E = FileFault} (Ok settled) old new
+    → SaysOfFile path (Ok settled) old new
+silent_says_of_file path Done old new same = same
+silent_says_of_file path Found old new same = same
+silent_says_of_file path Refused old new any = any
 
 -- writing nothing does not break off
 all-written : (fault : Fault) (text : List ℕ) (old new : Account) → EndsWriting fault text old new → text ≡ [] → ⊥

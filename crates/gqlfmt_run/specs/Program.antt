@@ -1,13 +1,12 @@
 -- What a run of the program does, by the request in its words.
-use Rattle.std.specs.Prelude.{◌≡◌, ◌⊎◌, ℕ, Bool, true, false, List, [], ◌∷◌, ◌++◌, Option, Some, None, Result, Ok, Err, MatchBool, bytes_eq}
+use Rattle.std.specs.Prelude.{◌≡◌, ◌⊎◌, ℕ, Bool, true, false, List, [], ◌∷◌, Option, Some, None, Result, Ok, Err, MatchBool, bytes_eq}
 use Rattle.std.specs.declared.io.Error.{Error}
-use Rattle.byte_devices.specs.Devices.{Account, moved}
-use Rattle.byte_devices.specs.Writing.{IsBroken}
 use Rattle.byte_devices.specs.Runs.{Reads, Writes}
 use Rattle.byte_devices.specs.declared.fault.Fault.{Fault}
+use Rattle.program_words.specs.Complaints.{TellsOfFile}
 use Rattle.program_words.specs.Gqlfmt.{Run, request_of}
-use Rattle.program_words.specs.Misuse.{IsAmong}
-use Rattle.program_words.specs.declared.misuse.Mistake.{Mistake}
+use Rattle.program_words.specs.Streams.{Streams, OnlyPrints, OnlySays, OnlyExplains, no_memory}
+use Rattle.program_words.specs.declared.complaints.FileFault.TheVariants.{NotRead}
 use Rattle.gqlfmt_files.specs.declared.settling.Mode.{Mode}
 use Rattle.gqlfmt_files.specs.declared.settling.Settled.{Settled}
 use Rattle.program_words.specs.declared.gqlfmt.TheConstants.{INPUT}
@@ -16,40 +15,17 @@ use Rattle.program_words.specs.declared.information.Information.TheVariants.{Hel
 use Rattle.program_words.specs.declared.gqlfmt.Request.{Request}
 use Rattle.program_words.specs.declared.gqlfmt.Request.TheVariants.{Print, Process}
 use Rattle.gqlfmt_run.specs.declared.job.Bounds.{Bounds}
-use Rattle.gqlfmt_run.specs.declared.command.TheConstants.{USAGE, HELP, VERSION, NO_MEMORY}
+use Rattle.gqlfmt_run.specs.declared.command.TheConstants.{PROGRAM, USAGE, HELP, VERSION}
 use Rattle.gqlfmt_run.specs.Status.{status_of}
-use Rattle.gqlfmt_run.specs.Complaints.{Explains, IsWritten, Says}
+use Rattle.gqlfmt_run.specs.Complaints.{Says}
 use Rattle.gqlfmt_run.specs.Input.{IsOutput, PassesOn}
 use Rattle.gqlfmt_files.specs.Listing.{Listing}
-use Rattle.gqlfmt_run.specs.Paths.{Desk}
+use Rattle.named_files.specs.Handling.{State, desk, streams}
 use Rattle.gqlfmt_run.specs.Folders.{HandlesPaths}
 
 abbrev pub information_text : Information → List ℕ
-information_text Help = USAGE.now ++ HELP.now
+information_text Help = HELP.now
 information_text Version = VERSION.now
-
--- What went through standard input, standard output and standard error.
-pub record Streams : Type 0 where
-  pub input : Account
-  pub output : Account
-  pub complaints : Account
-
--- What a run finds and leaves: that, and the files.
-pub record State (S : Type 0) : Type 0 where
-  pub input : Account
-  pub output : Account
-  pub complaints : Account
-  pub files : S
-
-abbrev pub streams : {S : Type 0} → State S → Streams
-streams state = record { input = state.input; output = state.output; complaints = state.complaints }
-
-abbrev pub desk : {S : Type 0} → State S → Desk S
-desk state = record { files = state.files; output = state.output; complaints = state.complaints }
-
--- the page is written, with the status for it
-abbrev pub IsPrinted : List ℕ → ℕ → Account → Account → Type 0
-IsPrinted text status old new = ((status ≡ 0) × (new ≡ moved old text)) ⊎ ((status ≡ 2) × IsBroken text old new)
 
 -- what a run keeps to
 abbrev pub bounds_of : Run → Bounds
@@ -78,18 +54,8 @@ pub record KeepsInput (mode : Mode) (name : List ℕ) (status : ℕ) (old new : 
 abbrev pub InputFollows : Result Bool Error → Mode → Bounds → List ℕ → ℕ → Streams → Streams → Type 0
 InputFollows (Ok true) mode bounds path status old new = KeepsInput mode path status old new
 InputFollows (Ok false) mode bounds path status old new = FormatsInput mode bounds path status old new
-InputFollows (Err error) mode bounds path status old new = (status ≡ 2) × (new.input ≡ old.input) × (new.output ≡ old.output)
-
--- A text alone is said on standard error, and nothing else is done.
-abbrev pub OnlySays : {S : Type 0} → List ℕ → ℕ → State S → State S → Type 0
-OnlySays text status old new =
-    (status ≡ 2) × IsWritten text old.complaints new.complaints × (new.output ≡ old.output) × (new.input ≡ old.input) × (new.files ≡ old.files)
-
--- What is wrong with one of the words is said there, and nothing else is done.
-abbrev pub OnlyExplains : {S : Type 0} → List (List ℕ) → ℕ → State S → State S → Type 0
-OnlyExplains words status old new =
-    (word : List ℕ) × (mistake : Mistake) × IsAmong words word × (status ≡ 2) × Explains word mistake old.complaints new.complaints
-    × (new.output ≡ old.output) × (new.input ≡ old.input) × (new.files ≡ old.files)
+InputFollows (Err error) mode bounds path status old new =
+    (status ≡ 2) × TellsOfFile PROGRAM.now path (NotRead error) old.complaints new.complaints × (new.input ≡ old.input) × (new.output ≡ old.output)
 
 -- the files, as a trait tells what four of its calls do
 module _ {S : Type 0} (lists : S → List ℕ → Listing → S → Type 0) (omits : S → List ℕ → Result Bool Error → S → Type 0)
@@ -112,13 +78,13 @@ module _ {S : Type 0} (lists : S → List ℕ → Listing → S → Type 0) (omi
   Formats mode bounds name (path ∷ paths) status old new =
       (new.input ≡ old.input) × HandlesPaths lists omits reads replaces mode bounds (path ∷ paths) status (desk old) (desk new)
 
-  -- What a run does for the request in its words. Where there is none, a word is wrong. Which one, if there are several, and how, is not stated.
+  -- What a run does for the request in its words. Where there is none, a word is wrong.
   abbrev pub Does : List (List ℕ) → Option (Request Run) → ℕ → State S → State S → Type 0
-  Does words (Some (Print page)) status old new =
-      IsPrinted (information_text page) status old.output new.output × (new.complaints ≡ old.complaints) × (new.input ≡ old.input) × (new.files ≡ old.files)
+  Does words (Some (Print page)) status old new = OnlyPrints (information_text page) status (streams old) (streams new) × (new.files ≡ old.files)
   Does words (Some (Process run)) status old new = Formats run.mode (bounds_of run) run.name run.files status old new
-  Does words None status old new = OnlyExplains words status old new
+  Does words None status old new = OnlyExplains PROGRAM.now USAGE.now words status (streams old) (streams new) × (new.files ≡ old.files)
 
   -- What a run does: that, or it says that memory was refused before the last of its words was read, and nothing else.
   abbrev pub Runs : List (List ℕ) → ℕ → State S → State S → Type 0
-  Runs words status old new = Does words (request_of words) status old new ⊎ OnlySays NO_MEMORY.now status old new
+  Runs words status old new =
+      Does words (request_of words) status old new ⊎ (OnlySays (no_memory PROGRAM.now) status (streams old) (streams new) × (new.files ≡ old.files))

@@ -1,5 +1,8 @@
 // What the program prints of itself.
 
+/// The name of the program, as its messages have it.
+pub const PROGRAM: &str = "gqlfmt";
+
 /// The version of the program.
 pub const VERSION: &str = "gqlfmt 0.1.0\n";
 
@@ -7,11 +10,9 @@ pub const VERSION: &str = "gqlfmt 0.1.0\n";
 pub const USAGE: &str =
     "usage: gqlfmt [--write | --check | --diff | --print] [OPTION..] [FILE..]\n";
 
-/// What is said where there is no memory for more.
-pub const NO_MEMORY: &str = "gqlfmt: out of memory\n";
+/// How it is called, what it does, and its options.
+pub const HELP: &str = "usage: gqlfmt [--write | --check | --diff | --print] [OPTION..] [FILE..]
 
-/// What it does.
-pub const HELP: &str = "
 Puts GraphQL documents into one layout. Without FILE, or where FILE is -, it
 reads standard input and writes to standard output; otherwise each FILE that
 changes is replaced. A FILE that is a folder means the files below it that

@@ -1,14 +1,14 @@
 // Formatting the files that paths of the command line name.
 ghost use Rattle.program_words.specs.Gqlfmt.{texts};
-ghost use Rattle.gqlfmt_run.specs.Folders.{HandlesNamed, HandlesPath, HandlesPaths};
+ghost use Rattle.gqlfmt_run.specs.Folders.{FormatsNamed, HandlesPath, HandlesPaths};
 
-use crate::fault::FileFault;
+use crate::command::PROGRAM;
 use crate::job::Job;
-use crate::report::{tell, tell_of_file};
 use byte_devices::{Fault, Sink};
 use formatter::DocumentFormatter;
 use gqlfmt_files::Files;
 use named_files::named_files;
+use program_words::complaints::{FileFault, tell, tell_of_file};
 use std::alloc::Allocator;
 
 impl<A: Allocator + Copy, L: DocumentFormatter> Job<'_, A, L> {
@@ -20,14 +20,14 @@ impl<A: Allocator + Copy, L: DocumentFormatter> Job<'_, A, L> {
         complaints: &mut E,
         path: &str,
     ) -> u8
-        ensures { HandlesNamed F.lists F.reads F.replaces self.now.mode self.now.bounds path.now result
+        ensures { FormatsNamed F.lists F.reads F.replaces self.now.mode self.now.bounds path.now result
             (record { files = files.old; output = W.account writer.old; complaints = E.account complaints.old })
             (record { files = files.new; output = W.account writer.new; complaints = E.account complaints.new }) }
     {
         match named_files(self.alloc, files, path) {
             Ok(found) => self.format_files(files, writer, complaints, found.as_slice()),
             Err(_) => {
-                tell(self.alloc, complaints, path, Fault::Memory);
+                tell(self.alloc, PROGRAM, complaints, path, Fault::Memory);
                 2
             }
         }
@@ -49,8 +49,8 @@ impl<A: Allocator + Copy, L: DocumentFormatter> Job<'_, A, L> {
             Ok(true) => 0,
             Ok(false) => self.format_path(files, writer, complaints, path),
             Err(error) => {
-                let ended = Err(FileFault::NotRead(error));
-                tell_of_file(self.alloc, files, complaints, path, &ended);
+                let fault = FileFault::NotRead(error);
+                tell_of_file(self.alloc, PROGRAM, complaints, path, &fault);
                 2
             }
         }

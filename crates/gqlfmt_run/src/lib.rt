@@ -8,23 +8,20 @@
 mod command;
 mod diff;
 mod edits;
-mod fault;
+mod ending;
 mod folders;
 mod formatting;
 mod input;
 mod job;
-mod misuse;
 mod paths;
 mod program;
 mod quoting;
 mod report;
 mod showing;
-mod status;
 
 pub use apollo_parser::Limits;
 pub use command::{HELP, USAGE, VERSION};
 pub use diff::unified_diff;
-pub use fault::FileFault;
 pub use formatter::{DocumentFormatter, Formatter};
 pub use job::{Bounds, Job};
 pub use program::run;

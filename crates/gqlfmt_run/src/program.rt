@@ -1,44 +1,27 @@
 // A run of the program.
-ghost use Rattle.std.specs.Prelude.{◌≡◌, OnOk, OnErr};
-ghost use Rattle.byte_devices.specs.Devices.{moved};
-ghost use Rattle.byte_devices.specs.Writing.{IsBroken};
+ghost use Rattle.std.specs.Prelude.{◌≡◌};
 ghost use Rattle.program_words.specs.Gqlfmt.{texts};
-ghost use Rattle.gqlfmt_run.specs.Program.{information_text, IsPrinted, FormatsInput, Formats, HandlesInput, KeepsInput, Runs};
+ghost use Rattle.gqlfmt_run.specs.Program.{information_text, FormatsInput, Formats, HandlesInput, KeepsInput, Runs};
 
-use crate::command::{HELP, NO_MEMORY, USAGE, VERSION};
-use crate::fault::FileFault;
+use crate::command::{HELP, PROGRAM, USAGE, VERSION};
+use crate::ending::end;
 use crate::job::{Bounds, Job};
-use crate::misuse::explain;
-use crate::report::{say, tell, tell_of_file};
-use crate::status::status_of;
-use byte_devices::{Fault, Sink, Source, write_all};
+use byte_devices::{Sink, Source};
 use formatter::DocumentFormatter;
 use gqlfmt_files::Files;
+use program_words::complaints::{FileFault, tell_of_file};
 use program_words::gqlfmt::{INPUT, Request, options};
 use program_words::information::Information;
 use program_words::misuse::WordsError;
+use program_words::streams::{explain, print, say_no_memory};
 use std::alloc::Allocator;
 
-fn write_information<W: Sink>(writer: &mut W, page: Information) -> Result<(), Fault>
-    ensures ok { OnOk result (W.account writer.new ≡ moved (W.account writer.old) (information_text page)) }
-    ensures err { OnErr result (IsBroken (information_text page) (W.account writer.old) (W.account writer.new)) }
+fn information_text(page: Information) -> &'static str
+    ensures { result.now ≡ information_text page }
 {
     match page {
-        Information::Help => {
-            write_all(writer, USAGE.as_bytes())?;
-            write_all(writer, HELP.as_bytes())
-        }
-        Information::Version => write_all(writer, VERSION.as_bytes()),
-    }
-}
-
-// Prints a page, and gives the status.
-fn print<W: Sink>(writer: &mut W, page: Information) -> u8
-    ensures { IsPrinted (information_text page) result (W.account writer.old) (W.account writer.new) }
-{
-    match write_information(writer, page) {
-        Ok(()) => 0,
-        Err(_) => 2,
+        Information::Help => HELP,
+        Information::Version => VERSION,
     }
 }
 
@@ -56,10 +39,7 @@ impl<A: Allocator + Copy, L: DocumentFormatter> Job<'_, A, L> {
             (record { input = R.account reader.new; output = W.account writer.new; complaints = E.account complaints.new }) }
     {
         let ended = self.format_input(reader, writer, complaints, name);
-        if let Err(fault) = ended {
-            tell(self.alloc, complaints, name, fault);
-        }
-        status_of(&ended)
+        end(self.alloc, complaints, name, &ended)
     }
 
     // Passes standard input on as it is, and gives the status.
@@ -75,10 +55,7 @@ impl<A: Allocator + Copy, L: DocumentFormatter> Job<'_, A, L> {
             (record { input = R.account reader.new; output = W.account writer.new; complaints = E.account complaints.new }) }
     {
         let ended = self.pass_on(reader, writer);
-        if let Err(fault) = ended {
-            tell(self.alloc, complaints, name, fault);
-        }
-        status_of(&ended)
+        end(self.alloc, complaints, name, &ended)
     }
 
     // Formats standard input, unless it has a path that is left alone, and gives the status.
@@ -101,8 +78,8 @@ impl<A: Allocator + Copy, L: DocumentFormatter> Job<'_, A, L> {
             Ok(true) => self.keep_standard_input(reader, writer, complaints, name),
             Ok(false) => self.format_standard_input(reader, writer, complaints, name),
             Err(error) => {
-                let ended = Err(FileFault::NotRead(error));
-                tell_of_file(self.alloc, files, complaints, name, &ended);
+                let fault = FileFault::NotRead(error);
+                tell_of_file(self.alloc, PROGRAM, complaints, name, &fault);
                 2
             }
         }
@@ -145,7 +122,7 @@ pub fn run<A: Allocator + Copy, L: DocumentFormatter, R: Source, W: Sink, E: Sin
         (record { input = R.account reader.new; output = W.account writer.new; complaints = E.account complaints.new; files = files.new }) }
 {
     match options(alloc, words) {
-        Ok(Request::Print(page)) => print(writer, page),
+        Ok(Request::Print(page)) => print(writer, information_text(page)),
         Ok(Request::Process(plan)) => {
             let job = Job {
                 alloc,
@@ -167,11 +144,11 @@ pub fn run<A: Allocator + Copy, L: DocumentFormatter, R: Source, W: Sink, E: Sin
             )
         }
         Err(WordsError::Usage(misuse)) => {
-            explain(alloc, complaints, misuse);
+            explain(alloc, PROGRAM, USAGE, complaints, misuse);
             2
         }
         Err(WordsError::Memory) => {
-            say(complaints, NO_MEMORY);
+            say_no_memory(PROGRAM, complaints);
             2
         }
     }

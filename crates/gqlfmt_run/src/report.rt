@@ -1,19 +1,22 @@
 // What is said on standard error: the errors of a text, with their positions, and why a text was not formatted.
 ghost use Rattle.std.specs.Prelude.{◌≡◌, OnErr};
-ghost use Rattle.byte_devices.specs.Devices.{Account};
-ghost use Rattle.gqlfmt_run.specs.Complaints.{IsSilent, IsWritten, Tells, SaysOfFile};
+ghost use Rattle.gqlfmt_run.specs.Complaints.{Complains, MayMentionCopy, MentionsCopy};
 
-use crate::command::NO_MEMORY;
-use crate::fault::{FileFault, reason_of};
+use crate::command::PROGRAM;
 use crate::formatting::Refusal;
 use crate::job::Job;
-use byte_devices::{Fault, Sink, write_all};
+use byte_devices::Sink;
 use first_errors::{FirstErrors, for_people, shown_at};
-use gqlfmt_files::{Files, Settled};
+use gqlfmt_files::{Files, Revised};
 use line_index::LineIndex;
 use marked_lines::{Remark, complaint, push_message, push_more};
+use program_words::complaints::FileFault;
+use program_words::streams::say;
 use std::alloc::{AllocError, Allocator};
-use std::io;
+
+// What is said of a copy.
+const COPY_ADVICE: &str =
+    "a copy of the file: once no run is at work, restore the file from it if need be, and remove it";
 
 /// A line `NAME:LINE:COLUMN: MESSAGE` for each error, and below it the line of the text with the position marked; then how many more errors there are.
 /// Lines and columns count from 1, columns in characters.
@@ -39,13 +42,6 @@ fn render_report<A: Allocator + Copy>(
     Ok(report)
 }
 
-/// Writes a text. What the sink does not take is lost.
-pub fn say<E: Sink>(complaints: &mut E, text: &str)
-    ensures { IsWritten text.now (E.account complaints.old) (E.account complaints.new) }
-{
-    let _ = write_all(complaints, text.as_bytes());
-}
-
 impl<A: Allocator + Copy, L> Job<'_, A, L> {
     // Why a text is left as it is.
     fn reasons(
@@ -58,11 +54,11 @@ impl<A: Allocator + Copy, L> Job<'_, A, L> {
             Refusal::Errors(first) => render_report(self.alloc, name, source, first),
             Refusal::Outgrown => {
                 let reason = "it would have more tokens than allowed when formatted";
-                complaint(self.alloc, "gqlfmt", name, reason)
+                complaint(self.alloc, PROGRAM, name, reason)
             }
             Refusal::TooLong => {
                 let reason = "it would have more bytes than --max-output allows when formatted";
-                complaint(self.alloc, "gqlfmt", name, reason)
+                complaint(self.alloc, PROGRAM, name, reason)
             }
         }
     }
@@ -81,78 +77,52 @@ impl<A: Allocator + Copy, L> Job<'_, A, L> {
         say(complaints, report.as_str());
         Ok(())
     }
-}
 
-/// Tells why a text was not formatted. What the sink does not take is lost.
-pub fn tell<A: Allocator, E: Sink>(alloc: A, complaints: &mut E, name: &str, fault: Fault)
-    ensures { Tells name.now fault (E.account complaints.old) (E.account complaints.new) }
-{
-    match complaint(alloc, "gqlfmt", name, reason_of(fault)) {
-        Ok(line) => say(complaints, line.as_str()),
-        Err(_) => say(complaints, NO_MEMORY),
+    /// Tells why a text is left as it is, if it is refused.
+    pub fn complain_if_refused<E: Sink>(
+        &self,
+        complaints: &mut E,
+        name: &str,
+        source: &str,
+        revised: &Revised<A, Refusal<'_, A>>,
+    ) -> Result<(), AllocError>
+        ensures { Complains revised.now result (E.account complaints.old) (E.account complaints.new) }
+    {
+        match revised {
+            Revised::Refused(refusal) => self.complain(complaints, name, source, refusal),
+            Revised::Same | Revised::Changed(_) => Ok(()),
+        }
     }
 }
 
-// A line about an error of the file system. A word that is not UTF-8 has a zero byte at its end, which is not shown.
-fn error_line<A: Allocator + Copy>(
-    alloc: A,
-    path: &str,
-    what: &str,
-    error: &io::Error,
-) -> Result<String<A>, AllocError> {
-    let reason = format!(in alloc; "{what}: {error}")?;
-    let path = path.strip_suffix('\0').unwrap_or(path);
-    complaint(alloc, "gqlfmt", path, reason.as_str())
-}
-
-// Tells of an error of the file system.
-fn tell_error<A: Allocator + Copy, E: Sink>(
-    alloc: A,
-    complaints: &mut E,
-    path: &str,
-    what: &str,
-    error: &io::Error,
-) {
-    match error_line(alloc, path, what, error) {
-        Ok(line) => say(complaints, line.as_str()),
-        Err(_) => say(complaints, NO_MEMORY),
-    }
-}
-
-// Tells which copy of the file at a path is there, if one is.
-fn tell_of_copy<A: Allocator + Copy, F: Files, E: Sink>(
+// Names a copy of the file at a path, if one is there.
+fn mention_copy<A: Allocator + Copy, F: Files, E: Sink>(
     alloc: A,
     files: &F,
     complaints: &mut E,
     path: &str,
-) {
-    let advice =
-        "a copy of the file: once no run is at work, restore the file from it if need be, and remove it";
+)
+    ensures { MayMentionCopy (E.account complaints.old) (E.account complaints.new) }
+{
     if let Ok(Some(copy)) = files.copy_path(alloc, path)
-        && let Ok(line) = complaint(alloc, "gqlfmt", copy.as_str(), advice)
+        && let Ok(line) = complaint(alloc, PROGRAM, copy.as_str(), COPY_ADVICE)
     {
         say(complaints, line.as_str());
     }
 }
 
-/// Tells why the file at a path was not formatted, if it was not, and which copy of it is there. What the sink does not take is lost.
-#[tactic(auto, using(crate::proofs::Saying::silent_says))]
-pub fn tell_of_file<A: Allocator + Copy, F: Files, E: Sink>(
+/// After a file that was not replaced, names the copy of it that is there, if one is. What the sink does not take is lost.
+pub fn tell_of_copy<A: Allocator + Copy, F: Files, E: Sink>(
     alloc: A,
     files: &F,
     complaints: &mut E,
     path: &str,
-    ended: &Result<Settled, FileFault>,
+    fault: &FileFault,
 )
-    ensures { (before : Account) → IsSilent ended.now before (E.account complaints.old) → SaysOfFile path.now ended.now before (E.account complaints.new) }
+    ensures { MentionsCopy fault.now (E.account complaints.old) (E.account complaints.new) }
 {
-    match ended {
-        Ok(_) => {}
-        Err(FileFault::NotRead(error)) => tell_error(alloc, complaints, path, "cannot read", error),
-        Err(FileFault::NotReplaced(error)) => {
-            tell_error(alloc, complaints, path, "cannot replace", error);
-            tell_of_copy(alloc, files, complaints, path);
-        }
-        Err(FileFault::Device(fault)) => tell(alloc, complaints, path, *fault),
+    match fault {
+        FileFault::NotReplaced(_) => mention_copy(alloc, files, complaints, path),
+        FileFault::NotRead(_) | FileFault::Device(_) => {}
     }
 }

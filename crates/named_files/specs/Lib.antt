@@ -1,3 +1,4 @@
 pub mod Names
 pub mod Finding
 pub mod Search
+pub mod Handling

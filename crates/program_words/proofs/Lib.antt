@@ -1,3 +1,4 @@
 pub mod NumberLemmas
 pub mod Taking
 pub mod Naming
+pub mod Saying

@@ -12,3 +12,5 @@ pub mod Gqlcheck
 pub mod CheckReading
 pub mod FormatReading
 pub mod Misuse
+pub mod Streams
+pub mod Complaints

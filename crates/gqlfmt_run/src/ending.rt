@@ -1,0 +1,59 @@
+// How formatting a text ends.
+ghost use Rattle.std.specs.Prelude.{◌≡◌};
+ghost use Rattle.byte_devices.specs.Devices.{Account};
+ghost use Rattle.gqlfmt_run.specs.Complaints.{IsSilent, Says, SaysOfFile};
+ghost use Rattle.gqlfmt_run.specs.Status.{status_of};
+
+use crate::command::PROGRAM;
+use crate::report::tell_of_copy;
+use byte_devices::{Fault, Sink};
+use gqlfmt_files::{Files, Settled};
+use program_words::complaints::{FileFault, tell, tell_of_file};
+use std::alloc::Allocator;
+
+// The status that the program ends with for this text alone.
+fn status_of<E>(ended: &Result<Settled, E>) -> u8
+    ensures { result ≡ status_of ended.now }
+{
+    match ended {
+        Ok(Settled::Done) => 0,
+        Ok(Settled::Found) => 1,
+        Ok(Settled::Refused) | Err(_) => 2,
+    }
+}
+
+/// Tells why standard input was not formatted, if it was not, and gives the status for it.
+#[tactic(auto, using(crate::proofs::Saying::silent_says))]
+pub fn end<A: Allocator, E: Sink>(
+    alloc: A,
+    complaints: &mut E,
+    name: &str,
+    ended: &Result<Settled, Fault>,
+) -> u8
+    ensures says { (before : Account) → IsSilent ended.now before (E.account complaints.old) → Says name.now ended.now before (E.account complaints.new) }
+    ensures counted { result ≡ status_of ended.now }
+{
+    if let Err(fault) = ended {
+        tell(alloc, PROGRAM, complaints, name, *fault);
+    }
+    status_of(ended)
+}
+
+/// Tells why the file at a path was not formatted, if it was not, and which copy of it is there; and gives the status for it.
+#[tactic(auto, using(crate::proofs::Saying::silent_says_of_file))]
+pub fn end_of_file<A: Allocator + Copy, F: Files, E: Sink>(
+    alloc: A,
+    files: &F,
+    complaints: &mut E,
+    path: &str,
+    ended: &Result<Settled, FileFault>,
+) -> u8
+    ensures says { (before : Account) → IsSilent ended.now before (E.account complaints.old) → SaysOfFile path.now ended.now before (E.account complaints.new) }
+    ensures counted { result ≡ status_of ended.now }
+{
+    if let Err(fault) = ended {
+        tell_of_file(alloc, PROGRAM, complaints, path, fault);
+        tell_of_copy(alloc, files, complaints, path, fault);
+    }
+    status_of(ended)
+}

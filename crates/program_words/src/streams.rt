@@ -1,0 +1,50 @@
+// What a program writes about itself, and about the words that it is called with.
+ghost use Rattle.program_words.specs.Streams.{Explains, IsPrinted, IsSaid, no_memory};
+
+use crate::misuse::Misuse;
+use byte_devices::{Sink, write_all};
+use std::alloc::Allocator;
+
+/// Writes a text to standard error. What the sink does not take is lost.
+pub fn say<E: Sink>(complaints: &mut E, text: &str)
+    ensures { IsSaid text.now (E.account complaints.old) (E.account complaints.new) }
+{
+    let _ = write_all(complaints, text.as_bytes());
+}
+
+/// Says that there is no memory for more, in the name of a program. It takes no memory itself.
+#[tactic(auto, using(crate::proofs::Saying::said_first))]
+pub fn say_no_memory<E: Sink>(program: &str, complaints: &mut E)
+    ensures { IsSaid (no_memory program.now) (E.account complaints.old) (E.account complaints.new) }
+{
+    match write_all(complaints, program.as_bytes()) {
+        Ok(()) => say(complaints, ": out of memory\n"),
+        Err(_) => {}
+    }
+}
+
+/// Prints a page, and gives the status: 0, or 2 where the sink does not take all of it.
+pub fn print<W: Sink>(writer: &mut W, page: &str) -> u8
+    ensures { IsPrinted page.now result (W.account writer.old) (W.account writer.new) }
+{
+    match write_all(writer, page.as_bytes()) {
+        Ok(()) => 0,
+        Err(_) => 2,
+    }
+}
+
+/// Says which word is wrong, and how the program of this name is called; only the latter where memory is refused. What the sink does not take is lost.
+pub fn explain<A: Allocator, E: Sink>(
+    alloc: A,
+    program: &str,
+    usage: &str,
+    complaints: &mut E,
+    misuse: Misuse<'_>,
+)
+    ensures { Explains program.now usage.now misuse.entry.word.now misuse.entry.mistake (E.account complaints.old) (E.account complaints.new) }
+{
+    match misuse.explanation(alloc, program, usage) {
+        Ok(text) => say(complaints, text.as_str()),
+        Err(_) => say(complaints, usage),
+    }
+}
