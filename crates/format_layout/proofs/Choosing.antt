@@ -1,6 +1,5 @@
 -- One more token written, left out, or written with a sign before it.
-use Rattle.std.proofs.Common.{◌≡◌, ℕ, true, false, List, [], ◌∷◌, ◌++◌, refl, sym, ap, ◌∙◌, subst, append_assoc, append-nil}
-use Rattle.lexical_grammar.specs.declared.TokenKind.{TokenKind}
+use Rattle.std.proofs.Common.{◌≡◌, ℕ, true, List, [], ◌∷◌, ◌++◌, refl, sym, ap, ◌∙◌, subst, append_assoc, append-nil}
 use Rattle.lexical_grammar.specs.declared.edge.Edge.{Edge}
 use Rattle.lexical_grammar.specs.Cut.{Word}
 use Rattle.lexical_grammar.specs.Kept.{is_kept_kind, kept_word}
@@ -62,30 +61,8 @@ sign-then text middle more edge between next word k a b words l =
     subst (LaidSame more next) (append_assoc words (pipe_word ∷ []) (word ∷ []))
     (subst (λ w. LaidSame more next ((words ++ pipe_word ∷ []) ++ w)) (kept-alone word k) (b (words ++ pipe_word ∷ []) (a words l)))
 
-kept-none : (word : Word) → is_kept_kind word.kind ≡ false → kept_word word ≡ []
-kept-none word h = rw h refl
-
--- a token that is not kept
-pub not-kept : (text more : List ℕ) (edge next : Edge) (lead last : Lead) (word : Word) → is_kept_kind word.kind ≡ false → last ≡ lead
-    → Keeps text edge more next → AddsChosen text edge lead word more next last
-not-kept text more edge next lead last word h e k words l =
-    subst (λ r. LaidChosen more next r (words ++ kept_word word)) (sym e)
-    (subst (LaidChosen more next lead) (sym (ap (λ w. words ++ w) (kept-none word h) ∙ append-nil words)) (record {
-      choices = l.choices;
-      allowed = l.allowed;
-      laid = keeps-same text more edge next (chosen pipe_word l.choices words) k l.laid;
-    }))
-
 -- white space after a token
 pub then-keeps : (text middle more : List ℕ) (edge between next : Edge) (word : Word) → AddsSame text edge word middle between → Keeps middle between more next
     → AddsSame text edge word more next
 then-keeps text middle more edge between next word a k words l =
     keeps-same middle more between next (words ++ kept_word word) k (a words l)
-
--- the same token under other names
-pub same-token : (text more : List ℕ) (edge next : Edge) (lead last : Lead) (kind other : TokenKind) (word spelled : List ℕ) → other ≡ kind → spelled ≡ word
-    → AddsChosen text edge lead (record { kind = other; text = spelled }) more next last
-    → AddsChosen text edge lead (record { kind = kind; text = word }) more next last
-same-token text more edge next lead last kind other word spelled k e a =
-    subst (λ (j : TokenKind). AddsChosen text edge lead (record { kind = j; text = word }) more next last) k
-    (subst (λ (w : List ℕ). AddsChosen text edge lead (record { kind = other; text = w }) more next last) e a)

@@ -29,7 +29,6 @@ pub record Sign (sign : ℕ) (lead : Lead) : Type 0 where
   pub is_sign : is_sign sign ≡ true
   pub no_name : eqb sign IDENT ≡ false
   pub leads : (s : Lead) (x : Text) → step s sign x ≡ lead
-  pub goes_not : goes_at lead IDENT ≡ false
   pub comes_not : comes_at lead IDENT ≡ false
   pub ready : is_members lead ≡ false
   pub after : (x : Text) → goes_at (after_name lead x) sign ≡ false
@@ -49,7 +48,6 @@ pipe-sign = record {
   is_sign = refl;
   no_name = refl;
   leads = λ s x. refl;
-  goes_not = refl;
   comes_not = refl;
   ready = refl;
   after = λ x. (member-quiet x).0;
@@ -64,7 +62,6 @@ amp-sign = record {
   is_sign = refl;
   no_name = refl;
   leads = λ s x. refl;
-  goes_not = refl;
   comes_not = refl;
   ready = refl;
   after = interface-quiet;
