@@ -18,7 +18,7 @@ use Rattle.lexical_grammar.specs.Cut.{Word}
 use Rattle.lexical_grammar.specs.Edges.{edge_of, may_touch, touches, AreTokens, are_apart, last_edge, joined}
 use Rattle.lexical_grammar.specs.Kept.{kept_word, kept}
 use Rattle.lexical_grammar.proofs.Cuts.{tok-some}
-use Rattle.format_layout.specs.Laid.{Laid, Keeps, is_gap_byte, takes_blank}
+use Rattle.format_layout.specs.Laid.{Laid, Keeps, blank_room, is_gap_byte, takes_blank}
 use Rattle.format_layout.proofs.Tokens.{one-more}
 
 gap-byte-blank : (b : ℕ) → is_gap_byte b ≡ true → is_blank b ≡ true
@@ -102,36 +102,45 @@ extended-kept [] run e = refl
 extended-kept (word ∷ []) run e = let k = whitespace-kind word.kind word.text e in rw k refl
 extended-kept (word ∷ next ∷ words) run e = ap (λ l. kept_word word ++ l) (extended-kept (next ∷ words) run e)
 
+extended-length : (words : List Word) (run : List ℕ) → length (extended words run) ≡ length words
+extended-length [] run = refl
+extended-length (word ∷ []) run = refl
+extended-length (word ∷ next ∷ words) run = ap suc (extended-length (next ∷ words) run)
+
 -- more of the white space at the end
-goes-on : (text run : List ℕ) (words : List Word) → IsBlanks run → Laid text ends.Whitespace words → Laid (text ++ run) ends.Whitespace words
-goes-on text run words b l = record {
+goes-on : (text run : List ℕ) (most : ℕ) (words : List Word) → IsBlanks run → Laid text ends.Whitespace most words
+    → Laid (text ++ run) ends.Whitespace most words
+goes-on text run most words b l = record {
   all = extended l.all run;
   spelled = extended-text l.all run l.ends ∙ ap (λ r. r ++ run) l.spelled;
   tokens = extended-tokens l.all run b l.ends l.tokens;
   apart = extended-apart l.all run l.tokens l.apart;
   ends = extended-last l.all run l.ends;
   same = extended-kept l.all run l.ends ∙ l.same;
+  few = omega (arith, l.few, extended-length l.all run);
 }
 
 -- white space as a token of its own
-begins : (text run : List ℕ) (edge : Edge) (words : List Word) → IsBlanks run → may_touch edge Whitespace (slice_index run 0) ≡ true → Laid text edge words
-    → Laid (text ++ run) ends.Whitespace words
-begins text run edge words b h l =
-    subst (λ k. Laid (text ++ run) ends.Whitespace k) (append-nil words) (one-more text edge words (record { kind = Whitespace; text = run }) l b h)
+begins : (text run : List ℕ) (edge : Edge) (most : ℕ) (words : List Word) → IsBlanks run → blank_room edge ≡ 1
+    → may_touch edge Whitespace (slice_index run 0) ≡ true → Laid text edge most words → Laid (text ++ run) ends.Whitespace most words
+begins text run edge most words b r h l =
+    subst (λ k. Laid (text ++ run) ends.Whitespace most k) (append-nil words)
+    (one-more text edge most most words (record { kind = Whitespace; text = run }) (omega (arith, r)) l b h)
 
 -- line feeds and spaces where the first of them may follow
-blanks-keep : (text run : List ℕ) (edge : Edge) → 0 < length run → list_all is_gap_byte run ≡ true → takes_blank edge (slice_index run 0) ≡ true
-    → Keeps text edge (text ++ run) ends.Whitespace
-blanks-keep text run ends.Whitespace some g h words l = goes-on text run words (blanks run some g) l
-blanks-keep text run ends.Free some g h words l = begins text run ends.Free words (blanks run some g) h l
-blanks-keep text run ends.Comment some g h words l = begins text run ends.Comment words (blanks run some g) h l
-blanks-keep text run ends.Name some g h words l = begins text run ends.Name words (blanks run some g) h l
-blanks-keep text run ends.Number some g h words l = begins text run ends.Number words (blanks run some g) h l
-blanks-keep text run ends.EmptyString some g h words l = begins text run ends.EmptyString words (blanks run some g) h l
+blanks-keep : (text run : List ℕ) (edge : Edge) (most : ℕ) → 0 < length run → list_all is_gap_byte run ≡ true → takes_blank edge (slice_index run 0) ≡ true
+    → Keeps text edge most (text ++ run) ends.Whitespace most
+blanks-keep text run ends.Whitespace most some g h words l = goes-on text run most words (blanks run some g) l
+blanks-keep text run ends.Free most some g h words l = begins text run ends.Free most words (blanks run some g) refl h l
+blanks-keep text run ends.Comment most some g h words l = begins text run ends.Comment most words (blanks run some g) refl h l
+blanks-keep text run ends.Name most some g h words l = begins text run ends.Name most words (blanks run some g) refl h l
+blanks-keep text run ends.Number most some g h words l = begins text run ends.Number most words (blanks run some g) refl h l
+blanks-keep text run ends.EmptyString most some g h words l = begins text run ends.EmptyString most words (blanks run some g) refl h l
 
-pub blanks-pushed : (text more run : List ℕ) (edge : Edge) → more ≡ text ++ run → 0 < length run → list_all is_gap_byte run ≡ true
-    → takes_blank edge (slice_index run 0) ≡ true → Keeps text edge more ends.Whitespace
-blanks-pushed text more run edge m some g h words l = subst (λ t. Laid t ends.Whitespace words) (sym m) (blanks-keep text run edge some g h words l)
+pub blanks-pushed : (text more run : List ℕ) (edge : Edge) (most : ℕ) → more ≡ text ++ run → 0 < length run → list_all is_gap_byte run ≡ true
+    → takes_blank edge (slice_index run 0) ≡ true → Keeps text edge most more ends.Whitespace most
+blanks-pushed text more run edge most m some g h words l =
+    subst (λ t. Laid t ends.Whitespace most words) (sym m) (blanks-keep text run edge most some g h words l)
 
 -- the front of spaces is spaces
 some-spaces : (run : List ℕ) (n : ℕ) → list_all is_gap_byte run ≡ true → list_all is_gap_byte (take n run) ≡ true

@@ -20,3 +20,4 @@ pub mod Members
 pub mod Resigned
 pub mod Unsigned
 pub mod Choosing
+pub mod Counts

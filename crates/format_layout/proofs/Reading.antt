@@ -31,38 +31,38 @@ kept-limited zero (item ∷ items) le = absurd (omega arith)
 kept-limited (suc allowed) (item ∷ items) le = ap (λ l. kept_item item.kind item.text ++ l) (kept-limited allowed items (omega arith))
 
 -- What was written, and what is left to be written, are all words.
-pub record Writes (text : List ℕ) (edge : Edge) (lead : Lead) (left all : List Word) : Type 0 where
+pub record Writes (text : List ℕ) (edge : Edge) (most : ℕ) (lead : Lead) (left all : List Word) : Type 0 where
   pub words : List Word
-  pub laid : LaidChosen text edge lead words
+  pub laid : LaidChosen text edge most lead words
   pub same : words ++ left ≡ all
 
 -- nothing was written
-pub writes-begin : (text : List ℕ) (edge : Edge) (answers : List Answer) (allowed : ℕ) (items : List Item) → Laid text edge [] → answers ≡ limited allowed items
-    → length items ≤ allowed
-    → Writes text edge Other (kept_answers answers) (Kept items)
-writes-begin text edge answers allowed items l e le = record {
+pub writes-begin : (text : List ℕ) (edge : Edge) (most : ℕ) (answers : List Answer) (allowed : ℕ) (items : List Item)
+    → Laid text edge most [] → answers ≡ limited allowed items → length items ≤ allowed
+    → Writes text edge most Other (kept_answers answers) (Kept items)
+writes-begin text edge most answers allowed items l e le = record {
   words = [];
   laid = record { choices = []; allowed = refl; laid = record { others = []; same = tt; laid = l } };
   same = ap kept_answers e ∙ kept-limited allowed items le;
 }
 
 -- a token is one more
-pub writes-token : (text more : List ℕ) (edge next : Edge) (lead last : Lead) (kind : TokenKind) (word : List ℕ) (index : ℕ) (old rest : List Answer)
-    (all : List Word)
+pub writes-token : (text more : List ℕ) (edge next : Edge) (most count : ℕ) (lead last : Lead) (kind : TokenKind) (word : List ℕ)
+    (index : ℕ) (old rest : List Answer) (all : List Word)
     → old ≡ gives (record { kind = Some kind; text = word; index = index }) ∷ rest
-    → AddsChosen text edge lead (record { kind = kind; text = word }) more next last
-    → Writes text edge lead (kept_answers old) all → Writes more next last (kept_answers rest) all
-writes-token text more edge next lead last kind word index old rest all e a w = record {
+    → AddsChosen text edge most lead (record { kind = kind; text = word }) more next count last
+    → Writes text edge most lead (kept_answers old) all → Writes more next count last (kept_answers rest) all
+writes-token text more edge next most count lead last kind word index old rest all e a w = record {
   words = w.words ++ kept_word (record { kind = kind; text = word });
   laid = a w.words w.laid;
   same = append_assoc w.words (kept_word (record { kind = kind; text = word })) (kept_answers rest) ∙ ap (λ l. w.words ++ kept_answers l) (sym e) ∙ w.same;
 }
 
 -- an answer that is no token is passed over
-pub writes-on : (text : List ℕ) (edge : Edge) (lead : Lead) (answer : Answer) (old rest : List Answer) (all : List Word) → old ≡ answer ∷ rest
+pub writes-on : (text : List ℕ) (edge : Edge) (most : ℕ) (lead : Lead) (answer : Answer) (old rest : List Answer) (all : List Word) → old ≡ answer ∷ rest
     → kept_answer answer ≡ []
-    → Writes text edge lead (kept_answers old) all → Writes text edge lead (kept_answers rest) all
-writes-on text edge lead answer old rest all e none w = record {
+    → Writes text edge most lead (kept_answers old) all → Writes text edge most lead (kept_answers rest) all
+writes-on text edge most lead answer old rest all e none w = record {
   words = w.words;
   laid = w.laid;
   same = ap (λ l. w.words ++ (l ++ kept_answers rest)) (sym none) ∙ ap (λ l. w.words ++ kept_answers l) (sym e) ∙ w.same;
@@ -74,10 +74,11 @@ no-word true text index = refl
 no-word false text index = refl
 
 -- no answer is left
-pub writes-end : (text more result : List ℕ) (edge next : Edge) (lead : Lead) (left : List Answer) (all : List Word) → left ≡ []
-    → Writes text edge lead (kept_answers left) all → Keeps text edge more next → ((words : List Word) → Laid more next words → Holds result words)
+pub writes-end : (text more result : List ℕ) (edge next : Edge) (most count : ℕ) (lead : Lead) (left : List Answer) (all : List Word) → left ≡ []
+    → Writes text edge most lead (kept_answers left) all → Keeps text edge most more next count
+    → ((words : List Word) → Laid more next count words → Holds result words)
     → HoldsChosen result all
-writes-end text more result edge next lead left all none w keeps holds =
+writes-end text more result edge next most count lead left all none w keeps holds =
     let words : w.words ≡ all = sym (append-nil w.words) ∙ ap (λ l. w.words ++ kept_answers l) (sym none) ∙ w.same in
     let laid = w.laid.laid in
     record {

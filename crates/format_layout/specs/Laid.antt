@@ -1,5 +1,5 @@
 -- What a writer has written: which significant tokens and comments, and what the text ends with.
-use Rattle.std.specs.Prelude.{◌≡◌, ℕ, ◌+◌, Bool, true, ◌||◌, ◌==◌, List, ◌++◌, length}
+use Rattle.std.specs.Prelude.{◌≡◌, ℕ, ◌+◌, ◌*◌, ◌≤◌, Bool, true, ◌||◌, ◌==◌, List, ◌++◌, length}
 use Rattle.lexical_grammar.specs.declared.TokenKind.TheVariants as token
 use Rattle.lexical_grammar.specs.declared.edge.Edge.{Edge}
 use Rattle.lexical_grammar.specs.declared.edge.Edge.TheVariants.{Comment, Whitespace}
@@ -7,23 +7,30 @@ use Rattle.lexical_grammar.specs.Cut.{Word}
 use Rattle.lexical_grammar.specs.Edges.{may_touch, AreTokens, are_apart, last_edge, joined}
 use Rattle.lexical_grammar.specs.Kept.{kept_word, kept}
 
+-- how many tokens white space adds at the end: none where there is some already
+abbrev pub blank_room : Edge → ℕ
+blank_room Whitespace = 0
+blank_room edge = 1
+
 -- Some tokens, each of which may directly follow the one before it, spell the text. They end with this edge, and those of them that are
--- significant or comments are these words.
-pub record Laid (text : List ℕ) (edge : Edge) (words : List Word) : Type 0 where
+-- significant or comments are these words. At most `most` of them are not white space, and there is white space at most once before each of these, and after
+-- the last.
+pub record Laid (text : List ℕ) (edge : Edge) (most : ℕ) (words : List Word) : Type 0 where
   pub all : List Word
   pub spelled : joined all ≡ text
   pub tokens : AreTokens all
   pub apart : are_apart all ≡ true
   pub ends : last_edge all ≡ edge
   pub same : kept all ≡ words
+  pub few : length all + blank_room edge ≤ 2 * most + 1
 
 -- nothing significant was written, and no comment
-abbrev pub Keeps : List ℕ → Edge → List ℕ → Edge → Type 0
-Keeps text edge more next = (words : List Word) → Laid text edge words → Laid more next words
+abbrev pub Keeps : List ℕ → Edge → ℕ → List ℕ → Edge → ℕ → Type 0
+Keeps text edge most more next count = (words : List Word) → Laid text edge most words → Laid more next count words
 
 -- the word was written, if it is significant or a comment, and no other one
-abbrev pub Adds : List ℕ → Edge → Word → List ℕ → Edge → Type 0
-Adds text edge word more next = (words : List Word) → Laid text edge words → Laid more next (words ++ kept_word word)
+abbrev pub Adds : List ℕ → Edge → ℕ → Word → List ℕ → Edge → ℕ → Type 0
+Adds text edge most word more next count = (words : List Word) → Laid text edge most words → Laid more next count (words ++ kept_word word)
 
 -- a line feed or a space
 abbrev pub is_gap_byte : ℕ → Bool

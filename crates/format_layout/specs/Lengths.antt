@@ -1,4 +1,4 @@
--- How long a formatted text can be.
+-- How long a formatted text can be, and how many items it can have.
 use Rattle.std.specs.Prelude.{ℕ, ◌+◌, ◌*◌, min}
 
 -- The most spaces that a line begins with, where the nodes of a document nest at most this deep: two for each level, and for sixteen levels more, since
@@ -16,3 +16,8 @@ bytes_for_each indent = indent + 10
 -- at the end.
 abbrev pub longest_layout : ℕ → ℕ → ℕ
 longest_layout recursion bytes = bytes_for_each (deepest_indent recursion) * bytes + 1
+
+-- The most items that a formatted text can have, where its source has this many. For a token there are at most three, a comma, white space and the token, or
+-- where a sign is put in four: white space, the sign, white space and the token.
+abbrev pub most_items : ℕ → ℕ
+most_items items = 4 * items

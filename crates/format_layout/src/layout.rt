@@ -1,14 +1,16 @@
 // The writer of tokens and of the gaps between them. Functions called for each token are inlined: the whole program takes some 3 % less time.
-ghost use Rattle.std.specs.Prelude.{◌≡◌, ◌+◌, ◌<◌, ◌≤◌, true, false, [], List, IfOk, OnOk, length, slice_index, string_bytes};
+ghost use Rattle.std.specs.Prelude.{◌≡◌, ◌+◌, ◌*◌, ◌<◌, ◌≤◌, true, false, [], List, IfOk, OnOk, length, slice_index, string_bytes};
 ghost use Rattle.std.specs.List.{list_all};
 ghost use Rattle.lexical_grammar.specs.Cut.{Word};
 ghost use Rattle.lexical_grammar.specs.Tokens.{Tok};
+ghost use Rattle.lexical_grammar.specs.Reads.{items_of};
 ghost use Rattle.lexical_grammar.specs.Edges.{touches};
 ghost use Rattle.lexical_grammar.specs.Kept.{Holds, is_kept_kind};
 ghost use Rattle.lexical_grammar.specs.declared.edge.Edge.TheVariants.{Whitespace};
 ghost use Rattle.format_layout.specs.Laid.{Adds, Keeps, Laid, ended_length, is_gap_byte, takes_blank};
 
 use crate::gap::Gap;
+use ghost_value::{Ghost, Natural};
 use lexical_grammar::{Edge, TokenKind};
 use std::alloc::{AllocError, Allocator};
 
@@ -23,17 +25,21 @@ const LINE: &str = "\n                                ";
 pub struct Layout<A: Allocator> {
     text: String<A>,
     edge: Edge,
+    // how many tokens it has written at most that are no white space
+    tokens: Ghost<Natural>,
 }
 
 impl<A: Allocator> Layout<A> {
     /// A writer that has written nothing, with room for `capacity` bytes. It fails only where memory is refused.
     pub fn with_capacity(alloc: A, capacity: usize) -> Result<Layout<A>, AllocError>
-        ensures laid { IfOk result (λ l. Laid (string_bytes l.text) l.edge []) }
+        ensures laid { IfOk result (λ l. Laid (string_bytes l.text) l.edge l.tokens.value []) }
         ensures empty { IfOk result (λ l. ended_length (string_bytes l.text) l.edge ≡ 0) }
+        ensures none { IfOk result (λ l. l.tokens.value ≡ 0) }
     {
         Ok(Layout {
             text: String::with_capacity(alloc, capacity)?,
             edge: Edge::Free,
+            tokens: Ghost::zero(),
         })
     }
 
@@ -59,9 +65,10 @@ impl<A: Allocator> Layout<A> {
         requires some { 0 < length run.now }
         requires blank { list_all is_gap_byte run.now ≡ true }
         requires apart { takes_blank self.old.edge (slice_index run.now 0) ≡ true }
-        ensures keeps { OnOk result (Keeps (string_bytes self.old.text) self.old.edge (string_bytes self.new.text) self.new.edge) }
+        ensures keeps { OnOk result (Keeps (string_bytes self.old.text) self.old.edge self.old.tokens.value (string_bytes self.new.text) self.new.edge self.new.tokens.value) }
         ensures edge { OnOk result (self.new.edge ≡ Whitespace) }
         ensures short { OnOk result (ended_length (string_bytes self.new.text) self.new.edge ≤ length (string_bytes self.old.text) + length run.now) }
+        ensures few { OnOk result (self.new.tokens.value ≡ self.old.tokens.value) }
     {
         self.text.push_str(run)?;
         self.edge = Edge::Whitespace;
@@ -71,9 +78,10 @@ impl<A: Allocator> Layout<A> {
     /// Writes a line feed. It fails only where memory is refused.
     #[inline(always)]
     pub fn line(&mut self) -> Result<(), AllocError>
-        ensures keeps { OnOk result (Keeps (string_bytes self.old.text) self.old.edge (string_bytes self.new.text) self.new.edge) }
+        ensures keeps { OnOk result (Keeps (string_bytes self.old.text) self.old.edge self.old.tokens.value (string_bytes self.new.text) self.new.edge self.new.tokens.value) }
         ensures edge { OnOk result (self.new.edge ≡ Whitespace) }
         ensures short { OnOk result (ended_length (string_bytes self.new.text) self.new.edge ≤ length (string_bytes self.old.text) + 1) }
+        ensures few { OnOk result (self.new.tokens.value ≡ self.old.tokens.value) }
     {
         self.push_blanks("\n")
     }
@@ -82,9 +90,10 @@ impl<A: Allocator> Layout<A> {
     #[inline(always)]
     fn blanks(&mut self, run: &str) -> Result<(), AllocError>
         requires { list_all is_gap_byte run.now ≡ true }
-        ensures keeps { OnOk result (Keeps (string_bytes self.old.text) self.old.edge (string_bytes self.new.text) self.new.edge) }
+        ensures keeps { OnOk result (Keeps (string_bytes self.old.text) self.old.edge self.old.tokens.value (string_bytes self.new.text) self.new.edge self.new.tokens.value) }
         ensures edge { OnOk result (0 < length run.now → self.new.edge ≡ Whitespace) }
         ensures short { OnOk result (ended_length (string_bytes self.new.text) self.new.edge ≤ ended_length (string_bytes self.old.text) self.old.edge + length run.now) }
+        ensures few { OnOk result (self.new.tokens.value ≡ self.old.tokens.value) }
     {
         let Some(first) = run.as_bytes().first() else {
             return Ok(());
@@ -98,8 +107,9 @@ impl<A: Allocator> Layout<A> {
 
     /// Writes a space. It fails only where memory is refused.
     pub fn space(&mut self) -> Result<(), AllocError>
-        ensures keeps { OnOk result (Keeps (string_bytes self.old.text) self.old.edge (string_bytes self.new.text) self.new.edge) }
+        ensures keeps { OnOk result (Keeps (string_bytes self.old.text) self.old.edge self.old.tokens.value (string_bytes self.new.text) self.new.edge self.new.tokens.value) }
         ensures short { OnOk result (ended_length (string_bytes self.new.text) self.new.edge ≤ ended_length (string_bytes self.old.text) self.old.edge + 1) }
+        ensures few { OnOk result (self.new.tokens.value ≡ self.old.tokens.value) }
     {
         self.blanks(" ")
     }
@@ -107,8 +117,9 @@ impl<A: Allocator> Layout<A> {
     // So many spaces.
     #[inline(always)]
     fn spaces(&mut self, count: usize) -> Result<(), AllocError>
-        ensures keeps { OnOk result (Keeps (string_bytes self.old.text) self.old.edge (string_bytes self.new.text) self.new.edge) }
+        ensures keeps { OnOk result (Keeps (string_bytes self.old.text) self.old.edge self.old.tokens.value (string_bytes self.new.text) self.new.edge self.new.tokens.value) }
         ensures short { OnOk result (ended_length (string_bytes self.new.text) self.new.edge ≤ ended_length (string_bytes self.old.text) self.old.edge + count) }
+        ensures few { OnOk result (self.new.tokens.value ≡ self.old.tokens.value) }
     {
         if count == 1 {
             // between most tokens
@@ -126,22 +137,26 @@ impl<A: Allocator> Layout<A> {
     // A comma, but nothing after a comment.
     #[inline(always)]
     fn comma(&mut self) -> Result<(), AllocError>
-        ensures keeps { OnOk result (Keeps (string_bytes self.old.text) self.old.edge (string_bytes self.new.text) self.new.edge) }
+        ensures keeps { OnOk result (Keeps (string_bytes self.old.text) self.old.edge self.old.tokens.value (string_bytes self.new.text) self.new.edge self.new.tokens.value) }
         ensures short { OnOk result (ended_length (string_bytes self.new.text) self.new.edge ≤ ended_length (string_bytes self.old.text) self.old.edge + 1) }
+        ensures few { OnOk result (self.new.tokens.value ≤ self.old.tokens.value + 1) }
     {
         if !self.edge.may_touch(TokenKind::Comma, b',') {
             return Ok(());
         }
         self.text.push_str(",")?;
         self.edge = Edge::Free;
+        self.tokens.add_one();
         Ok(())
     }
 
     /// Writes what is to be before a token. It fails only where memory is refused.
     #[inline(always)]
     pub fn gap(&mut self, gap: Gap) -> Result<(), AllocError>
-        ensures keeps { OnOk result (Keeps (string_bytes self.old.text) self.old.edge (string_bytes self.new.text) self.new.edge) }
+        ensures keeps { OnOk result (Keeps (string_bytes self.old.text) self.old.edge self.old.tokens.value (string_bytes self.new.text) self.new.edge self.new.tokens.value) }
         ensures short { OnOk result (ended_length (string_bytes self.new.text) self.new.edge ≤ ended_length (string_bytes self.old.text) self.old.edge + gap.lines + gap.spaces + 1) }
+        ensures few { OnOk result (self.new.tokens.value ≤ self.old.tokens.value + 1) }
+        ensures blank { OnOk result (gap.comma ≡ false → self.new.tokens.value ≡ self.old.tokens.value) }
     {
         if gap.comma {
             self.comma()?;
@@ -164,11 +179,13 @@ impl<A: Allocator> Layout<A> {
     fn put(&mut self, kind: TokenKind, text: &str) -> Result<(), AllocError>
         requires token { Tok kind text.now }
         requires apart { touches self.old.edge (record { kind = kind; text = text.now }) ≡ true }
-        ensures adds { OnOk result (Adds (string_bytes self.old.text) self.old.edge (record { kind = kind; text = text.now }) (string_bytes self.new.text) self.new.edge) }
+        ensures adds { OnOk result (Adds (string_bytes self.old.text) self.old.edge self.old.tokens.value (record { kind = kind; text = text.now }) (string_bytes self.new.text) self.new.edge self.new.tokens.value) }
         ensures short { OnOk result (ended_length (string_bytes self.new.text) self.new.edge ≤ length (string_bytes self.old.text) + length text.now + 1) }
+        ensures few { OnOk result (self.new.tokens.value ≤ self.old.tokens.value + 1) }
     {
         self.text.push_str(text)?;
         self.edge = Edge::of(kind, text);
+        self.tokens.add_one();
         Ok(())
     }
 
@@ -178,8 +195,9 @@ impl<A: Allocator> Layout<A> {
     pub fn token(&mut self, kind: TokenKind, text: &str) -> Result<(), AllocError>
         requires token { Tok kind text.now }
         requires kept { is_kept_kind kind ≡ true }
-        ensures adds { OnOk result (Adds (string_bytes self.old.text) self.old.edge (record { kind = kind; text = text.now }) (string_bytes self.new.text) self.new.edge) }
+        ensures adds { OnOk result (Adds (string_bytes self.old.text) self.old.edge self.old.tokens.value (record { kind = kind; text = text.now }) (string_bytes self.new.text) self.new.edge self.new.tokens.value) }
         ensures short { OnOk result (ended_length (string_bytes self.new.text) self.new.edge ≤ ended_length (string_bytes self.old.text) self.old.edge + length text.now + 2) }
+        ensures few { OnOk result (self.new.tokens.value ≤ self.old.tokens.value + 1) }
     {
         let first = text.as_bytes().first().copied().unwrap_or(0);
         if !self.edge.may_touch(kind, first) {
@@ -192,8 +210,9 @@ impl<A: Allocator> Layout<A> {
     pub fn ignored(&mut self, kind: TokenKind, text: &str) -> Result<(), AllocError>
         requires token { Tok kind text.now }
         requires ignored { is_kept_kind kind ≡ false }
-        ensures keeps { OnOk result (Keeps (string_bytes self.old.text) self.old.edge (string_bytes self.new.text) self.new.edge) }
+        ensures keeps { OnOk result (Keeps (string_bytes self.old.text) self.old.edge self.old.tokens.value (string_bytes self.new.text) self.new.edge self.new.tokens.value) }
         ensures short { OnOk result (ended_length (string_bytes self.new.text) self.new.edge ≤ ended_length (string_bytes self.old.text) self.old.edge + length text.now + 1) }
+        ensures few { OnOk result (self.new.tokens.value ≤ self.old.tokens.value + 1) }
     {
         let first = text.as_bytes().first().copied().unwrap_or(0);
         if self.edge.may_touch(kind, first) {
@@ -204,7 +223,8 @@ impl<A: Allocator> Layout<A> {
 
     /// The text: its significant tokens and comments are those that were written, in that order.
     pub fn finish(self) -> String<A>
-        ensures holds { (words : List Word) → Laid (string_bytes self.text) self.edge words → Holds (string_bytes result) words }
+        ensures holds { (words : List Word) → Laid (string_bytes self.text) self.edge self.tokens.value words → Holds (string_bytes result) words }
+        ensures few { (words : List Word) → Laid (string_bytes self.text) self.edge self.tokens.value words → length (items_of (string_bytes result)) ≤ 2 * self.tokens.value + 2 }
         ensures text { string_bytes result ≡ string_bytes self.text }
     {
         self.text

@@ -1,6 +1,7 @@
 // The tokens of a text, written with other gaps between them.
 ghost use Rattle.std.specs.Prelude.{◌≡◌, ◌+◌, ◌*◌, ◌<◌, ◌≤◌, true, false, IfErr, IfOk, IfSome, OnOk, length, string_bytes};
 ghost use Rattle.lexical_grammar.specs.Answers.{IsTokenText, usize_max};
+ghost use Rattle.lexical_grammar.specs.declared.TokenKind.TheVariants.{Eof};
 ghost use Rattle.lexical_grammar.specs.Tokens.{IsString, Tok};
 ghost use Rattle.lexical_grammar.specs.Reads.{items_of};
 ghost use Rattle.lexical_grammar.specs.Kept.{Kept, is_kept_kind};
@@ -8,7 +9,7 @@ ghost use Rattle.format_layout.specs.Laid.{Keeps, ended_length};
 ghost use Rattle.format_layout.specs.Respelled.{SameBlock};
 ghost use Rattle.format_layout.specs.declared.style.WriteError.TheVariants.{Memory, TooLong};
 ghost use Rattle.format_layout.specs.Formatted.{Formatted, IsSentence};
-ghost use Rattle.format_layout.specs.Lengths.{bytes_for_each, deepest_indent, longest_layout};
+ghost use Rattle.format_layout.specs.Lengths.{bytes_for_each, deepest_indent, longest_layout, most_items};
 ghost use Rattle.format_layout.specs.Written.{AddsChosen, AddsSame, AddsSigned, HoldsChosen};
 ghost use Rattle.format_layout.specs.Chosen.{pipe_word};
 ghost use Rattle.format_layout.specs.Leads.{lead_after};
@@ -72,6 +73,7 @@ impl Bounds {
     fn gap_within(self, gap: Gap) -> Gap
         ensures lines { result.lines ≤ 2 }
         ensures spaces { result.spaces ≤ self.deepest }
+        ensures comma { result.comma ≡ gap.comma }
     {
         Gap {
             comma: gap.comma,
@@ -122,9 +124,10 @@ impl<A: Allocator + Copy> Writer<A> {
     fn spell(&mut self, kind: TokenKind, text: &str, stays: bool) -> Result<(), WriteError>
         requires token { Tok kind text.now }
         requires kept { is_kept_kind kind ≡ true }
-        ensures adds { OnOk result (AddsSame (string_bytes self.old.layout.text) self.old.layout.edge (record { kind = kind; text = text.now }) (string_bytes self.new.layout.text) self.new.layout.edge) }
+        ensures adds { OnOk result (AddsSame (string_bytes self.old.layout.text) self.old.layout.edge self.old.layout.tokens.value (record { kind = kind; text = text.now }) (string_bytes self.new.layout.text) self.new.layout.edge self.new.layout.tokens.value) }
         ensures short { OnOk result (ended_length (string_bytes self.new.layout.text) self.new.layout.edge + self.old.bounds.deepest + 7
             ≤ ended_length (string_bytes self.old.layout.text) self.old.layout.edge + bytes_for_each self.old.bounds.deepest * length text.now) }
+        ensures few { OnOk result (self.new.layout.tokens.value ≤ self.old.layout.tokens.value + 1) }
         ensures long { IfErr result (λ error. error ≡ TooLong → self.old.bounds.most < bytes_for_each self.old.bounds.deepest * length text.now) }
         ensures bounds { self.new.bounds ≡ self.old.bounds }
     {
@@ -143,8 +146,10 @@ impl<A: Allocator + Copy> Writer<A> {
     fn write_ignored(&mut self, kind: TokenKind, text: &str) -> Result<(), WriteError>
         requires token { IsTokenText kind text.now }
         requires ignored { is_kept_kind kind ≡ false }
-        ensures keeps { OnOk result (Keeps (string_bytes self.old.layout.text) self.old.layout.edge (string_bytes self.new.layout.text) self.new.layout.edge) }
+        ensures keeps { OnOk result (Keeps (string_bytes self.old.layout.text) self.old.layout.edge self.old.layout.tokens.value (string_bytes self.new.layout.text) self.new.layout.edge self.new.layout.tokens.value) }
         ensures short { OnOk result (ended_length (string_bytes self.new.layout.text) self.new.layout.edge ≤ ended_length (string_bytes self.old.layout.text) self.old.layout.edge + 2 * length text.now) }
+        ensures few { OnOk result (self.new.layout.tokens.value ≤ self.old.layout.tokens.value + 1) }
+        ensures end { OnOk result (kind ≡ Eof → self.new.layout.tokens.value ≡ self.old.layout.tokens.value) }
         ensures memory { IfErr result (λ error. error ≡ Memory) }
         ensures bounds { self.new.bounds ≡ self.old.bounds }
         ensures lead { self.new.lead ≡ self.old.lead }
@@ -171,8 +176,10 @@ impl<A: Allocator + Copy> Writer<A> {
     // Writes the gap before a token.
     #[inline(always)]
     fn write_gap(&mut self, gap: Gap) -> Result<(), WriteError>
-        ensures keeps { OnOk result (Keeps (string_bytes self.old.layout.text) self.old.layout.edge (string_bytes self.new.layout.text) self.new.layout.edge) }
+        ensures keeps { OnOk result (Keeps (string_bytes self.old.layout.text) self.old.layout.edge self.old.layout.tokens.value (string_bytes self.new.layout.text) self.new.layout.edge self.new.layout.tokens.value) }
         ensures short { OnOk result (ended_length (string_bytes self.new.layout.text) self.new.layout.edge ≤ ended_length (string_bytes self.old.layout.text) self.old.layout.edge + self.old.bounds.deepest + 3) }
+        ensures few { OnOk result (self.new.layout.tokens.value ≤ self.old.layout.tokens.value + 1) }
+        ensures blank { OnOk result (gap.comma ≡ false → self.new.layout.tokens.value ≡ self.old.layout.tokens.value) }
         ensures memory { IfErr result (λ error. error ≡ Memory) }
         ensures bounds { self.new.bounds ≡ self.old.bounds }
     {
@@ -189,8 +196,9 @@ impl<A: Allocator + Copy> Writer<A> {
     fn write_token(&mut self, kind: TokenKind, text: &str, advice: Advice) -> Result<(), WriteError>
         requires token { Tok kind text.now }
         requires kept { is_kept_kind kind ≡ true }
-        ensures adds { OnOk result (AddsSame (string_bytes self.old.layout.text) self.old.layout.edge (record { kind = kind; text = text.now }) (string_bytes self.new.layout.text) self.new.layout.edge) }
+        ensures adds { OnOk result (AddsSame (string_bytes self.old.layout.text) self.old.layout.edge self.old.layout.tokens.value (record { kind = kind; text = text.now }) (string_bytes self.new.layout.text) self.new.layout.edge self.new.layout.tokens.value) }
         ensures short { OnOk result (ended_length (string_bytes self.new.layout.text) self.new.layout.edge ≤ ended_length (string_bytes self.old.layout.text) self.old.layout.edge + bytes_for_each self.old.bounds.deepest * length text.now) }
+        ensures few { OnOk result (self.new.layout.tokens.value ≤ self.old.layout.tokens.value + 2) }
         ensures long { IfErr result (λ error. error ≡ TooLong → self.old.bounds.most < bytes_for_each self.old.bounds.deepest * length text.now) }
         ensures bounds { self.new.bounds ≡ self.old.bounds }
     {
@@ -199,14 +207,18 @@ impl<A: Allocator + Copy> Writer<A> {
         Ok(())
     }
 
-    // Writes a sign with the gap before it, and a space.
+    // Writes a sign with the gap before it, but no comma, and a space.
     fn write_sign(&mut self, gap: Gap) -> Result<(), WriteError>
-        ensures adds { OnOk result (AddsSame (string_bytes self.old.layout.text) self.old.layout.edge pipe_word (string_bytes self.new.layout.text) self.new.layout.edge) }
+        ensures adds { OnOk result (AddsSame (string_bytes self.old.layout.text) self.old.layout.edge self.old.layout.tokens.value pipe_word (string_bytes self.new.layout.text) self.new.layout.edge self.new.layout.tokens.value) }
         ensures short { OnOk result (ended_length (string_bytes self.new.layout.text) self.new.layout.edge ≤ ended_length (string_bytes self.old.layout.text) self.old.layout.edge + self.old.bounds.deepest + 7) }
+        ensures few { OnOk result (self.new.layout.tokens.value ≤ self.old.layout.tokens.value + 1) }
         ensures memory { IfErr result (λ error. error ≡ Memory) }
         ensures bounds { self.new.bounds ≡ self.old.bounds }
     {
-        self.write_gap(gap)?;
+        self.write_gap(Gap {
+            comma: false,
+            ..gap
+        })?;
         self.layout.token(TokenKind::Pipe, "|")?;
         self.layout.space()?;
         self.column = self.column.saturating_add(2);
@@ -222,8 +234,9 @@ impl<A: Allocator + Copy> Writer<A> {
     ) -> Result<(), WriteError>
         requires token { Tok kind text.now }
         requires kept { is_kept_kind kind ≡ true }
-        ensures adds { OnOk result (AddsSigned (string_bytes self.old.layout.text) self.old.layout.edge (record { kind = kind; text = text.now }) (string_bytes self.new.layout.text) self.new.layout.edge) }
+        ensures adds { OnOk result (AddsSigned (string_bytes self.old.layout.text) self.old.layout.edge self.old.layout.tokens.value (record { kind = kind; text = text.now }) (string_bytes self.new.layout.text) self.new.layout.edge self.new.layout.tokens.value) }
         ensures short { OnOk result (ended_length (string_bytes self.new.layout.text) self.new.layout.edge ≤ ended_length (string_bytes self.old.layout.text) self.old.layout.edge + bytes_for_each self.old.bounds.deepest * length text.now) }
+        ensures few { OnOk result (self.new.layout.tokens.value ≤ self.old.layout.tokens.value + 2) }
         ensures long { IfErr result (λ error. error ≡ TooLong → self.old.bounds.most < bytes_for_each self.old.bounds.deepest * length text.now) }
         ensures bounds { self.new.bounds ≡ self.old.bounds }
     {
@@ -237,9 +250,10 @@ impl<A: Allocator + Copy> Writer<A> {
     fn put(&mut self, kind: TokenKind, text: &str) -> Result<(), WriteError>
         requires token { Tok kind text.now }
         requires kept { is_kept_kind kind ≡ true }
-        ensures adds { OnOk result (AddsChosen (string_bytes self.old.layout.text) self.old.layout.edge self.old.lead (record { kind = kind; text = text.now })
-            (string_bytes self.new.layout.text) self.new.layout.edge (lead_after self.old.lead kind text.now)) }
+        ensures adds { OnOk result (AddsChosen (string_bytes self.old.layout.text) self.old.layout.edge self.old.layout.tokens.value self.old.lead (record { kind = kind; text = text.now })
+            (string_bytes self.new.layout.text) self.new.layout.edge self.new.layout.tokens.value (lead_after self.old.lead kind text.now)) }
         ensures short { OnOk result (ended_length (string_bytes self.new.layout.text) self.new.layout.edge ≤ ended_length (string_bytes self.old.layout.text) self.old.layout.edge + bytes_for_each self.old.bounds.deepest * length text.now) }
+        ensures few { OnOk result (self.new.layout.tokens.value ≤ self.old.layout.tokens.value + 2) }
         ensures long { IfErr result (λ error. error ≡ TooLong → self.old.bounds.most < bytes_for_each self.old.bounds.deepest * length text.now) }
         ensures bounds { self.new.bounds ≡ self.old.bounds }
     {
@@ -259,9 +273,11 @@ impl<A: Allocator + Copy> Writer<A> {
     // Writes a token with the gap before it, unless it is white space, a comma or the end.
     fn write(&mut self, token: Token<'_>) -> Result<(), WriteError>
         requires { IsTokenText token.kind token.text.now }
-        ensures adds { OnOk result (AddsChosen (string_bytes self.old.layout.text) self.old.layout.edge self.old.lead (record { kind = token.entry.kind; text = token.entry.text.now })
-            (string_bytes self.new.layout.text) self.new.layout.edge self.new.lead) }
+        ensures adds { OnOk result (AddsChosen (string_bytes self.old.layout.text) self.old.layout.edge self.old.layout.tokens.value self.old.lead (record { kind = token.entry.kind; text = token.entry.text.now })
+            (string_bytes self.new.layout.text) self.new.layout.edge self.new.layout.tokens.value self.new.lead) }
         ensures short { OnOk result (ended_length (string_bytes self.new.layout.text) self.new.layout.edge ≤ ended_length (string_bytes self.old.layout.text) self.old.layout.edge + bytes_for_each self.old.bounds.deepest * length token.entry.text.now) }
+        ensures few { OnOk result (self.new.layout.tokens.value ≤ self.old.layout.tokens.value + 2) }
+        ensures end { OnOk result (token.entry.kind ≡ Eof → self.new.layout.tokens.value ≡ self.old.layout.tokens.value) }
         ensures long { IfErr result (λ error. error ≡ TooLong → self.old.bounds.most < bytes_for_each self.old.bounds.deepest * length token.entry.text.now) }
         ensures bounds { self.new.bounds ≡ self.old.bounds }
     {
@@ -289,8 +305,9 @@ impl<A: Allocator + Copy> Writer<A> {
 
     // Ends the last line, if there is one.
     fn finish(&mut self) -> Result<(), WriteError>
-        ensures keeps { OnOk result (Keeps (string_bytes self.old.layout.text) self.old.layout.edge (string_bytes self.new.layout.text) self.new.layout.edge) }
+        ensures keeps { OnOk result (Keeps (string_bytes self.old.layout.text) self.old.layout.edge self.old.layout.tokens.value (string_bytes self.new.layout.text) self.new.layout.edge self.new.layout.tokens.value) }
         ensures short { OnOk result (ended_length (string_bytes self.new.layout.text) self.new.layout.edge ≤ ended_length (string_bytes self.old.layout.text) self.old.layout.edge + 1) }
+        ensures few { OnOk result (self.new.layout.tokens.value ≡ self.old.layout.tokens.value) }
         ensures memory { IfErr result (λ error. error ≡ Memory) }
     {
         if self.gaps.is_empty() {
@@ -312,6 +329,7 @@ fn write<A: Allocator + Copy>(
     requires { length (items_of source.now) ≤ usize_max }
     ensures same { IfOk result (λ text. HoldsChosen (string_bytes text) (Kept (items_of source.now))) }
     ensures longest { IfOk result (λ text. length (string_bytes text) ≤ bytes_for_each bounds.deepest * length source.now + 1) }
+    ensures few { IfOk result (λ text. length (items_of (string_bytes text)) ≤ most_items (length (items_of source.now))) }
     ensures small { IfErr result (λ error. error ≡ TooLong → bounds.most < bytes_for_each bounds.deepest * length source.now + 1) }
 {
     let mut writer = Writer {
@@ -348,6 +366,7 @@ pub fn format_text<A: Allocator + Copy>(
     ensures same { IfOk result (λ text. HoldsChosen (string_bytes text) (Kept (items_of source.now))) }
     ensures most { IfOk result (λ text. length (string_bytes text) ≤ most) }
     ensures longest { IfOk result (λ text. length (string_bytes text) ≤ longest_layout recursion (length source.now)) }
+    ensures few { IfOk result (λ text. length (items_of (string_bytes text)) ≤ most_items (length (items_of source.now))) }
     ensures small { IfErr result (λ error. error ≡ TooLong → most < longest_layout recursion (length source.now)) }
 {
     let deepest = deepest_indent(recursion);
@@ -370,6 +389,7 @@ pub fn format_document<A: Allocator + Copy>(
     ensures formatted { IfOk result (λ text. Formatted source.now (string_bytes text)) }
     ensures most { IfOk result (λ text. length (string_bytes text) ≤ most) }
     ensures longest { IfOk result (λ text. length (string_bytes text) ≤ longest_layout recursion (length source.now)) }
+    ensures few { IfOk result (λ text. length (items_of (string_bytes text)) ≤ most_items (length (items_of source.now))) }
     ensures small { IfErr result (λ error. error ≡ TooLong → most < longest_layout recursion (length source.now)) }
 {
     let text = format_text(alloc, source, gaps, recursion, most)?;

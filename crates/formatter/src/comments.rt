@@ -4,7 +4,7 @@ ghost use Rattle.lexical_grammar.specs.Answers.{usize_max};
 ghost use Rattle.lexical_grammar.specs.Cut.{Significant, are_tokens, is_significant_kind};
 ghost use Rattle.lexical_grammar.specs.Reads.{items_of};
 ghost use Rattle.format_layout.specs.declared.style.WriteError.TheVariants.{TooLong};
-ghost use Rattle.format_layout.specs.Lengths.{longest_layout};
+ghost use Rattle.format_layout.specs.Lengths.{longest_layout, most_items};
 ghost use Rattle.formatter.specs.Comments.{HasNoDefinitions, HasSameComments};
 
 use crate::TreeElements;
@@ -67,6 +67,7 @@ pub fn format_comments<A: Allocator + Copy>(
     ensures same { IfOk result (λ o. IfSome o (λ text. HasSameComments source.now (string_bytes text))) }
     ensures short { IfOk result (λ o. IfSome o (λ text. length (string_bytes text) ≤ most)) }
     ensures longest { IfOk result (λ o. IfSome o (λ text. length (string_bytes text) ≤ longest_layout 0 (length source.now))) }
+    ensures items { IfOk result (λ o. IfSome o (λ text. length (items_of (string_bytes text)) ≤ most_items (length (items_of source.now)))) }
     ensures other { IfOk result (λ o. o ≡ None → ¬ HasNoDefinitions source.now) }
     ensures long { IfErr result (λ error. error ≡ TooLong → HasNoDefinitions source.now) }
     ensures small { IfErr result (λ error. error ≡ TooLong → most < longest_layout 0 (length source.now)) }

@@ -10,7 +10,7 @@ ghost use Rattle.std.specs.Prelude.{◌≡◌, ◌<◌, ◌≤◌, ℕ, true, fa
 ghost use Rattle.lexical_grammar.specs.Reads.{items_of};
 ghost use Rattle.apollo_parser.specs.Errors.{error_of};
 ghost use Rattle.format_layout.specs.declared.style.WriteError.TheVariants.{TooLong};
-ghost use Rattle.format_layout.specs.Lengths.{longest_layout};
+ghost use Rattle.format_layout.specs.Lengths.{longest_layout, most_items};
 ghost use Rattle.formatter.specs.Comments.{HasNoDefinitions, HasSameComments};
 ghost use Rattle.formatter.specs.Finding.{AreFirstOf};
 ghost use Rattle.formatter.specs.Formatted.{IsDocument, IsFormatted, IsNoDocument, IsRefused};
@@ -87,6 +87,7 @@ pub trait DocumentFormatter {
         ensures formatted { IfOk result (λ r. IfOk r (λ text. IsFormatted source.now limits.recursion limits.tokens (string_bytes text))) }
         ensures short { IfOk result (λ r. IfOk r (λ text. length (string_bytes text) ≤ most)) }
         ensures longest { IfOk result (λ r. IfOk r (λ text. length (string_bytes text) ≤ longest_layout limits.recursion (length source.now))) }
+        ensures items { IfOk result (λ r. IfOk r (λ text. length (items_of (string_bytes text)) ≤ most_items (length (items_of source.now)))) }
         ensures refused { IfOk result (λ r. IfErr r (λ first. IsNoDocument source.now limits.recursion limits.tokens)) }
         ensures first { IfOk result (λ r. IfErr r (λ first. AreFirstOf limits source.now shown (map error_of first.errors.items) first.more)) }
         ensures long { IfErr result (λ error. error ≡ TooLong → IsDocument source.now limits.recursion limits.tokens) }
@@ -102,6 +103,7 @@ pub trait DocumentFormatter {
         ensures same { IfOk result (λ o. IfSome o (λ text. HasSameComments source.now (string_bytes text))) }
         ensures short { IfOk result (λ o. IfSome o (λ text. length (string_bytes text) ≤ most)) }
         ensures longest { IfOk result (λ o. IfSome o (λ text. length (string_bytes text) ≤ longest_layout 0 (length source.now))) }
+        ensures items { IfOk result (λ o. IfSome o (λ text. length (items_of (string_bytes text)) ≤ most_items (length (items_of source.now)))) }
         ensures other { IfOk result (λ o. o ≡ None → ¬ HasNoDefinitions source.now) }
         ensures long { IfErr result (λ error. error ≡ TooLong → HasNoDefinitions source.now) }
         ensures small { IfErr result (λ error. error ≡ TooLong → most < longest_layout 0 (length source.now)) };
@@ -149,6 +151,7 @@ pub fn format_within<A: Allocator + Copy>(
     ensures formatted { IfOk result (λ o. IfSome o (λ text. IsFormatted source.now limits.recursion limits.tokens (string_bytes text))) }
     ensures short { IfOk result (λ o. IfSome o (λ text. length (string_bytes text) ≤ most)) }
     ensures longest { IfOk result (λ o. IfSome o (λ text. length (string_bytes text) ≤ longest_layout limits.recursion (length source.now))) }
+    ensures items { IfOk result (λ o. IfSome o (λ text. length (items_of (string_bytes text)) ≤ most_items (length (items_of source.now)))) }
     ensures refused { IfOk result (λ o. o ≡ None → IsNoDocument source.now limits.recursion limits.tokens) }
     ensures long { IfErr result (λ error. error ≡ TooLong → IsDocument source.now limits.recursion limits.tokens) }
     ensures small { IfErr result (λ error. error ≡ TooLong → most < longest_layout limits.recursion (length source.now)) }

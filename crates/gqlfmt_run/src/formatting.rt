@@ -5,7 +5,7 @@ ghost use Rattle.apollo_parser.specs.Errors.{error_of};
 ghost use Rattle.formatter.specs.Comments.{HasSameComments};
 ghost use Rattle.formatter.specs.Finding.{AreFirstOf};
 ghost use Rattle.formatter.specs.Formatted as format;
-ghost use Rattle.formatter.specs.Lengths.{longest_layout};
+ghost use Rattle.formatter.specs.Lengths.{longest_layout, most_items};
 ghost use Rattle.line_ends.specs.LineEnds.{HasLineEnd};
 ghost use Rattle.gqlfmt_run.specs.Formatting.{IsRevised, line_end_of, most_of, most_shown};
 
@@ -37,9 +37,11 @@ fn compared<'s, A: Allocator>(
     bounds: Bounds,
 ) -> Revised<A, Refusal<'s, A>>
     ensures document { format.IsFormatted source.now bounds.limits.recursion bounds.limits.tokens (string_bytes text)
+        → length (items_of (string_bytes text)) ≤ most_items (length (items_of source.now))
         → length (string_bytes text) ≤ most_of bounds.most_output source.now → HasLineEnd (line_end_of bounds.line_endings source.now) (string_bytes text)
         → IsRevised bounds source.now result }
     ensures comments { HasSameComments source.now (string_bytes text) → length (items_of source.now) ≤ bounds.limits.tokens
+        → length (items_of (string_bytes text)) ≤ most_items (length (items_of source.now))
         → length (string_bytes text) ≤ most_of bounds.most_output source.now → HasLineEnd (line_end_of bounds.line_endings source.now) (string_bytes text)
         → IsRevised bounds source.now result }
 {
@@ -61,9 +63,11 @@ impl<A: Allocator + Copy, L: DocumentFormatter> Job<'_, A, L> {
         text: String<A>,
     ) -> Result<Revised<A, Refusal<'s, A>>, AllocError>
         ensures document { IfOk result (λ revised. format.IsFormatted source.now self.now.bounds.limits.recursion self.now.bounds.limits.tokens (string_bytes text)
+            → length (items_of (string_bytes text)) ≤ most_items (length (items_of source.now))
             → length (string_bytes text) ≤ most_of self.now.bounds.most_output source.now
             → length (string_bytes text) ≤ longest_layout self.now.bounds.limits.recursion (length source.now) → IsRevised self.now.bounds source.now revised) }
         ensures comments { IfOk result (λ revised. HasSameComments source.now (string_bytes text) → length (items_of source.now) ≤ self.now.bounds.limits.tokens
+            → length (items_of (string_bytes text)) ≤ most_items (length (items_of source.now))
             → length (string_bytes text) ≤ most_of self.now.bounds.most_output source.now
             → length (string_bytes text) ≤ longest_layout 0 (length source.now) → IsRevised self.now.bounds source.now revised) }
     {

@@ -1,14 +1,19 @@
 -- The cut of a text with another line end.
-use Rattle.std.proofs.Common.{◌≡◌, ℕ, ◌+◌, true, false, List, [], ◌∷◌, ◌++◌, length, Option, Some, None, refl, sym, ap, ◌∙◌, subst, append-nil}
+use Rattle.std.proofs.Common.{◌≡◌, ℕ, ◌+◌, true, false, List, [], ◌∷◌, ◌++◌, length, Option, Some, None, suc, refl, sym, ap, ◌∙◌, subst, append-nil}
 use Rattle.std.specs.Prelude.{◌&&◌, is_some}
+use Rattle.std.specs.Str.{IsUtf8}
 use Rattle.std.proofs.lemmas.Bool.{and_parts}
 use Rattle.lexical_grammar.specs.declared.TokenKind.{TokenKind}
-use Rattle.lexical_grammar.specs.Cut.{Item, Cut, CutFrom, IsItem, are_tokens, texts}
-use Rattle.lexical_grammar.specs.Kept.{Kept, kept_item}
+use Rattle.lexical_grammar.specs.Cut.{Item, Word, Cut, CutFrom, IsItem, are_tokens, texts}
+use Rattle.lexical_grammar.specs.Kept.{Holds, Kept, kept_item}
+use Rattle.lexical_grammar.specs.Reads.{items_of}
+use Rattle.lexical_grammar.proofs.TheCut.{is-cut}
+use Rattle.document_grammar.proofs.Texts.{one-cut}
 use Rattle.format_layout.proofs.Respelling.{both-same}
 use Rattle.format_layout.specs.Respelled.{AreSameWords}
 use Rattle.line_ends.specs.declared.LineEnd.{LineEnd}
-use Rattle.line_ends.proofs.Ends.{turn}
+use Rattle.line_ends.specs.LineEnds.{with_line_end}
+use Rattle.line_ends.proofs.Ends.{turn, turn-is}
 use Rattle.line_ends.proofs.Turning.{turned, turned-stands, turned-before}
 
 -- the items with this line end, from an offset on
@@ -70,3 +75,17 @@ turned-same end at offset (item ∷ next ∷ items) c h =
     let to = offset + length (turn end false item.text) in
     both-same (kept_item item.kind item.text) (kept_item item.kind (turn end false item.text)) (Kept (next ∷ items)) (Kept (turned_items end to (next ∷ items)))
     (item-same end item.kind item.text (texts (next ∷ items)) q.0 c.1) (turned-same end (at + length item.text) to (next ∷ items) c.2 q.1)
+
+turned-length : (end : LineEnd) (offset : ℕ) (items : List Item) → length (turned_items end offset items) ≡ length items
+turned-length end offset [] = refl
+turned-length end offset (item ∷ items) = ap suc (turned-length end (offset + length (turn end false item.text)) items)
+
+-- a text without bad text has as many items with another line end
+pub same-count : (end : LineEnd) (text other : List ℕ) (words : List Word) → IsUtf8 text → IsUtf8 other → other ≡ with_line_end end text → Holds text words
+    → length (items_of other) ≡ length (items_of text)
+same-count end text other words u v e h =
+    let own = one-cut text h.items (items_of text) h.cut (is-cut text u) h.tokens in
+    let cut = subst (λ t. Cut t (turned_items end 0 h.items)) (turn-is end text ∙ sym e) (turned-cut end text h.items h.cut h.tokens) in
+    let tokens : are_tokens (turned_items end 0 h.items) ≡ true = turned-tokens end 0 h.items ∙ h.tokens in
+    let others = one-cut other (turned_items end 0 h.items) (items_of other) cut (is-cut other v) tokens in
+    sym (ap (λ (l : List Item). length l) others) ∙ turned-length end 0 h.items ∙ ap (λ (l : List Item). length l) own

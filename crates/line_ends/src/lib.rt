@@ -9,6 +9,9 @@
 ghost use Rattle.std.specs.Prelude.{◌≡◌, ◌*◌, ◌≤◌, ℕ, true, List, IfOk, length, not, string_bytes};
 ghost use Rattle.std.specs.List.{prefix_len};
 ghost use Rattle.lexical_grammar.specs.Characters.{is_line_terminator};
+ghost use Rattle.lexical_grammar.specs.Cut.{Word};
+ghost use Rattle.lexical_grammar.specs.Kept.{Holds};
+ghost use Rattle.lexical_grammar.specs.Reads.{items_of};
 ghost use Rattle.formatter.specs.Comments.{HasSameComments};
 ghost use Rattle.formatter.specs.Formatted.{IsFormatted};
 ghost use Rattle.line_ends.specs.declared.LineEnd.{LineEnd as End};
@@ -92,7 +95,8 @@ fn has_line_feeds(text: &str) -> bool
     memchr(b'\r', text.as_bytes()).is_none()
 }
 
-/// The text with this end in place of each of its line ends, which has at most two bytes for each of its own. It fails only where memory is refused.
+/// The text with this end in place of each of its line ends, which has at most two bytes for each of its own. Where it has no bad text, the new one has as
+/// many items. It fails only where memory is refused.
 pub fn with_line_end<A: Allocator>(
     alloc: A,
     text: String<A>,
@@ -100,11 +104,13 @@ pub fn with_line_end<A: Allocator>(
 ) -> Result<String<A>, AllocError>
     ensures lines { IfOk result (λ other. string_bytes other ≡ with_line_end end (string_bytes text)) }
     ensures short { IfOk result (λ other. length (string_bytes other) ≤ 2 * length (string_bytes text)) }
+    ensures items { IfOk result (λ other. (words : List Word) → Holds (string_bytes text) words → length (items_of (string_bytes other)) ≡ length (items_of (string_bytes text))) }
 {
     if end == LineEnd::Lf && has_line_feeds(text.as_str()) {
         return Ok(text);
     }
-    joined_lines(alloc, text.as_str(), end)
+    let other = joined_lines(alloc, text.as_str(), end)?;
+    Ok(other)
 }
 
 /// A formatted text stays one when its lines end otherwise: no token comes or goes, and only block strings may be others, with the same values. Then its

@@ -3,7 +3,7 @@ use Rattle.formatter.specs.Formatted as format
 use Rattle.gqlfmt_run.proofs.formatting.compared.Goals as goal
 
 pub returns-then-stays_within-clause-document : goal.returns-then-stays_within-clause-document
-returns-then-stays_within-clause-document g c = λ formatted short ends.
+returns-then-stays_within-clause-document g c = λ formatted few short ends.
     let limits = c.args.bounds.limits in
     let same = c.as_str-2.ensures.value in
     record {
