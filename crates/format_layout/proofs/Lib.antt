@@ -16,6 +16,7 @@ pub mod Rows
 pub mod Plain
 pub mod Guards
 pub mod Stays
+pub mod Chose
 pub mod Members
 pub mod Resigned
 pub mod Unsigned

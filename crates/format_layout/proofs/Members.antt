@@ -17,6 +17,7 @@ use Rattle.format_layout.proofs.Steps.{step, goes_at, comes_at, Fit, Along, AtMa
 use Rattle.format_layout.proofs.Plain.{steps, is_members, chosen-stay, stay-at, all-marks-long}
 use Rattle.format_layout.proofs.Guards.{leaf-of, one-is, head-of}
 use Rattle.format_layout.proofs.Stays.{Stays, no-tokens, more-tokens, one-stays, name-ready}
+use Rattle.format_layout.proofs.Chose.{Chose, chose-none}
 
 abbrev pub members_row : ℕ → ℕ → Pattern
 members_row sign member = optional sign then one member then many (one sign then one member)
@@ -172,36 +173,20 @@ row-signed sign member v r = (sign ∷ [], member ∷ v, refl, inl (one-there si
 -- The trees with the sign that the choices leave or put in before the first member.
 pub record Listed (sign member : ℕ) (s : Lead) (cs : List Choice) (f : Forest) (rest : List Token) : Type 0 where
   pub forest : Forest
-  pub own : List Choice
-  pub after : List Choice
-  pub split : cs ≡ own ++ after
-  pub long : Along own (Yields f)
+  pub chose : Chose s cs (Yields f) (Yields forest) (all_marks true f) (all_marks true forest) rest
   pub fits : AllFit forest
   pub row : Matches (members_row sign member) (kinds forest)
   pub bare : without_first_sign (all_unsigned forest) ≡ without_first_sign (all_unsigned f)
-  pub written : chosen pipe_token own (Yields f) ≡ Yields forest
-  pub marked : chosen true own (all_marks true f) ≡ all_marks true forest
-  pub at : AtMarks own (all_marks true f)
-  pub left : Fit (steps s (Yields f)) after rest
-  pub ready : is_members (steps s (Yields f)) ≡ false
 
 -- all of them stay
 all-stay : (sign member : ℕ) (s : Lead) (cs : List Choice) (f : Forest) (rest : List Token) → AllFit f → Matches (members_row sign member) (kinds f)
     → Stays s cs (Yields f) rest → Listed sign member s cs f rest
 all-stay sign member s cs f rest fits row r = record {
   forest = f;
-  own = r.own;
-  after = r.after;
-  split = r.split;
-  long = r.long;
+  chose = chose-none s cs (Yields f) rest (all_marks true f) r (all-marks-long true f r.own r.long);
   fits = fits;
   row = row;
   bare = refl;
-  written = chosen-stay pipe_token r.own (Yields f) r.stay r.long;
-  marked = chosen-stay true r.own (all_marks true f) r.stay (all-marks-long true f r.own r.long);
-  at = stay-at r.own (all_marks true f) r.stay (all-marks-long true f r.own r.long);
-  left = r.left;
-  ready = r.ready;
 }
 
 -- the first member, and signs and members after it
@@ -263,18 +248,20 @@ sign-first {lead = lead} sign member g are x u f rest s (goes ∷ cs) e p fits f
     let long = all-marks-long true (u ▸ f) r.own r.long in
     record {
       forest = u ▸ f;
-      own = goes ∷ r.own;
-      after = r.after;
-      split = ap (λ l. goes ∷ l) r.split;
-      long = subst (Along (goes ∷ r.own)) (sym spelled) r.long;
+      chose = record {
+        own = goes ∷ r.own;
+        after = r.after;
+        split = ap (λ l. goes ∷ l) r.split;
+        long = subst (Along (goes ∷ r.own)) (sym spelled) r.long;
+        written = ap (chosen pipe_token (goes ∷ r.own)) spelled ∙ chosen-stay pipe_token r.own (Yields (u ▸ f)) r.stay r.long;
+        marked = ap (chosen true (goes ∷ r.own)) marked ∙ chosen-stay true r.own (all_marks true (u ▸ f)) r.stay long;
+        at = subst (AtMarks (goes ∷ r.own)) (sym marked) (refl, stay-at r.own (all_marks true (u ▸ f)) r.stay long);
+        left = subst (λ l. Fit l r.after rest) (sym at) r.left;
+        ready = ap is_members at ∙ r.ready;
+      };
       fits = fits.1;
       row = subst (λ k. Matches (members_row sign member) (k ∷ kinds f)) (sym e) (row-bare sign member (kinds f) p);
       bare = member-bare u f (are u fits.1.0 e) ∙ sym (leaf-bare sign g x (u ▸ f));
-      written = ap (chosen pipe_token (goes ∷ r.own)) spelled ∙ chosen-stay pipe_token r.own (Yields (u ▸ f)) r.stay r.long;
-      marked = ap (chosen true (goes ∷ r.own)) marked ∙ chosen-stay true r.own (all_marks true (u ▸ f)) r.stay long;
-      at = subst (AtMarks (goes ∷ r.own)) (sym marked) (refl, stay-at r.own (all_marks true (u ▸ f)) r.stay long);
-      left = subst (λ l. Fit l r.after rest) (sym at) r.left;
-      ready = ap is_members at ∙ r.ready;
     }
 
 pipe-fits : (x : Text) → Fits (leaf PIPE x)
@@ -312,21 +299,23 @@ name-first sign member g are u m f rest s (signed ∷ cs) e p fits quiet pipe fi
     let long = all-marks-long false f r.own r.long in
     record {
       forest = leaf PIPE (124 ∷ []) ▸ u ▸ f;
-      own = signed ∷ r.own;
-      after = r.after;
-      split = ap (λ l. signed ∷ l) r.split;
-      long = subst (Along (signed ∷ r.own)) (sym word) r.long;
+      chose = record {
+        own = signed ∷ r.own;
+        after = r.after;
+        split = ap (λ l. signed ∷ l) r.split;
+        long = subst (Along (signed ∷ r.own)) (sym word) r.long;
+        written = ap (chosen pipe_token (signed ∷ r.own)) word
+            ∙ ap (λ l. pipe_token ∷ (IDENT, m.word) ∷ l) (chosen-stay pipe_token r.own (Yields f) r.stay r.long) ∙ ap (λ l. pipe_token ∷ l) (sym word);
+        marked = ap (chosen true (signed ∷ r.own)) marked
+            ∙ ap (λ l. true ∷ false ∷ l) (chosen-stay true r.own (all_marks false f) r.stay long) ∙ ap (λ l. true ∷ l) (sym marked);
+        at = subst (AtMarks (signed ∷ r.own)) (sym marked) (stay-at r.own (all_marks false f) r.stay long);
+        left = subst (λ l. Fit l r.after rest) (sym at) r.left;
+        ready = ap is_members at ∙ r.ready;
+      };
       fits = (pipe-fits (124 ∷ []), fits);
       row = subst (λ k. Matches (members_row sign member) (k ∷ root u ∷ kinds f)) (pipe fit.0)
           (subst (λ k. Matches (members_row sign member) (sign ∷ k ∷ kinds f)) (sym e) (row-signed sign member (kinds f) p));
       bare = sym (member-bare u f m);
-      written = ap (chosen pipe_token (signed ∷ r.own)) word
-          ∙ ap (λ l. pipe_token ∷ (IDENT, m.word) ∷ l) (chosen-stay pipe_token r.own (Yields f) r.stay r.long) ∙ ap (λ l. pipe_token ∷ l) (sym word);
-      marked = ap (chosen true (signed ∷ r.own)) marked
-          ∙ ap (λ l. true ∷ false ∷ l) (chosen-stay true r.own (all_marks false f) r.stay long) ∙ ap (λ l. true ∷ l) (sym marked);
-      at = subst (AtMarks (signed ∷ r.own)) (sym marked) (stay-at r.own (all_marks false f) r.stay long);
-      left = subst (λ l. Fit l r.after rest) (sym at) r.left;
-      ready = ap is_members at ∙ r.ready;
     }
 
 -- whether the sign is there or not

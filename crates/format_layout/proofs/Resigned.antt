@@ -21,11 +21,12 @@ use Rattle.format_layout.specs.declared.lead.Lead.TheVariants.{Colon, Typed, Mem
 use Rattle.format_layout.specs.Leads.{after_equals, after_name, implements_text, on_text}
 use Rattle.format_layout.specs.Chosen.{Choice, stays, goes, signed, chosen}
 use Rattle.format_layout.specs.Signs.{has_members, all_marks, signs, unsigned, all_unsigned, without_first_sign}
-use Rattle.format_layout.proofs.Steps.{goes_at, comes_at, Fit, Along, AtMarks, pipe_token, chosen-append, along-append, at-append, at-along}
+use Rattle.format_layout.proofs.Steps.{goes_at, comes_at, Fit, AtMarks, pipe_token}
 use Rattle.format_layout.proofs.Rows.{rows_pass, row-passes, member-passes, listed-passes, no-leaf, low-row}
-use Rattle.format_layout.proofs.Plain.{steps, steps-append, is_members, chosen-stay, stay-at, marks-long}
+use Rattle.format_layout.proofs.Plain.{steps, is_members, marks-long}
 use Rattle.format_layout.proofs.Guards.{is_plain, needs_none, named-node, leaf-of, one-is, head-of, nil-of}
 use Rattle.format_layout.proofs.Stays.{Stays, tree-stays, name-ready, comes-none}
+use Rattle.format_layout.proofs.Chose.{Chose, chose-none, chose-after, chose-both}
 use Rattle.format_layout.proofs.Members.{Member, AreMembers, members_row, members-listed, member-quiet, interface-quiet, pipe-sign, amp-sign}
 use Rattle.format_layout.proofs.Members.{name-goes-not, one-there}
 
@@ -117,42 +118,24 @@ same-outline (node k f) = (refl, refl)
 -- The tree with the signs that the choices leave or put in.
 pub record Resigned (s : Lead) (cs : List Choice) (t : Tree) (rest : List Token) : Type 0 where
   pub tree : Tree
-  pub own : List Choice
-  pub after : List Choice
-  pub split : cs ≡ own ++ after
-  pub long : Along own (Yield t)
+  pub chose : Chose s cs (Yield t) (Yield tree) (signs t) (signs tree) rest
   pub same_root : root tree ≡ root t
   pub fits : Fits tree
   pub bare : unsigned tree ≡ unsigned t
-  pub written : chosen pipe_token own (Yield t) ≡ Yield tree
-  pub marked : chosen true own (signs t) ≡ signs tree
-  pub at : AtMarks own (signs t)
-  pub left : Fit (steps s (Yield t)) after rest
-  pub ready : is_members (steps s (Yield t)) ≡ false
   pub calm : is_plain (root t) ≡ true → tree ≡ t
   pub outline : has_members (root t) ≡ false → SameOutline t tree
 
 -- where all tokens stay
 plain-resigned : (t : Tree) (rest : List Token) (s : Lead) (cs : List Choice) → Fits t → Stays s cs (Yield t) rest → Resigned s cs t rest
-plain-resigned t rest s cs fits r =
-    let long = marks-long false t r.own r.long in
-    record {
-      tree = t;
-      own = r.own;
-      after = r.after;
-      split = r.split;
-      long = r.long;
-      same_root = refl;
-      fits = fits;
-      bare = refl;
-      written = chosen-stay pipe_token r.own (Yield t) r.stay r.long;
-      marked = chosen-stay true r.own (signs t) r.stay long;
-      at = stay-at r.own (signs t) r.stay long;
-      left = r.left;
-      ready = r.ready;
-      calm = λ h. refl;
-      outline = λ h. same-outline t;
-    }
+plain-resigned t rest s cs fits r = record {
+  tree = t;
+  chose = chose-none s cs (Yield t) rest (signs t) r (marks-long false t r.own r.long);
+  same_root = refl;
+  fits = fits;
+  bare = refl;
+  calm = λ h. refl;
+  outline = λ h. same-outline t;
+}
 
 not-kind : (k j : ℕ) → eqb k j ≡ false → k ≢ j
 not-kind k j h e = true≢false (sym (eq-eqb k j e) ∙ h)
@@ -219,20 +202,12 @@ union-resigned x g rest s (stays ∷ cs) row fits fit =
     let l = members-listed PIPE NAMED_TYPE pipe-sign named g rest (after_equals s) cs row fits.1 (λ y _. equals-quiet s y) (λ _. refl) fit.1 in
     record {
       tree = node UNION_MEMBER_TYPES (leaf EQ x ▸ l.forest);
-      own = stays ∷ l.own;
-      after = l.after;
-      split = ap (λ r. stays ∷ r) l.split;
-      long = l.long;
+      chose = chose-after s cs (EQ, x) (Yields g) (Yields l.forest) (all_marks true g) (all_marks true l.forest) rest l.chose;
       same_root = refl;
       fits = above-fits UNION_MEMBER_TYPES (leaf EQ x ▸ l.forest) refl refl refl refl
           (subst (λ p. Matches p (EQ ∷ kinds l.forest)) (sym union-row) (EQ ∷ [], kinds l.forest, refl, one-there EQ, l.row))
           (not-constant UNION_MEMBER_TYPES (leaf EQ x ▸ l.forest) constant-union) (fits.0, l.fits);
       bare = ap (λ h. node UNION_MEMBER_TYPES (leaf EQ x ▸ h)) l.bare;
-      written = ap (λ r. (EQ, x) ∷ r) l.written;
-      marked = ap (λ r. false ∷ r) l.marked;
-      at = l.at;
-      left = l.left;
-      ready = l.ready;
       calm = λ h. absurd (true≢false (sym h));
       outline = λ h. absurd (true≢false h);
     }
@@ -270,21 +245,13 @@ interfaces-resigned x g rest s (stays ∷ cs) m row fits fit =
     (λ h. absurd (true≢false (sym h ∙ comes-none (after_name s x) IDENT (name-ready s x)))) fit.1 in
     record {
       tree = node IMPLEMENTS_INTERFACES (leaf implements_KW x ▸ l.forest);
-      own = stays ∷ l.own;
-      after = l.after;
-      split = ap (λ r. stays ∷ r) l.split;
-      long = l.long;
+      chose = chose-after s cs (IDENT, x) (Yields g) (Yields l.forest) (all_marks true g) (all_marks true l.forest) rest l.chose;
       same_root = refl;
       fits = above-fits IMPLEMENTS_INTERFACES (leaf implements_KW x ▸ l.forest) refl refl refl refl
           (subst (λ p. Matches p (implements_KW ∷ kinds l.forest)) (sym interfaces-row)
           (implements_KW ∷ [], kinds l.forest, refl, one-there implements_KW, l.row))
           (not-constant IMPLEMENTS_INTERFACES (leaf implements_KW x ▸ l.forest) constant-interfaces) (fits.0, l.fits);
       bare = ap (λ h. node IMPLEMENTS_INTERFACES (leaf implements_KW x ▸ h)) l.bare;
-      written = ap (λ r. (IDENT, x) ∷ r) l.written;
-      marked = ap (λ r. false ∷ r) l.marked;
-      at = l.at;
-      left = l.left;
-      ready = l.ready;
       calm = λ h. absurd (true≢false (sym h));
       outline = λ h. absurd (true≢false h);
     }
@@ -307,20 +274,12 @@ locations-resigned g rest s cs m row fits fit =
     let l = members-listed PIPE DIRECTIVE_LOCATION pipe-sign locations g rest s cs row fits (λ y d. location-quiet s y d) (λ _. refl) fit in
     record {
       tree = node DIRECTIVE_LOCATIONS l.forest;
-      own = l.own;
-      after = l.after;
-      split = l.split;
-      long = l.long;
+      chose = l.chose;
       same_root = refl;
       fits = above-fits DIRECTIVE_LOCATIONS l.forest refl refl refl refl
           (subst (λ p. Matches p (kinds l.forest)) (sym locations-row) l.row)
           (not-constant DIRECTIVE_LOCATIONS l.forest constant-locations) l.fits;
       bare = ap (node DIRECTIVE_LOCATIONS) l.bare;
-      written = l.written;
-      marked = l.marked;
-      at = l.at;
-      left = l.left;
-      ready = l.ready;
       calm = λ h. absurd (true≢false (sym h));
       outline = λ h. absurd (true≢false h);
     }
@@ -400,18 +359,10 @@ no_members k = not (has_members k)
 
 pub record AllResigned (s : Lead) (cs : List Choice) (f : Forest) (rest : List Token) : Type 0 where
   pub forest : Forest
-  pub own : List Choice
-  pub after : List Choice
-  pub split : cs ≡ own ++ after
-  pub long : Along own (Yields f)
+  pub chose : Chose s cs (Yields f) (Yields forest) (all_marks false f) (all_marks false forest) rest
   pub same_kinds : kinds forest ≡ kinds f
   pub fits : AllFit forest
   pub bare : all_unsigned forest ≡ all_unsigned f
-  pub written : chosen pipe_token own (Yields f) ≡ Yields forest
-  pub marked : chosen true own (all_marks false f) ≡ all_marks false forest
-  pub at : AtMarks own (all_marks false f)
-  pub left : Fit (steps s (Yields f)) after rest
-  pub ready : is_members (steps s (Yields f)) ≡ false
   pub constant : ConstantDirectives f → ConstantDirectives forest
   pub outlines : list_all no_members (kinds f) ≡ true → Outlines f forest
 
@@ -426,41 +377,24 @@ all-resigned : (ok : ℕ → Bool) → Resigns ok → (f : Forest) (rest : List 
     → is_members s ≡ false → Fit s cs (Yields f ++ rest) → AllResigned s cs f rest
 all-resigned ok one none rest s cs fits h m fit = record {
   forest = none;
-  own = [];
-  after = cs;
-  split = refl;
-  long = tt;
+  chose = record { own = []; after = cs; split = refl; long = tt; written = refl; marked = refl; at = tt; left = fit; ready = m };
   same_kinds = refl;
   fits = tt;
   bare = refl;
-  written = refl;
-  marked = refl;
-  at = tt;
-  left = fit;
-  ready = m;
   constant = λ c. tt;
   outlines = λ o. tt;
 }
 all-resigned ok one (t ▸ f) rest s cs fits h m fit =
     let q = and_parts (ok (root t)) (list_all ok (kinds f)) h in
     let a = one t (Yields f ++ rest) s cs fits.0 q.0 m (subst (Fit s cs) (append_assoc (Yield t) (Yields f) rest) fit) in
-    let b = all-resigned ok one f rest (steps s (Yield t)) a.after fits.1 q.1 a.ready a.left in
+    let b = all-resigned ok one f rest (steps s (Yield t)) a.chose.after fits.1 q.1 a.chose.ready a.chose.left in
     record {
       forest = a.tree ▸ b.forest;
-      own = a.own ++ b.own;
-      after = b.after;
-      split = a.split ∙ ap (λ l. a.own ++ l) b.split ∙ sym (append_assoc a.own b.own b.after);
-      long = along-append a.own b.own (Yield t) (Yields f) a.long b.long;
+      chose = chose-both s cs (Yield t) (Yield a.tree) (Yields f) (Yields b.forest) (signs t) (signs a.tree) (all_marks false f) (all_marks false b.forest) rest
+          a.chose b.chose;
       same_kinds = ap (λ k. k ∷ kinds b.forest) a.same_root ∙ ap (λ l. root t ∷ l) b.same_kinds;
       fits = (a.fits, b.fits);
       bare = ap (λ u. u ▸ all_unsigned b.forest) a.bare ∙ ap (λ g. unsigned t ▸ g) b.bare;
-      written = chosen-append pipe_token a.own b.own (Yield t) (Yields f) a.long ∙ ap (λ l. l ++ chosen pipe_token b.own (Yields f)) a.written
-          ∙ ap (λ l. Yield a.tree ++ l) b.written;
-      marked = chosen-append true a.own b.own (signs t) (all_marks false f) (at-along a.own (signs t) a.at)
-          ∙ ap (λ l. l ++ chosen true b.own (all_marks false f)) a.marked ∙ ap (λ l. signs a.tree ++ l) b.marked;
-      at = at-append a.own b.own (signs t) (all_marks false f) a.at b.at;
-      left = subst (λ r. Fit r b.after rest) (sym (steps-append s (Yield t) (Yields f))) b.left;
-      ready = ap is_members (steps-append s (Yield t) (Yields f)) ∙ b.ready;
       constant = λ c. (
         λ e.
             let at : root t ≡ DIRECTIVES = sym a.same_root ∙ e in
@@ -568,19 +502,11 @@ signable-node k f rest s cs q fits h m fit =
     let r = all-resigned is_part part-resigned f rest s cs fits.4 h m fit in
     record {
       tree = node k r.forest;
-      own = r.own;
-      after = r.after;
-      split = r.split;
-      long = r.long;
+      chose = subst (λ b. Chose s cs (Yields f) (Yields r.forest) (all_marks b f) (all_marks b r.forest) rest) (sym q.members) r.chose;
       same_root = refl;
       fits = above-fits k r.forest q.fragment q.enum q.default q.document (subst (Matches (Row k)) (sym r.same_kinds) fits.0)
           (λ c. r.constant (fits.2.1 c)) r.fits;
       bare = ap (λ g. node k (cond (has_members k) (without_first_sign g) g)) r.bare;
-      written = r.written;
-      marked = subst (λ b. chosen true r.own (all_marks b f) ≡ all_marks b r.forest) (sym q.members) r.marked;
-      at = subst (λ b. AtMarks r.own (all_marks b f)) (sym q.members) r.at;
-      left = r.left;
-      ready = r.ready;
       calm = λ e. absurd (true≢false (sym e ∙ q.plain));
       outline = λ e. (refl, sym r.same_kinds);
     }
@@ -671,7 +597,8 @@ document-node : (f : Forest) (cs : List Choice) → Fits (node DOCUMENT f) → F
 document-node f cs fits fit =
     let d = both-pass (kinds f) (definitions-are (kinds f) fits.0) in
     let r = all-resigned is_definition definition-resigned f [] Other cs fits.4 d.0 refl (subst (Fit Other cs) (sym (append-nil (Yields f))) fit) in
-    let own : r.own ≡ cs = sym (append-nil r.own) ∙ ap (λ l. r.own ++ l) (sym (none-after (steps Other (Yields f)) r.after r.left)) ∙ sym r.split in
+    let c = r.chose in
+    let own : c.own ≡ cs = sym (append-nil c.own) ∙ ap (λ l. c.own ++ l) (sym (none-after (steps Other (Yields f)) c.after c.left)) ∙ sym c.split in
     record {
       tree = node DOCUMENT r.forest;
       derivation = (
@@ -685,9 +612,9 @@ document-node f cs fits fit =
         ),
       );
       bare = ap (node DOCUMENT) r.bare;
-      written = subst (λ c. chosen pipe_token c (Yields f) ≡ Yields r.forest) own r.written;
-      marked = subst (λ c. chosen true c (all_marks false f) ≡ all_marks false r.forest) own r.marked;
-      at = subst (λ c. AtMarks c (all_marks false f)) own r.at;
+      written = subst (λ l. chosen pipe_token l (Yields f) ≡ Yields r.forest) own c.written;
+      marked = subst (λ l. chosen true l (all_marks false f) ≡ all_marks false r.forest) own c.marked;
+      at = subst (λ l. AtMarks l (all_marks false f)) own c.at;
     }
 
 pub redone : (t : Tree) (cs : List Choice) → Derivation t document → Fit Other cs (Yield t) → Redone t cs
