@@ -8,7 +8,7 @@ use Rattle.apollo_parser.specs.Order.{order}
 use Rattle.apollo_parser.specs.Parsed.{Parsed}
 use Rattle.apollo_parser.specs.StringValues.{IsStringValue}
 use Rattle.apollo_parser.specs.Tokens.{IsString}
-use Rattle.formatter.specs.Formatted.{IsNoDocument}
+use Rattle.formatter.specs.Formatted.{IsNoDocument, MayExceed}
 use Rattle.dumyroke_flat.specs.declared.rows.ByteCount.{ByteCount}
 use Rattle.apollo_tree.specs.declared.compact.CompactElement.{CompactElement}
 use Rattle.dumyroke_flat.specs.declared.rows.ErrorRow.{ErrorRow}
@@ -17,7 +17,7 @@ use Rattle.apollo_parser.specs.Filled.{filled}
 use Rattle.dumyroke_flat.specs.Rows.{error_rows, messages}
 use Rattle.dumyroke_flat.specs.declared.rows.Counts.{Counts}
 use Rattle.dumyroke_flat.specs.Outcomes.{Buffers, IsTooLong, ParseOutcome, counts_of, FormatOutcome, StringOutcome}
-use Rattle.dumyroke_flat.specs.Outcomes.{no_counts, written, OK, NOT_UTF8, TOO_LONG, NO_MEMORY, NOT_A_STRING, NOT_A_DOCUMENT}
+use Rattle.dumyroke_flat.specs.Outcomes.{no_counts, written, OK, NOT_UTF8, TOO_LONG, NO_MEMORY, NOT_A_STRING, NOT_A_DOCUMENT, NO_ROOM}
 use Rattle.dumyroke_flat.proofs.ValueLengths.{no_longer}
 
 -- ---- a parse of which P holds
@@ -124,4 +124,16 @@ not-a-document source text r k before count same refused counted = rw counted (r
   not_a_document = λ _. subst (λ (t : List ℕ). IsNoDocument t r k) same refused;
   refused = λ _. (refl, refl);
   known = (2, omega arith, refl);
+})
+
+pub no-room : (source text : List ℕ) (r k room : ℕ) (before : List ℕ) (count : ByteCount) → text ≡ source → room ≡ length before → MayExceed text r k room
+    → count ≡ record { bytes = 0; status = NO_ROOM } → FormatOutcome source r k before before count
+no-room source text r k room before count same all long counted = rw counted (record {
+  ok = λ e. absurd (omega (arith, e));
+  whole = omega arith;
+  not_utf8 = λ e. absurd (omega (arith, e));
+  no_room = λ _. subst (λ (t : List ℕ). MayExceed t r k (length before)) same (subst (λ (n : ℕ). MayExceed text r k n) all long);
+  not_a_document = λ e. absurd (omega (arith, e));
+  refused = λ _. (refl, refl);
+  known = (3, omega arith, refl);
 })

@@ -18,8 +18,7 @@ use Rattle.dumyroke_flat.specs.declared.rows.ByteCount.{ByteCount}
 use Rattle.dumyroke_flat.specs.declared.rows.Counts.{Counts}
 use Rattle.apollo_tree.specs.declared.compact.CompactElement.{CompactElement}
 use Rattle.dumyroke_flat.specs.declared.rows.ErrorRow.{ErrorRow}
-use Rattle.formatter.specs.Formatted.{IsDocument, IsFormatted, IsNoDocument}
-use Rattle.formatter.specs.Lengths.{longest_layout}
+use Rattle.formatter.specs.Formatted.{IsFormatted, IsNoDocument, MayExceed}
 use Rattle.apollo_parser.specs.Compact.{compact_elements}
 use Rattle.apollo_parser.specs.Filled.{filled}
 use Rattle.dumyroke_flat.specs.Rows.{error_rows, messages}
@@ -145,8 +144,8 @@ pub record FormatOutcome (source : List ℕ) (max_depth max_items : ℕ) (before
   pub ok : count.status ≡ OK → Writes (IsFormatted source max_depth max_items) before after count.bytes
   pub whole : count.bytes ≤ length before
   pub not_utf8 : count.status ≡ NOT_UTF8 → ¬ IsUtf8 source
-  -- it is such a document, and the buffer has less room than its formatted text can take
-  pub no_room : count.status ≡ NO_ROOM → IsDocument source max_depth max_items × (length before < longest_layout max_depth (length source))
+  -- it is such a document, and the buffer has less room than its formatted text can take, as deep as the document nests
+  pub no_room : count.status ≡ NO_ROOM → MayExceed source max_depth max_items (length before)
   -- it is no document within both limits, and these are the errors of its parse, at least one
   pub not_a_document : count.status ≡ NOT_A_DOCUMENT → IsNoDocument source max_depth max_items
   -- nothing was written

@@ -41,10 +41,10 @@ const MOST_LINES: u8 = 2;
 const OTHER_BYTES: usize = 10;
 
 // How many spaces a line begins with at most, in a document that nests at most this deep.
-fn deepest_indent(recursion: usize) -> u16
-    ensures { result ≡ deepest_indent recursion }
+fn deepest_indent(nesting: usize) -> u16
+    ensures { result ≡ deepest_indent nesting }
 {
-    let spaces = recursion.saturating_add(OTHER_LEVELS).saturating_mul(LEVEL);
+    let spaces = nesting.saturating_add(OTHER_LEVELS).saturating_mul(LEVEL);
     u16::try_from(spaces).unwrap_or(u16::MAX)
 }
 
@@ -354,22 +354,22 @@ fn write<A: Allocator + Copy>(
 /// The significant tokens and the comments of a text with another layout, which has these gaps, of at most `most` bytes. It fails where memory is
 /// refused, or the other layout has more bytes: then it has stopped after at most twice as many, a token and a gap.
 ///
-/// A text that nests at most `recursion` deep has no layout of more bytes than `longest_layout` says.
+/// A text that nests at most `nesting` deep has no layout of more bytes than `longest_layout` says.
 pub fn format_text<A: Allocator + Copy>(
     alloc: A,
     source: &str,
     gaps: Gaps<A>,
-    recursion: usize,
+    nesting: usize,
     most: usize,
 ) -> Result<String<A>, WriteError>
     requires { length (items_of source.now) ≤ usize_max }
     ensures same { IfOk result (λ text. HoldsChosen (string_bytes text) (Kept (items_of source.now))) }
     ensures most { IfOk result (λ text. length (string_bytes text) ≤ most) }
-    ensures longest { IfOk result (λ text. length (string_bytes text) ≤ longest_layout recursion (length source.now)) }
+    ensures longest { IfOk result (λ text. length (string_bytes text) ≤ longest_layout nesting (length source.now)) }
     ensures few { IfOk result (λ text. length (items_of (string_bytes text)) ≤ most_items (length (items_of source.now))) }
-    ensures small { IfErr result (λ error. error ≡ TooLong → most < longest_layout recursion (length source.now)) }
+    ensures small { IfErr result (λ error. error ≡ TooLong → most < longest_layout nesting (length source.now)) }
 {
-    let deepest = deepest_indent(recursion);
+    let deepest = deepest_indent(nesting);
     let text = write(alloc, source, gaps, Bounds { most, deepest })?;
     if text.len() > most {
         return Err(WriteError::TooLong);
@@ -382,16 +382,16 @@ pub fn format_document<A: Allocator + Copy>(
     alloc: A,
     source: &str,
     gaps: Gaps<A>,
-    recursion: usize,
+    nesting: usize,
     most: usize,
 ) -> Result<String<A>, WriteError>
     requires { IsSentence source.now }
     ensures formatted { IfOk result (λ text. Formatted source.now (string_bytes text)) }
     ensures most { IfOk result (λ text. length (string_bytes text) ≤ most) }
-    ensures longest { IfOk result (λ text. length (string_bytes text) ≤ longest_layout recursion (length source.now)) }
+    ensures longest { IfOk result (λ text. length (string_bytes text) ≤ longest_layout nesting (length source.now)) }
     ensures few { IfOk result (λ text. length (items_of (string_bytes text)) ≤ most_items (length (items_of source.now))) }
-    ensures small { IfErr result (λ error. error ≡ TooLong → most < longest_layout recursion (length source.now)) }
+    ensures small { IfErr result (λ error. error ≡ TooLong → most < longest_layout nesting (length source.now)) }
 {
-    let text = format_text(alloc, source, gaps, recursion, most)?;
+    let text = format_text(alloc, source, gaps, nesting, most)?;
     Ok(text)
 }

@@ -8,14 +8,16 @@
 
 ghost use Rattle.std.specs.Prelude.{◌≡◌, ◌<◌, ◌≤◌, ℕ, true, false, List, None, length, map, IfErr, IfOk, IfSome, string_bytes};
 ghost use Rattle.lexical_grammar.specs.Reads.{items_of};
+ghost use Rattle.document_grammar.specs.Derivation.{nest};
 ghost use Rattle.apollo_parser.specs.Errors.{error_of};
 ghost use Rattle.format_layout.specs.declared.style.WriteError.TheVariants.{TooLong};
 ghost use Rattle.format_layout.specs.Lengths.{longest_layout, most_items};
 ghost use Rattle.formatter.specs.Comments.{HasNoDefinitions, HasSameComments};
 ghost use Rattle.formatter.specs.Finding.{AreFirstOf};
-ghost use Rattle.formatter.specs.Formatted.{IsDocument, IsFormatted, IsNoDocument, IsRefused};
+ghost use Rattle.formatter.specs.Formatted.{IsDocument, IsFormatted, IsNoDocument, IsRefused, MayExceed};
 
 mod comments;
+pub mod laws;
 
 use apollo_parser::{
     BorrowedSyntaxTree, DocumentRoot, Error, IndexedElement, Lexer, Limits, Parser, own_errors,
@@ -44,14 +46,23 @@ impl<'t, 's, A: Allocator> Elements for TreeElements<'t, 's, A> {
     }
 }
 
-// The gaps of a document's layout, or the first errors of a text that is no document within both limits. The tree is let go before the layout is written.
-fn gaps_of<'s, A: Allocator + Copy>(
+// How a document is laid out.
+#[derive(Drop)]
+struct Plan<A: Allocator> {
+    gaps: Gaps<A>,
+    // how deep the document nests
+    nesting: usize,
+}
+
+// The plan of a document's layout, or the first errors of a text that is no document within both limits. The tree is let go before the layout is written.
+fn plan_of<'s, A: Allocator + Copy>(
     alloc: A,
     source: &'s str,
     limits: Limits,
     shown: usize,
-) -> Result<Result<Gaps<A>, FirstErrors<'s, A>>, AllocError>
-    ensures document { IfOk result (λ r. IfOk r (λ gaps. IsDocument source.now limits.recursion limits.tokens)) }
+) -> Result<Result<Plan<A>, FirstErrors<'s, A>>, AllocError>
+    ensures document { IfOk result (λ r. IfOk r (λ plan. IsDocument source.now limits.recursion limits.tokens)) }
+    ensures nesting { IfOk result (λ r. IfOk r (λ plan. (d : IsDocument source.now limits.recursion limits.tokens) → nest d.tree ≡ plan.nesting)) }
     ensures refused { IfOk result (λ r. IfErr r (λ first. IsNoDocument source.now limits.recursion limits.tokens)) }
     ensures first { IfOk result (λ r. IfErr r (λ first. AreFirstOf limits source.now shown (map error_of first.errors.items) first.more)) }
 {
@@ -62,15 +73,17 @@ fn gaps_of<'s, A: Allocator + Copy>(
         return Ok(Err(first));
     }
     let gaps = Gaps::of(alloc, source, &TreeElements { tree: &tree })?;
-    Ok(Ok(gaps))
+    // without errors, the greatest nesting that was tried is the tree's
+    let nesting = tree.recursion_limit().high;
+    Ok(Ok(Plan { gaps, nesting }))
 }
 
 /// What formats documents.
 pub trait DocumentFormatter {
     /// The document with another layout, of at most `most` bytes. Where the text is no document within both limits, the errors of its parse, as the
     /// function `first_errors` chooses them, at most `shown`. It fails where memory is refused, or the formatted text has more bytes, which is found
-    /// before it is built: after at most some two times `most` bytes. Where `most` is at least `longest_layout`, which no formatted text exceeds, it
-    /// fails for memory alone.
+    /// before it is built: after at most some two times `most` bytes. Where `most` is at least `longest_layout` of how deep the document nests, which no
+    /// formatted text exceeds, it fails for memory alone.
     ///
     /// The token limit is one on the text, and none on the formatted text (`stays_within`).
     ///
@@ -86,12 +99,11 @@ pub trait DocumentFormatter {
     ) -> Result<Result<String<A>, FirstErrors<'s, A>>, WriteError>
         ensures formatted { IfOk result (λ r. IfOk r (λ text. IsFormatted source.now limits.recursion limits.tokens (string_bytes text))) }
         ensures short { IfOk result (λ r. IfOk r (λ text. length (string_bytes text) ≤ most)) }
-        ensures longest { IfOk result (λ r. IfOk r (λ text. length (string_bytes text) ≤ longest_layout limits.recursion (length source.now))) }
+        ensures longest { IfOk result (λ r. IfOk r (λ text. (d : IsDocument source.now limits.recursion limits.tokens) → length (string_bytes text) ≤ longest_layout (nest d.tree) (length source.now))) }
         ensures items { IfOk result (λ r. IfOk r (λ text. length (items_of (string_bytes text)) ≤ most_items (length (items_of source.now)))) }
         ensures refused { IfOk result (λ r. IfErr r (λ first. IsNoDocument source.now limits.recursion limits.tokens)) }
         ensures first { IfOk result (λ r. IfErr r (λ first. AreFirstOf limits source.now shown (map error_of first.errors.items) first.more)) }
-        ensures long { IfErr result (λ error. error ≡ TooLong → IsDocument source.now limits.recursion limits.tokens) }
-        ensures small { IfErr result (λ error. error ≡ TooLong → most < longest_layout limits.recursion (length source.now)) };
+        ensures long { IfErr result (λ error. error ≡ TooLong → MayExceed source.now limits.recursion limits.tokens most) };
 
     /// A text without definitions with another layout, or `None`, as the function `format_comments` has it.
     fn format_comments<A: Allocator + Copy>(
@@ -122,9 +134,10 @@ impl DocumentFormatter for Formatter {
         most: usize,
         shown: usize,
     ) -> Result<Result<String<A>, FirstErrors<'s, A>>, WriteError> {
-        match gaps_of(alloc, source, limits, shown)? {
-            Ok(gaps) => {
-                let text = format_document(alloc, source, gaps, limits.recursion, most)?;
+        match plan_of(alloc, source, limits, shown)? {
+            Ok(plan) => {
+                let Plan { gaps, nesting } = plan;
+                let text = format_document(alloc, source, gaps, nesting, most)?;
                 Ok(Ok(text))
             }
             Err(first) => Ok(Err(first)),
@@ -150,11 +163,10 @@ pub fn format_within<A: Allocator + Copy>(
 ) -> Result<Option<String<A>>, WriteError>
     ensures formatted { IfOk result (λ o. IfSome o (λ text. IsFormatted source.now limits.recursion limits.tokens (string_bytes text))) }
     ensures short { IfOk result (λ o. IfSome o (λ text. length (string_bytes text) ≤ most)) }
-    ensures longest { IfOk result (λ o. IfSome o (λ text. length (string_bytes text) ≤ longest_layout limits.recursion (length source.now))) }
+    ensures longest { IfOk result (λ o. IfSome o (λ text. (d : IsDocument source.now limits.recursion limits.tokens) → length (string_bytes text) ≤ longest_layout (nest d.tree) (length source.now))) }
     ensures items { IfOk result (λ o. IfSome o (λ text. length (items_of (string_bytes text)) ≤ most_items (length (items_of source.now)))) }
     ensures refused { IfOk result (λ o. o ≡ None → IsNoDocument source.now limits.recursion limits.tokens) }
-    ensures long { IfErr result (λ error. error ≡ TooLong → IsDocument source.now limits.recursion limits.tokens) }
-    ensures small { IfErr result (λ error. error ≡ TooLong → most < longest_layout limits.recursion (length source.now)) }
+    ensures long { IfErr result (λ error. error ≡ TooLong → MayExceed source.now limits.recursion limits.tokens most) }
 {
     match Formatter.format_or_errors(alloc, source, limits, most, 0)? {
         Ok(text) => Ok(Some(text)),

@@ -1,5 +1,8 @@
 -- What formatting makes of a text, and what is shown of that.
-use Rattle.std.specs.Prelude.{◌≡◌, ◌≢◌, ◌<◌, ◌≤◌, ◌⊎◌, ◌*◌, ◌-◌, ◌^◌, ℕ, min, max, List, [], ◌∷◌, ◌++◌, length, map, codes, string_bytes, Option, Some, None}
+use Rattle.std.specs.Prelude.{◌≡◌, ◌≢◌, ◌<◌, ◌≤◌, ◌⊎◌, ◌*◌, ◌-◌, ◌^◌, ℕ, min, max, List, [], ◌∷◌, ◌++◌, length, map, codes, string_bytes}
+use Rattle.std.specs.Prelude.{Option, Some, None}
+use mathlib.Core.Logic.{inl, inr}
+use Rattle.document_grammar.specs.Derivation.{nest}
 use Rattle.apollo_parser.specs.Errors.{error_of}
 use Rattle.formatter.specs.Finding.{AreFirstOf}
 use Rattle.formatter.specs.Formatted as format
@@ -8,7 +11,7 @@ use Rattle.formatter.specs.Within.{IsFormattedWithin, IsOutgrown, HasCommentsAlo
 use Rattle.apollo_parser.specs.declared.Limits.{Limits}
 use Rattle.line_ends.specs.declared.LineEnd.{LineEnd}
 use Rattle.line_ends.specs.declared.LineEnd.TheVariants as end
-use Rattle.line_ends.specs.LineEnds.{HasLineEnd, first_line_end}
+use Rattle.line_ends.specs.LineEnds.{HasLineEnd, end_bytes, first_line_end}
 use Rattle.program_words.specs.declared.gqlfmt.LineEndings.{LineEndings}
 use Rattle.program_words.specs.declared.gqlfmt.LineEndings.TheVariants.{Lf, Crlf, Keep}
 use Rattle.gqlfmt_run.specs.declared.job.Bounds.{Bounds}
@@ -47,11 +50,21 @@ pub record HasErrors (limits : Limits) (source : List ℕ) : Type 0 where
 abbrev pub HasOutgrown : Limits → List ℕ → Type 0
 HasOutgrown limits source = IsOutgrown limits source ⊎ AreCommentsOutgrown limits source
 
+-- a document within both limits, or a text of comments alone within them
+abbrev pub HasLayout : Limits → List ℕ → Type 0
+HasLayout limits source = format.IsDocument source limits.recursion limits.tokens ⊎ HasCommentsAlone limits source
+
+-- how deep it nests: as its only derivation, or not at all
+abbrev pub nesting_of : (limits : Limits) (source : List ℕ) → HasLayout limits source → ℕ
+nesting_of limits source (inl document) = nest document.tree
+nesting_of limits source (inr comments) = 0
+
 -- It is one, but its formatted text is said to have more bytes than are allowed. That text is not built; but fewer bytes are allowed than a formatted text
--- of the source can have, each of whose bytes may be a line feed that becomes CR LF.
+-- of the source can have, as deep as the source nests, where each of its bytes may be a line feed that becomes the line end that is wanted.
 pub record IsTooLong (bounds : Bounds) (source : List ℕ) : Type 0 where
-  pub text : format.IsDocument source bounds.limits.recursion bounds.limits.tokens ⊎ HasCommentsAlone bounds.limits source
-  pub few : most_of bounds.most_output source < 2 * longest_layout bounds.limits.recursion (length source)
+  pub text : HasLayout bounds.limits source
+  pub few : most_of bounds.most_output source
+      < length (end_bytes (line_end_of bounds.line_endings source)) * longest_layout (nesting_of bounds.limits source text) (length source)
 
 -- how many errors of a source are shown at most
 abbrev pub most_shown : ℕ

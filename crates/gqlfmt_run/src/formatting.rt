@@ -1,6 +1,7 @@
 // What becomes of a text.
 ghost use Rattle.std.specs.Prelude.{◌≤◌, ℕ, List, IfOk, length, map, string_bytes};
 ghost use Rattle.lexical_grammar.specs.Reads.{items_of};
+ghost use Rattle.document_grammar.specs.Derivation.{nest};
 ghost use Rattle.apollo_parser.specs.Errors.{error_of};
 ghost use Rattle.formatter.specs.Comments.{HasSameComments};
 ghost use Rattle.formatter.specs.Finding.{AreFirstOf};
@@ -65,7 +66,8 @@ impl<A: Allocator + Copy, L: DocumentFormatter> Job<'_, A, L> {
         ensures document { IfOk result (λ revised. format.IsFormatted source.now self.now.bounds.limits.recursion self.now.bounds.limits.tokens (string_bytes text)
             → length (items_of (string_bytes text)) ≤ most_items (length (items_of source.now))
             → length (string_bytes text) ≤ most_of self.now.bounds.most_output source.now
-            → length (string_bytes text) ≤ longest_layout self.now.bounds.limits.recursion (length source.now) → IsRevised self.now.bounds source.now revised) }
+            → ((d : format.IsDocument source.now self.now.bounds.limits.recursion self.now.bounds.limits.tokens) → length (string_bytes text) ≤ longest_layout (nest d.tree) (length source.now))
+            → IsRevised self.now.bounds source.now revised) }
         ensures comments { IfOk result (λ revised. HasSameComments source.now (string_bytes text) → length (items_of source.now) ≤ self.now.bounds.limits.tokens
             → length (items_of (string_bytes text)) ≤ most_items (length (items_of source.now))
             → length (string_bytes text) ≤ most_of self.now.bounds.most_output source.now

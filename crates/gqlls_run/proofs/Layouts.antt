@@ -14,7 +14,7 @@ formatting_of : (limits : Limits) (id : Json) (encoding : PositionEncoding) (tex
 formatting_of limits id encoding text (Text s) body made (value, edits, is) =
     inl (value, inr (record { text = string_bytes s; formatted = made.0; short = made.1; edits = edits }), is)
 formatting_of limits id encoding text Left body made is = inl (null, inl (made, refl), is)
-formatting_of limits id encoding text TooLong body made is = inr (record { document = made.0; few = made.1; refused = is })
+formatting_of limits id encoding text TooLong body made is = inr (record { long = made; refused = is })
 
 pub formatting : (limits : Limits) (id : Json) (content : Opened) (encoding : PositionEncoding) (text : List ℕ) (layout : Layout)
     (body : List ℕ) → encoding ≡ content.encoding → text ≡ content.text

@@ -1,12 +1,11 @@
 -- The results of layouts.
-use Rattle.std.specs.Prelude.{MatchOption, ◌≡◌, ◌<◌, ◌≤◌, ◌⊎◌, ℕ, ℤ, List, [], ◌∷◌, ◌++◌, length, slice_range, string_bytes}
+use Rattle.std.specs.Prelude.{MatchOption, ◌≡◌, ◌≤◌, ◌⊎◌, ℕ, ℤ, List, [], ◌∷◌, ◌++◌, length, slice_range, string_bytes}
 use lib.IntN.{pos, neg_ℤ}
 use Rattle.std.specs.List.{replace_range}
 use Rattle.json.specs.Json.{Json, null}
 use Rattle.apollo_parser.specs.declared.Limits.{Limits}
 use Rattle.editor_edits.specs.Answered.{AreEditsOf, IsEditedBy}
-use Rattle.formatter.specs.Formatted.{IsDocument}
-use Rattle.formatter.specs.Lengths.{longest_layout}
+use Rattle.formatter.specs.Formatted.{IsDocument, MayExceed}
 use Rattle.formatter.specs.Within.{IsFormattedWithin, IsOutgrown}
 use Rattle.editor_text.specs.Client.{Opened}
 use Rattle.line_index.specs.declared.PositionEncoding.{PositionEncoding}
@@ -34,11 +33,12 @@ pub record IsPartLaidOut (limits : Limits) (source new : List ℕ) : Type 0 wher
 abbrev pub most_bytes : ℕ
 most_bytes = 67108864
 
--- a formatted text of the source, which has no more; the source where it is left as it is; or none, for a document whose formatted text can have more
+-- a formatted text of the source, which has no more; the source where it is left as it is; or none, for a document whose formatted text can have more, as
+-- deep as the document nests
 abbrev pub IsLayoutOf : Limits → List ℕ → Layout → Type 0
 IsLayoutOf limits source (Text text) = IsFormattedWithin limits source (string_bytes text) × (length (string_bytes text) ≤ most_bytes)
 IsLayoutOf limits source Left = IsLeft limits source
-IsLayoutOf limits source TooLong = IsDocument source limits.recursion limits.tokens × (most_bytes < longest_layout limits.recursion (length source))
+IsLayoutOf limits source TooLong = MayExceed source limits.recursion limits.tokens most_bytes
 
 -- the layout is such a new text, or none
 abbrev pub IsTextIf : (List ℕ → Type 0) → Layout → Type 0
@@ -70,10 +70,9 @@ pub record IsEdited (limits : Limits) (content : Opened) (result : Json) : Type 
 abbrev pub IsFormatting : Limits → Opened → Json → Type 0
 IsFormatting limits content result = (IsLeft limits content.text × (result ≡ null)) ⊎ IsEdited limits content result
 
--- `RequestFailed` for a document within the limits: its layout is too long, and so the document is not short
+-- `RequestFailed` for a document within the limits: its layout is too long, and so the document is not short for how deep it nests
 pub record IsTooLong (limits : Limits) (id : Json) (content : Opened) (body : List ℕ) : Type 0 where
-  pub document : IsDocument content.text limits.recursion limits.tokens
-  pub few : most_bytes < longest_layout limits.recursion (length content.text)
+  pub long : MayExceed content.text limits.recursion limits.tokens most_bytes
   pub refused : IsRefusalOf id (neg_ℤ (pos 32803)) body
 
 -- the body answers the request with this id by such a result, or refuses it

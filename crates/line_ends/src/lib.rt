@@ -74,7 +74,7 @@ pub fn first_line_end(text: &str) -> LineEnd
 // The lines of a text with this end between each two.
 fn joined_lines<A: Allocator>(alloc: A, text: &str, end: LineEnd) -> Result<String<A>, AllocError>
     ensures lines { IfOk result (λ other. string_bytes other ≡ with_line_end end text.now) }
-    ensures short { IfOk result (λ other. length (string_bytes other) ≤ 2 * length text.now) }
+    ensures short { IfOk result (λ other. length (string_bytes other) ≤ length (end_bytes end) * length text.now) }
 {
     let feeds = text.as_bytes().iter().filter(|b| **b == b'\n').count();
     let mut other = String::with_capacity(alloc, text.len().saturating_add(feeds))?;
@@ -95,7 +95,7 @@ fn has_line_feeds(text: &str) -> bool
     memchr(b'\r', text.as_bytes()).is_none()
 }
 
-/// The text with this end in place of each of its line ends, which has at most two bytes for each of its own. Where it has no bad text, the new one has as
+/// The text with this end in place of each of its line ends, which has at most as many bytes for each of its own as the line end has. Where it has no bad text, the new one has as
 /// many items. It fails only where memory is refused.
 pub fn with_line_end<A: Allocator>(
     alloc: A,
@@ -103,7 +103,7 @@ pub fn with_line_end<A: Allocator>(
     end: LineEnd,
 ) -> Result<String<A>, AllocError>
     ensures lines { IfOk result (λ other. string_bytes other ≡ with_line_end end (string_bytes text)) }
-    ensures short { IfOk result (λ other. length (string_bytes other) ≤ 2 * length (string_bytes text)) }
+    ensures short { IfOk result (λ other. length (string_bytes other) ≤ length (end_bytes end) * length (string_bytes text)) }
     ensures items { IfOk result (λ other. (words : List Word) → Holds (string_bytes text) words → length (items_of (string_bytes other)) ≡ length (items_of (string_bytes text))) }
 {
     if end == LineEnd::Lf && has_line_feeds(text.as_str()) {

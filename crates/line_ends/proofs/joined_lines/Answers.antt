@@ -6,7 +6,7 @@ use Rattle.apollo_cst_core.proofs.LineReads.{some-line, yields-some}
 use Rattle.line_ends.specs.declared.LineEnd.{LineEnd}
 use Rattle.line_ends.specs.LineEnds.{end_bytes, joined_by}
 use Rattle.line_ends.proofs.Ends.{later_lines}
-use Rattle.line_ends.proofs.Lengths.{twice-at-most}
+use Rattle.line_ends.proofs.Lengths.{as-long-at-most}
 use Rattle.line_ends.proofs.joined_lines.Goals as goal
 
 pub unwrap-first-requires : goal.unwrap-first-requires
@@ -48,4 +48,4 @@ pub returns-clause-lines : goal.returns-clause-lines
 returns-clause-lines g c = all-written c.args.end _ _ c.in_default.ensures.steps.0 ∙ c.loop-line.invariant
 
 pub returns-clause-short : goal.returns-clause-short
-returns-clause-short g c = twice-at-most c.args.end c.args.text.now _ (all-written c.args.end _ _ c.in_default.ensures.steps.0 ∙ c.loop-line.invariant)
+returns-clause-short g c = as-long-at-most c.args.end c.args.text.now _ (all-written c.args.end _ _ c.in_default.ensures.steps.0 ∙ c.loop-line.invariant)

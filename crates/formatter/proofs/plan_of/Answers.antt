@@ -2,8 +2,8 @@ use Rattle.std.proofs.Common.{◌≡◌, ◌<◌, length, map, refl, sym, ap, �
 use Rattle.std.proofs.lemmas.Bool.Decides.{nat_tests}
 use Rattle.std.proofs.lemmas.List.{length-map, nil_from_length}
 use Rattle.apollo_parser.specs.Errors.{error_of}
-use Rattle.formatter.proofs.Parses.{is-document, refused}
-use Rattle.formatter.proofs.gaps_of.Goals as goal
+use Rattle.formatter.proofs.Parses.{is-document, one-nesting, refused}
+use Rattle.formatter.proofs.plan_of.Goals as goal
 
 pub returns-then-not-is_empty-clause-refused : goal.returns-then-not-is_empty-clause-refused
 returns-then-not-is_empty-clause-refused g c =
@@ -27,3 +27,11 @@ returns-clause-document g c =
     let are = ap (map error_of) c.as_slice-errors.ensures.value ∙ c.errors.ensures in
     let none : length errors ≡ 0 = grind (arith, nat_tests) in
     is-document _ _ _ _ (sym are ∙ ap (map error_of) (nil_from_length errors none)) parsed
+
+pub returns-clause-nesting : goal.returns-clause-nesting
+returns-clause-nesting g c =
+    let errors = c.as_slice-errors.result.now in
+    let parsed = rw (c.within.ensures.source, c.within.ensures.recursion_limit, c.within.ensures.token_limit) at c.in_ok-tree.ensures.promise in
+    let are = ap (map error_of) c.as_slice-errors.ensures.value ∙ c.errors.ensures in
+    let none : length errors ≡ 0 = grind (arith, nat_tests) in
+    one-nesting _ _ _ _ _ (sym are ∙ ap (map error_of) (nil_from_length errors none)) (ap (λ l. l.high) c.recursion_limit-nesting.ensures) parsed
