@@ -174,7 +174,8 @@ uint32_t dumyroke_string_value(const uint8_t *literal, size_t literal_length, ui
  *   text       `text_length` bytes of UTF-8.
  *   formatted  room for `room` bytes, which is the bound on the formatted text, too: if it is longer, the result is DUMYROKE_NO_ROOM, and no more than
  *              some two times `room` of it was built. Call again with twice the room, up to the most that you want to hold. What people write
- *              grows to less than twice its length; a text of lists nested 400 deep to 400 times.
+ *              grows to less than twice its length; a text of lists nested 400 deep to 400 times. A text that nests n deep never needs more than
+ *              (2 n + 42) * text_length + 1.
  *   bytes      how many bytes the formatted text has; 0 unless the result is DUMYROKE_OK. Never NULL.
  *
  * Any other pointer may be NULL where its length is 0. No two of the three may overlap.
