@@ -54,7 +54,7 @@ pub record AreWithin (asked : Asked) (document : Place) : Type 0 where
 
 -- ---- texts
 
--- The document is valid by the rules for its kind that need no schema, and its operations are within the limits.
+-- The document is valid by the rules for its kind, and its operations are within the limits.
 pub record IsSound (asked : Asked) (document : Place) : Type 0 where
   pub valid : IsValidAs (document_kind document) document
   pub within : AreWithin asked document

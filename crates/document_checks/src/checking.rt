@@ -103,9 +103,9 @@ fn check_text(alloc: Global, source: &str, checks: &Checks<'_>) -> Result<Report
     Ok(report)
 }
 
-/// Checks a text: it passes exactly if it is a document within the parser's limits, which keeps all rules that need no schema, and each operation is
-/// within the limits, or the one that is named, which has to be there; or if it has no definition, and no operation is named. It fails only where memory is
-/// refused.
+/// Checks a text: it passes exactly if it is a document within the parser's limits, which keeps all rules that `validate` has for its kind, and each operation
+/// is within the limits, or the one that is named, which has to be there; or if it has no definition, and no operation is named. It fails only where
+/// memory is refused.
 #[tactic(auto, using(crate::proofs::Texts::with_nothing, crate::proofs::Texts::with_something))]
 pub fn check(alloc: Global, source: &str, checks: &Checks<'_>) -> Result<Report, AllocError>
     ensures { IfOk result (λ report. (report.passes ≡ true) ↔ Passes (as_asked checks.now) source.now) }
