@@ -6,6 +6,7 @@ import re
 import subprocess
 import sys
 import tempfile
+import urllib.parse
 from pathlib import Path
 
 from client import Client, Text, errors_of
@@ -426,6 +427,32 @@ def files_of_the_folder():
             schema.write_text(text)
             notify(client, schema)
             expect("a file that was made", fields(client), ["name"])
+            expect("the end", client.end(), 0)
+
+
+def own_files():
+    """An open document's own stored text mends nothing, however the client spells the document and the folder."""
+    with tempfile.TemporaryDirectory(prefix="a folder é ") as parent:
+        parent = Path(parent)
+        folder = parent / "project"
+        folder.mkdir()
+        stored = folder / "a.graphql"
+        stored.write_text("fragment F on Query { a }\nquery { ...F }\n")
+        (folder / "b.graphql").write_text("fragment G on Query { a }\n")
+        (parent / "linked").symlink_to(folder)
+        plain, path = folder.as_uri(), urllib.parse.quote(str(stored))
+        roots = [plain, plain + "/", plain + "//", parent.as_uri() + "/./project", (parent / "linked").as_uri()]
+        documents = [stored.as_uri(), "file:" + path, "FILE://" + path, "file://LOCALHOST" + path, (parent / "linked" / "a.graphql").as_uri()]
+        for root, document in [(root, stored.as_uri()) for root in roots] + [(plain, document) for document in documents] + [(roots[-1], documents[-1])]:
+            client = Client(PROGRAM)
+            client.ask("initialize", capabilities={}, rootUri=root)
+            client.notify("initialized")
+            found = client.open(document, "query R { ...F ...G }\n")
+            expect(f"{document} is not mended by its own file in {root}", [it["message"] for it in found["diagnostics"]], ['Unknown fragment "F".'])
+            expect(f"no F is known beside {document} in {root}", client.ask("workspace/symbol", query="F")["result"], [])
+            client.close(document)
+            found = client.open("file:///elsewhere.graphql", "query S { ...F }\n")
+            expect(f"{document} counts as it is stored in {root} once it is closed", found["diagnostics"], [])
             expect("the end", client.end(), 0)
 
 
@@ -906,7 +933,7 @@ def many_changes():
             client.end()
 
 
-TESTS = [states, statuses_without_shutdown, faulty_messages, pieces_of_input, capabilities, changes, positions, diagnostics, open_braces, violations, fragments_of_others, lambda: names("utf-16", 0), lambda: names("utf-8", 2), markups, other_documents, files_of_the_folder, types_of_the_document, members, uses_of_names, forbidden_names, open_quotes, templates, changed_templates,
+TESTS = [states, statuses_without_shutdown, faulty_messages, pieces_of_input, capabilities, changes, positions, diagnostics, open_braces, violations, fragments_of_others, lambda: names("utf-16", 0), lambda: names("utf-8", 2), markups, other_documents, files_of_the_folder, own_files, types_of_the_document, members, uses_of_names, forbidden_names, open_quotes, templates, changed_templates,
          lambda: parts("utf-16", 0), lambda: parts("utf-8", 2), names_of_symbols, more_folds, completion, layout, long_layout, layout_of_long_lines, limits, refused_words, standard, signatures, many_changes]
 for test in TESTS:
     test()

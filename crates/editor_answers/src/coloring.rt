@@ -6,6 +6,7 @@ use crate::labels::found_in;
 use crate::names::{defines_type, extends_type, named_by};
 use crate::span::{Span, span_of};
 use apollo_tree::{SyntaxElement, SyntaxKind, SyntaxNode, SyntaxToken};
+use rpc_messages::Piece;
 use std::alloc::{AllocError, Global};
 
 /// What a token is, as the language server protocol names it.
@@ -25,20 +26,20 @@ pub enum TokenType {
     Decorator,
 }
 
-/// The protocol's names of the types of tokens, in the order of the enum.
-pub const TOKEN_TYPES: [&str; 12] = [
-    "comment",
-    "keyword",
-    "string",
-    "number",
-    "operator",
-    "variable",
-    "type",
-    "property",
-    "parameter",
-    "enumMember",
-    "function",
-    "decorator",
+/// The protocol's names of the types of tokens, in the order of the enum, as the items of a list.
+pub const TOKEN_TYPES: [Piece<'static>; 12] = [
+    Piece::Text("comment"),
+    Piece::Text("keyword"),
+    Piece::Text("string"),
+    Piece::Text("number"),
+    Piece::Text("operator"),
+    Piece::Text("variable"),
+    Piece::Text("type"),
+    Piece::Text("property"),
+    Piece::Text("parameter"),
+    Piece::Text("enumMember"),
+    Piece::Text("function"),
+    Piece::Text("decorator"),
 ];
 
 /// A token, or the part of it that is in one line.

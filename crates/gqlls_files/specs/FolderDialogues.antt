@@ -23,13 +23,17 @@ pub record FolderDialogue (F : Type 0) : Type 0 where
 abbrev pub opening : {F : Type 0} → Limits → F → FolderDialogue F
 opening limits files = record { dialogue = begun limits; files = files }
 
--- the files, as a trait tells what listing a folder and reading a file does
-module _ {F : Type 0} (lists : F → List ℕ → Listing → F → Type 0) (reads : F → List ℕ → Result (List ℕ) Error → F → Type 0) where
-  -- Folders are listed and files are read, one after the other. What is known of a file is of the text that it had when it was read, under a URI of its path.
+-- the files, as a trait tells what listing a folder, reading a file and locating a folder does
+module _
+    {F : Type 0} (lists : F → List ℕ → Listing → F → Type 0) (reads locates : F → List ℕ → Result (List ℕ) Error → F → Type 0) where
+  -- Folders are listed and located and files are read, one after the other. What is known of a file is of the text that it had when it was read, under a URI
+  -- of its path.
   pub data Reads : FolderDialogue F → FolderDialogue F → Type 0 where
     nothing : {state : FolderDialogue F} → Reads state state
     listed : {old middle new : FolderDialogue F} {path : List ℕ} {listing : Listing}
         → Reads old middle → lists middle.files path listing new.files → new.dialogue ≡ middle.dialogue → Reads old new
+    located : {old middle new : FolderDialogue F} {path : List ℕ} {given : Result (List ℕ) Error}
+        → Reads old middle → locates middle.files path given new.files → new.dialogue ≡ middle.dialogue → Reads old new
     passed_over : {old middle new : FolderDialogue F} {path : List ℕ} {given : Result (List ℕ) Error}
         → Reads old middle → reads middle.files path given new.files → new.dialogue ≡ middle.dialogue → Reads old new
     kept : {old middle new : FolderDialogue F} {path text : List ℕ} {errors : ℕ}

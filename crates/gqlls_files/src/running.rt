@@ -19,8 +19,8 @@ pub fn run<R: Source, W: Sink, F: Files + Drop>(
     files: F,
     limits: Limits,
 ) -> Result<u8, Fault>
-    ensures ok { IfOk result (λ status. Serves F.lists F.reads limits files status (R.account reader.old) (R.account reader.new) (W.account writer.old) (W.account writer.new)) }
-    ensures err { IfErr result (Fails F.lists F.reads limits files (R.account reader.old) (R.account reader.new) (W.account writer.old) (W.account writer.new)) }
+    ensures ok { IfOk result (λ status. Serves F.lists F.reads F.locates limits files status (R.account reader.old) (R.account reader.new) (W.account writer.old) (W.account writer.new)) }
+    ensures err { IfErr result (Fails F.lists F.reads F.locates limits files (R.account reader.old) (R.account reader.new) (W.account writer.old) (W.account writer.new)) }
 {
     let mut server = FolderServer::new(alloc, Server::new(alloc, limits), files);
     serve(alloc, &mut server, reader, writer)

@@ -5,4 +5,5 @@ pub mod Maps
 pub mod Messages
 pub mod Numbers
 pub mod Others
+pub mod Own
 pub mod Texts

@@ -1,21 +1,23 @@
 -- Open documents by their names.
 use Rattle.std.proofs.Common.{◌≡◌, ℕ, suc, zero, Bool, true, false, List, [], ◌∷◌, map, Option, Some, option_map, nat_cmp, refl, sym, ap, ◌∙◌}
-use Rattle.std.proofs.Common.{◌++◌, String, BTreeMap, inl, inr, string_bytes, string_cmp, subst, arith}
-use Rattle.std.specs.Prelude.{◌↔◌, ◌⊎◌, cond, is_some, unwrap_or}
+use Rattle.std.proofs.Common.{◌++◌, append_assoc, String, BTreeMap, BTreeSet, inl, inr, string_bytes, string_cmp, subst, arith}
+use Rattle.std.specs.Prelude.{◌↔◌, ◌⊎◌, cond, filter, is_some, not, unwrap_or}
 use Rattle.std.specs.List.{All, Contains}
 use Rattle.std.specs.Map.{lookup, values_of}
 use Rattle.std.specs.String.{string_cmp_total}
 use Rattle.std.specs.Cmp.Lexicographic.{slice_cmp}
 use Rattle.std.specs.Str.{bytes_eq}
 use Rattle.std.specs.BTreeMap.{IsOrdered, UpdatesBy, get_by_text, is_at, values}
+use Rattle.std.specs.BTreeSet.{contains_text}
 use Rattle.std.specs.Bool.{Decides}
 use Rattle.std.proofs.lemmas.List.Elements.{Contains-append_cases, Contains-append_left, Contains-append_right}
 use Rattle.std.proofs.lemmas.Map.{update_other}
-use Rattle.std.proofs.lemmas.Map.Text.{btree_map_updates_text}
+use Rattle.std.proofs.lemmas.Map.Text.{btree_map_updates_text, is_eq-slice_cmp}
 use Rattle.std.proofs.lemmas.Map.Views.{All-found}
 use Rattle.std.proofs.lemmas.Slice.Eq.{bytes_eq-Decides}
 use Rattle.gqlls_run.specs.declared.documents.Document.{Document}
 use Rattle.gqlls_run.specs.Dialogue.{Updates}
+use Rattle.gqlls_run.specs.State.{entries_beside}
 
 -- a test that decides a false fact is false
 refuted : {P : Type 0} (r : Bool) → Decides r P → ¬ P → r ≡ false
@@ -86,4 +88,78 @@ all_of {A = A} {B = B} kept documents ordered b = (
       (All-found string_cmp_total documents ordered) there in
       (string_bytes e.0.0, ap (option_map kept) e.1 ∙ ap (λ (x : B). Some x) e.2),
   λ some. found_among kept (is_at (λ k. slice_cmp nat_cmp some.0 (string_bytes k))) documents.entries b some.1,
+)
+
+-- ---- what some documents have
+
+module _ {K X B : Type 0} (kept : X → B) (test : K × X → Bool) where
+  -- what a look-up finds, where what it looks for passes
+  among_passed : (entry : K × X) (passed : List (K × X)) (found : Option X) (b : B) (is_it passes : Bool) → (is_it ≡ true → passes ≡ true)
+      → (option_map kept found ≡ Some b → Contains (map kept (values_of passed)) b)
+      → option_map kept (cond is_it (Some entry.1) found) ≡ Some b → Contains (map kept (values_of (cond passes (entry ∷ passed) passed))) b
+  among_passed entry passed found b true true agree rest e = (0, omega arith, ap (λ (o : Option B). unwrap_or o b) e)
+  among_passed entry passed found b true false agree rest e = absurd (let no : false ≡ true = agree refl in cc no)
+  among_passed entry passed found b false true agree rest e = later (kept entry.1) b (map kept (values_of passed)) (rest e)
+  among_passed entry passed found b false false agree rest e = rest e
+
+  found_passed : (wanted : K → Bool) → ((entry : K × X) → wanted entry.0 ≡ true → test entry ≡ true) → (entries : List (K × X)) (b : B)
+      → option_map kept (lookup wanted entries) ≡ Some b → Contains (map kept (values_of (filter test entries))) b
+  found_passed wanted agree [] b e = absurd (let no : false ≡ true = ap is_some e in cc no)
+  found_passed wanted agree (entry ∷ entries) b e =
+      among_passed entry (filter test entries) (lookup wanted entries) b (wanted entry.0) (test entry) (agree entry)
+      (found_passed wanted agree entries b) e
+
+  -- an entry that passes was added
+  pub passed_more : (entry : K × X) (entries : List (K × X)) (found now all : List B) → test entry ≡ true → now ≡ found ++ kept entry.1 ∷ []
+      → found ++ map kept (values_of (filter test (entry ∷ entries))) ≡ all → now ++ map kept (values_of (filter test entries)) ≡ all
+  passed_more entry entries found now all passes added so_far =
+      ap (λ (x : List B). x ++ map kept (values_of (filter test entries))) added
+      ∙ append_assoc found (kept entry.1 ∷ []) (map kept (values_of (filter test entries)))
+      ∙ ap (λ (b : Bool). found ++ map kept (values_of (cond b (entry ∷ filter test entries) (filter test entries)))) (sym passes) ∙ so_far
+
+  -- an entry that doesn't was left out
+  pub passed_over : (entry : K × X) (entries : List (K × X)) (found all : List B) → test entry ≡ false
+      → found ++ map kept (values_of (filter test (entry ∷ entries))) ≡ all → found ++ map kept (values_of (filter test entries)) ≡ all
+  passed_over entry entries found all fails so_far =
+      ap (λ (b : Bool). found ++ map kept (values_of (cond b (entry ∷ filter test entries) (filter test entries)))) (sym fails) ∙ so_far
+
+  -- the entry that has it
+  abbrev Passed : (K × X → Type 0) → B → Type 0
+  Passed P b = (entry : K × X) × P entry × (test entry ≡ true) × (kept entry.1 ≡ b)
+
+  passed_at : (P : K × X → Type 0) (entry : K × X) (passed : List (K × X)) (b : B) (passes : Bool) → test entry ≡ passes → P entry
+      → (Contains (map kept (values_of passed)) b → Passed P b) → Contains (map kept (values_of (cond passes (entry ∷ passed) passed))) b → Passed P b
+  passed_at P entry passed b true is has rest (zero, below, here) = (entry, has, is, here)
+  passed_at P entry passed b true is has rest (suc k, below, there) = rest (k, omega arith, there)
+  passed_at P entry passed b false is has rest there = rest there
+
+  passed_of : (P : K × X → Type 0) (entries : List (K × X)) (b : B) → All P entries → Contains (map kept (values_of (filter test entries))) b → Passed P b
+  passed_of P [] b all (k, below, is) = absurd (omega arith)
+  passed_of P (entry ∷ entries) b all there =
+      passed_at P entry (filter test entries) b (test entry) refl (all 0 entry (omega arith))
+      (passed_of P entries b (λ k d inside. all (suc k) d (omega arith))) there
+
+-- a test that is not passed is false
+fails : (b : Bool) → not b ≡ true → b ≡ false
+fails true h = sym h
+fails false h = refl
+
+-- the documents but some have just what is kept under the other names
+pub all_beside : {A B C : Type 0} (kept : Document → B) (own : BTreeSet (String C)) (documents : BTreeMap (String A) Document) (is_own : List ℕ → Bool)
+    → ((name : List ℕ) → contains_text own name ≡ is_own name) → IsOrdered string_cmp documents → (b : B)
+    → Contains (map kept (values_of (entries_beside own documents))) b
+    ↔ ((name : List ℕ) × (is_own name ≡ false) × (option_map kept (get_by_text documents name) ≡ Some b))
+all_beside {A = A} {B = B} kept own documents is_own is ordered b = (
+  λ there.
+      let e = passed_of kept (λ (e : String A × Document). not (contains_text own (string_bytes e.0)))
+      (λ (e : String A × Document). lookup (is_at (string_cmp e.0)) documents.entries ≡ Some e.1) documents.entries b
+      (All-found string_cmp_total documents ordered) there in
+      let name = string_bytes e.0.0 in
+      (name, sym (is name) ∙ fails (contains_text own name) e.2, ap (option_map kept) e.1 ∙ ap (λ (x : B). Some x) e.3),
+  λ some.
+      found_passed kept (λ (e : String A × Document). not (contains_text own (string_bytes e.0))) (is_at (λ k. slice_cmp nat_cmp some.0 (string_bytes k)))
+      (λ e same.
+      let name : some.0 ≡ string_bytes e.0 = (bytes_eq-Decides some.0 (string_bytes e.0)).0 (sym (is_eq-slice_cmp some.0 (string_bytes e.0)) ∙ same) in
+      ap not (ap (contains_text own) (sym name) ∙ is some.0 ∙ some.1))
+      documents.entries b some.2,
 )

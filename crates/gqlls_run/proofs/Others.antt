@@ -1,12 +1,11 @@
 -- The documents beside one that is published.
-use Rattle.std.proofs.Common.{◌≡◌, ◌≢◌, ℕ, Bool, true, false, List, Option, None, inl, inr, sym, ap, ◌∙◌, subst}
-use Rattle.std.specs.Prelude.{is_some}
+use Rattle.std.proofs.Common.{◌≡◌, ℕ, Bool, List, Option, None, ◌∙◌, subst}
 use Rattle.apollo_parser.specs.declared.Limits.{Limits}
 use Rattle.json.specs.Json.{Json}
 use Rattle.rpc_messages.specs.declared.reply.Reply.{Reply}
 use Rattle.editor_validation.specs.Fragments.{Fragments}
 use Rattle.gqlls_run.specs.Conversation.{Publishes}
-use Rattle.gqlls_run.specs.Dialogue.{AreAll, AreOthers, Dialogue, Sets, Updates}
+use Rattle.gqlls_run.specs.Dialogue.{Dialogue, Sets, Updates}
 use Rattle.gqlls_run.specs.Files.{OpenFile}
 use Rattle.gqlls_run.specs.Told.{IsTold, Notifies}
 
@@ -17,22 +16,6 @@ again uri first second old middle new one two = record {
   this = two.this;
   others = λ name apart. two.others name apart ∙ one.others name apart;
 }
-
--- what all documents have before one is added, the others have after it
-pub beside : (uri : List ℕ) (value : Option Fragments) (middle new files : List ℕ → Option Fragments) (others : List Fragments) → middle uri ≡ None
-    → Updates uri value middle new → AreAll middle files others → AreOthers uri new files others
-beside uri value middle new files others none adds all = λ names. (
-  λ there. elim ((all names).0 there) [
-    | inl some ↦
-        let apart : some.0 ≢ uri = λ same. (let no : false ≡ true = ap is_some (sym none ∙ ap middle (sym same) ∙ some.1) in cc no) in
-        inl (some.0, apart, adds.others some.0 apart ∙ some.1)
-    | inr file ↦ inr file
-  ],
-  λ either. elim either [
-    | inl other ↦ (all names).1 (inl (other.0, sym (adds.others other.0 other.1) ∙ other.2))
-    | inr file ↦ (all names).1 (inr file)
-  ],
-)
 
 -- a document is taken out, and published anew
 pub publishes_again : (uri : List ℕ) (file : OpenFile) (params : Json) (reply : Reply) (old middle new : Dialogue) → Sets uri None None old middle

@@ -11,9 +11,11 @@ use Rattle.embedded_documents.specs.declared.scanning.HostLanguage.{HostLanguage
 use Rattle.rpc_messages.specs.Messages.{IsResult}
 use Rattle.rpc_messages.specs.declared.reply.Reply.{Reply}
 use Rattle.rpc_messages.specs.declared.reply.Reply.TheVariants.{Nothing, Answer, Notice, Request, Exit}
+use Rattle.gqlls_run.specs.Announcement.{IsAnnounced}
 use Rattle.gqlls_run.specs.Files.{OpenFile}
-use Rattle.gqlls_run.specs.Layout.{IsFormattingIn, IsRefusalOf}
-use Rattle.gqlls_run.specs.Parameters.{Edit, IsVersionIn, Offers, edits_in, host_in, may_register_in, takes_related_in, text_in, uri_in}
+use Rattle.gqlls_run.specs.Layout.{IsFormattingIn, IsRangeFormattingIn, IsRefusalOf}
+use Rattle.gqlls_run.specs.Parameters.{Edit, IsVersionIn, Offers, asks_before_renaming_in, edits_in, host_in, may_register_in, takes_related_in, text_in}
+use Rattle.gqlls_run.specs.Parameters.{uri_in}
 use Rattle.gqlls_run.specs.Registration.{IsRegistration}
 use Rattle.gqlls_run.specs.Dialogue.{AreOthers, Dialogue, IsChanged, Sets}
 use Rattle.gqlls_run.specs.Told.{IsTold, Notifies}
@@ -30,21 +32,8 @@ Answers IsSuch (Notice body) = ⊥
 Answers IsSuch (Request body) = ⊥
 Answers IsSuch (Exit status) = ⊥
 
--- `PositionEncodingKind`
-abbrev pub encoding_name : PositionEncoding → List ℕ
-encoding_name Utf8 = codes "utf-8"
-encoding_name Utf16 = codes "utf-16"
-
--- an `InitializeResult` whose capabilities begin with how columns are counted
-abbrev pub announcement : PositionEncoding → Members → Members → Json
-announcement encoding capabilities others =
-    object (member (codes "capabilities") (object (member (codes "positionEncoding") (string (encoding_name encoding)) capabilities)) others)
-
-abbrev pub IsAnnounced : Json → PositionEncoding → List ℕ → Type 0
-IsAnnounced id encoding body = (capabilities others : Members) × IsResult id (announcement encoding capabilities others) body
-
 -- The conversation begins, and counts columns from then on as the answer says. No client has to offer UTF-16. The client says whether the server may
--- register for the events of files, and whether diagnostics may have related information.
+-- register for the events of files, whether diagnostics may have related information, and whether it asks before it changes a name.
 pub record Initializes (id params : Json) (reply : Reply) (old new : Dialogue) : Type 0 where
   pub dialogue : new ≡ record old {
     stage = Running;
@@ -53,7 +42,7 @@ pub record Initializes (id params : Json) (reply : Reply) (old new : Dialogue) :
     takes_related = takes_related_in params;
   }
   pub offered : new.encoding ≡ Utf8 → Offers params (codes "utf-8")
-  pub announced : Answers (IsAnnounced id new.encoding) reply
+  pub announced : Answers (IsAnnounced id new.encoding (asks_before_renaming_in params)) reply
 
 -- the answer to `shutdown`, after which only `exit` is heard
 pub record ShutsDown (id : Json) (reply : Reply) (old new : Dialogue) : Type 0 where
@@ -76,14 +65,21 @@ Formats id params dialogue body =
     MatchOption (uri_in params) (LacksDocument id body)
     (λ uri. MatchOption (dialogue.documents uri) (IsResult id json.null body) (λ file. IsFormattingIn dialogue.limits id file body))
 
+-- `textDocument/rangeFormatting`: the body has the layout of a part of that document
+abbrev pub FormatsRange : Json → Json → Dialogue → List ℕ → Type 0
+FormatsRange id params dialogue body =
+    MatchOption (uri_in params) (LacksDocument id body)
+    (λ uri. MatchOption (dialogue.documents uri) (IsResult id json.null body) (λ file. IsRangeFormattingIn dialogue.limits id file body))
+
 -- The outcome of a request, by the stage and the method: the conversation begins, or the request is refused as `ServerNotInitialized`; it is shut
--- down; or nothing changes, and a layout is the document's. After that each request is refused as `InvalidRequest`.
+-- down; or nothing changes, and a layout is the document's, or a part's. After that each request is refused as `InvalidRequest`.
 pub record IsAsked (id : Json) (method : List ℕ) (params : Json) (reply : Reply) (old new : Dialogue) : Type 0 where
   pub initialize : old.stage ≡ New → method ≡ codes "initialize" → Initializes id params reply old new
   pub too_early : old.stage ≡ New → method ≢ codes "initialize" → IsRefused id (neg_ℤ (pos 32002)) reply old new
   pub shutdown : old.stage ≡ Running → method ≡ codes "shutdown" → ShutsDown id reply old new
   pub others : old.stage ≡ Running → method ≢ codes "shutdown" → new ≡ old
   pub formatting : old.stage ≡ Running → method ≡ codes "textDocument/formatting" → Answers (Formats id params old) reply
+  pub range_formatting : old.stage ≡ Running → method ≡ codes "textDocument/rangeFormatting" → Answers (FormatsRange id params old) reply
   pub too_late : old.stage ≡ ShutDown → IsRefused id (neg_ℤ (pos 32600)) reply old new
 
 -- ---- notifications

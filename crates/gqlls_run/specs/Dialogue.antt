@@ -1,5 +1,5 @@
 -- What a client and the server have in common during a conversation.
-use Rattle.std.specs.Prelude.{◌≡◌, ◌≢◌, ◌↔◌, ◌⊎◌, ℕ, Bool, false, List, fold, Option, Some, None}
+use Rattle.std.specs.Prelude.{◌≡◌, ◌≢◌, ◌↔◌, ◌⊎◌, ℕ, Bool, false, List, fold, Option, Some, None, is_some, true}
 use Rattle.std.specs.List.{Contains}
 use Rattle.apollo_parser.specs.declared.Limits.{Limits}
 use Rattle.line_index.specs.Positions.{units}
@@ -7,14 +7,15 @@ use Rattle.line_index.specs.declared.PositionEncoding.{PositionEncoding}
 use Rattle.line_index.specs.declared.PositionEncoding.TheVariants.{Utf16}
 use Rattle.editor_text.specs.Client.{replaced}
 use Rattle.editor_validation.specs.Fragments.{Fragments}
+use Rattle.file_uris.specs.Uris.{normalized}
 use Rattle.gqlls_run.specs.Files.{OpenFile}
 use Rattle.gqlls_run.specs.Parameters.{Edit}
 use Rattle.gqlls_run.specs.declared.server.Stage.{Stage}
 use Rattle.gqlls_run.specs.declared.server.Stage.TheVariants.{New}
 
 -- How far the conversation is, how columns are counted, whether the server may register for the events of files, whether diagnostics may have related
--- information, and the limits of each parse; each file that the client has open, by its name, and the names of fragments in it; and those in files that are
--- not open, as far as the server has read them.
+-- information, and the limits of each parse; each file that the client has open, by its name, and the names of fragments in it; and those in files, as
+-- far as the server has read them, by the URIs of their paths.
 pub record Dialogue : Type 0 where
   pub stage : Stage
   pub encoding : PositionEncoding
@@ -62,16 +63,15 @@ pub record Learns (name : List ℕ) (names : Option Fragments) (old new : Dialog
   pub files : Updates name names old.files new.files
   pub others : without_files new ≡ without_files old
 
--- these are the names of fragments in all documents and files
-abbrev pub AreAll : (List ℕ → Option Fragments) → (List ℕ → Option Fragments) → List Fragments → Type 0
-AreAll fragments files all =
-    (names : Fragments) → Contains all names ↔ (((name : List ℕ) × (fragments name ≡ Some names)) ⊎ ((name : List ℕ) × (files name ≡ Some names)))
+-- A file is the client's own where an open document's URI names it, however that is spelled: it counts as the client has it.
+abbrev pub IsOwn : (List ℕ → Option Fragments) → List ℕ → Type 0
+IsOwn fragments name = (uri : List ℕ) × (is_some (fragments uri) ≡ true) × (normalized uri ≡ Some name)
 
--- the same but for one document
+-- these are the names of fragments in the open documents but one, and in the files that are no open document's own
 abbrev pub AreOthers : List ℕ → (List ℕ → Option Fragments) → (List ℕ → Option Fragments) → List Fragments → Type 0
 AreOthers uri fragments files others =
     (names : Fragments) → Contains others names ↔ (((name : List ℕ) × (name ≢ uri) × (fragments name ≡ Some names))
-    ⊎ ((name : List ℕ) × (files name ≡ Some names)))
+    ⊎ ((name : List ℕ) × (¬ IsOwn fragments name) × (files name ≡ Some names)))
 
 -- a text is the one before with some changes, each made by the client to the text that the one before it left
 pub record IsChanged (edits : List Edit) (old new : OpenFile) : Type 0 where

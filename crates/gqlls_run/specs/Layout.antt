@@ -83,3 +83,26 @@ IsFormattingOf limits id content body =
 -- the same of a file: one in another language stays as it is
 abbrev pub IsFormattingIn : Limits → Json → OpenFile → List ℕ → Type 0
 IsFormattingIn limits id file body = MatchOption file.host (IsFormattingOf limits id file.content body) (λ host. IsResult id null body)
+
+-- ---- the result of `textDocument/rangeFormatting`
+
+-- Edits, after which the client's text is the one before with another layout of a part.
+pub record IsPartEdited (limits : Limits) (content : Opened) (result : Json) : Type 0 where
+  pub text : List ℕ
+  pub formatted : IsPartLaidOut limits content.text text
+  pub edits : AreEditsOf content.encoding content.text text result
+
+-- such edits, or null where the text is left as it is
+abbrev pub IsRangeFormatting : Limits → Opened → Json → Type 0
+IsRangeFormatting limits content result = (result ≡ null) ⊎ IsPartEdited limits content result
+
+-- The body answers the request with this id by such a result, or refuses it: as `InvalidParams` where the message has no range, and as `RequestFailed` where
+-- the layout would be too long.
+abbrev pub IsRangeFormattingOf : Limits → Json → Opened → List ℕ → Type 0
+IsRangeFormattingOf limits id content body =
+    ((result : Json) × IsRangeFormatting limits content result × IsResult id result body)
+    ⊎ (IsRefusalOf id (neg_ℤ (pos 32602)) body ⊎ IsRefusalOf id (neg_ℤ (pos 32803)) body)
+
+-- the same of a file: one in another language stays as it is
+abbrev pub IsRangeFormattingIn : Limits → Json → OpenFile → List ℕ → Type 0
+IsRangeFormattingIn limits id file body = MatchOption file.host (IsRangeFormattingOf limits id file.content body) (λ host. IsResult id null body)

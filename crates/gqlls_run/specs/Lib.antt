@@ -1,3 +1,4 @@
+pub mod Announcement
 pub mod Conversation
 pub mod Layout
 pub mod Parameters

@@ -153,6 +153,18 @@ related_in params =
 abbrev pub takes_related_in : Json → Bool
 takes_related_in params = unwrap_or (related_in params) false
 
+-- `RenameClientCapabilities`
+abbrev pub renaming_in : Json → Option Json
+renaming_in capabilities = option_and_then (get (codes "rename")) (get (codes "textDocument") capabilities)
+
+abbrev pub prepared_in : Json → Option Bool
+prepared_in params =
+    option_and_then as_bool (option_and_then (get (codes "prepareSupport")) (option_and_then renaming_in (get (codes "capabilities") params)))
+
+-- whether the client asks, before it changes a name, whether it may be changed
+abbrev pub asks_before_renaming_in : Json → Bool
+asks_before_renaming_in params = unwrap_or (prepared_in params) false
+
 -- how a client says that it can count columns
 abbrev pub encodings_in : Json → Option (List Json)
 encodings_in capabilities = option_and_then (items_at (codes "positionEncodings")) (get (codes "general") capabilities)

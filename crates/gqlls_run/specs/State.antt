@@ -1,12 +1,15 @@
 -- What a server keeps of a conversation.
-use Rattle.std.specs.Prelude.{◌≡◌, ℕ, List, Option, option_map, string_bytes, unwrap_or}
-use Rattle.std.specs.BTreeMap.{BTreeMap, get_by_text}
+use Rattle.std.specs.Prelude.{◌≡◌, ◌↔◌, ◌⊎◌, ◌||◌, ℕ, Bool, false, List, Option, Some, bytes_eq, filter, map, not, option_map, string_bytes, unwrap_or}
+use Rattle.std.specs.BTreeMap.{BTreeMap, get_by_text, keys}
+use Rattle.std.specs.BTreeSet.{BTreeSet, contains_text}
+use Rattle.std.specs.List.{Contains, list_any}
 use Rattle.std.specs.declared.string.String.{String}
 use Rattle.json.specs.Json.{Json}
 use Rattle.apollo_parser.specs.Promise.{Promise}
 use Rattle.apollo_parser.specs.declared.Limits.{Limits}
 use Rattle.rpc_messages.specs.declared.reply.Reply.{Reply}
 use Rattle.editor_validation.specs.Fragments.{Fragments, as_fragments}
+use Rattle.file_uris.specs.Uris.{normalized}
 use Rattle.gqlls_run.specs.Conversation.{Steps}
 use Rattle.gqlls_run.specs.Dialogue.{Dialogue}
 use Rattle.gqlls_run.specs.Files.{IsSource, OpenFile}
@@ -39,6 +42,24 @@ files documents name = option_map file_of (get_by_text documents name)
 -- the names of their fragments
 abbrev pub names_in : {A : Type 0} → BTreeMap (String A) Document → List ℕ → Option Fragments
 names_in documents name = option_map names_of (get_by_text documents name)
+
+-- whether the file with this name is the one that a URI names
+abbrev pub is_of : List ℕ → List ℕ → Bool
+is_of name uri = unwrap_or (option_map (λ own. bytes_eq own name) (normalized uri)) false
+
+-- whether this document's URI names it, or an open one's does
+abbrev pub is_own : {A : Type 0} → List ℕ → BTreeMap (String A) Document → List ℕ → Bool
+is_own uri documents name = is_of name uri || list_any (is_of name) (map string_bytes (keys documents))
+
+-- these are the names of fragments in all open documents, and in the files that are not such
+abbrev pub AreBeside : (List ℕ → Option Fragments) → (List ℕ → Option Fragments) → (List ℕ → Bool) → List Fragments → Type 0
+AreBeside fragments files own all =
+    (names : Fragments) → Contains all names ↔ (((name : List ℕ) × (fragments name ≡ Some names))
+    ⊎ ((name : List ℕ) × (own name ≡ false) × (files name ≡ Some names)))
+
+-- the files but some
+abbrev pub entries_beside : {A B : Type 0} → BTreeSet (String B) → BTreeMap (String A) Document → List (String A × Document)
+entries_beside {A = A} own documents = filter (λ (entry : String A × Document). not (contains_text own (string_bytes entry.0))) documents.entries
 
 abbrev pub dialogue_of : Server → Dialogue
 dialogue_of server = record {

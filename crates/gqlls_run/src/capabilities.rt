@@ -1,15 +1,17 @@
 // What the server says that it does, and what it wants of the client.
-ghost use Rattle.std.specs.Prelude.{◌≡◌, [], ◌∷◌, ◌++◌, IfOk, List, OnOk, Some, flat_map};
-ghost use Rattle.json.specs.Tree.{HasNumbers};
+ghost use Rattle.std.specs.Prelude.{◌≡◌, ◌∷◌, ◌++◌, IfOk, OnOk, codes, drop, flat_map};
+ghost use Rattle.json.specs.Token.{key};
+ghost use Rattle.json.specs.Tree.{HasNumbers, json_tokens};
 ghost use Rattle.json.specs.Value.{value_view};
 ghost use Rattle.rpc_messages.specs.Messages.{IsAnswer, IsRequest};
-ghost use Rattle.rpc_messages.specs.Nesting.{EndsTwoObjects, after_all};
 ghost use Rattle.rpc_messages.specs.Pieces.{tokens_of};
-ghost use Rattle.rpc_messages.specs.declared.nesting.Expected.TheVariants.{Member};
-ghost use Rattle.rpc_messages.specs.declared.pieces.Piece.{Piece};
-ghost use Rattle.gqlls_run.specs.Conversation.{IsAnnounced, encoding_name};
+ghost use Rattle.line_index.specs.declared.PositionEncoding.TheVariants.{Utf16};
+ghost use Rattle.gqlls_run.specs.Announcement.{IsAnnounced, announcement, encoding_name, renaming};
+ghost use Rattle.gqlls_run.specs.Parameters.{asks_before_renaming_in};
 ghost use Rattle.gqlls_run.specs.Registration.{IsRegistration};
+ghost use Rattle.gqlls_run.specs.declared.capabilities.TheConstants.{VERSION};
 
+use crate::parameters::asks_before_renaming;
 use editor_answers::TOKEN_TYPES;
 use json::Value;
 use line_index::PositionEncoding;
@@ -148,7 +150,7 @@ fn encoding_name(encoding: PositionEncoding) -> &'static str
 
 // How names are changed, to clients that ask first or don't.
 fn renaming(asks_first: bool) -> &'static [Piece<'static>]
-    ensures { after_all (flat_map tokens_of result.now) (Some (Member ∷ Member ∷ [])) ≡ Some (Member ∷ Member ∷ []) }
+    ensures { flat_map tokens_of result.now ≡ key (codes "renameProvider") ∷ json_tokens (renaming asks_first) }
 {
     if asks_first {
         &PREPARED_RENAMING
@@ -157,29 +159,28 @@ fn renaming(asks_first: bool) -> &'static [Piece<'static>]
     }
 }
 
-// Adds what is served, and ends the result.
+// Adds what follows the encoding: what is served, and the end of the result. The encoding is in the first five tokens, so it may be any here.
 fn push_served(pieces: &mut Vec<Piece<'_>>, asks_first: bool) -> Result<(), AllocError>
-    ensures { OnOk result ((more : List Piece) × (pieces.new.items ≡ pieces.old.items ++ more) × EndsTwoObjects (flat_map tokens_of more)) }
+    ensures { OnOk result (flat_map tokens_of pieces.new.items
+        ≡ flat_map tokens_of pieces.old.items ++ drop 5 (json_tokens (announcement Utf16 asks_first VERSION.now))) }
 {
     pieces.extend_from_slice(renaming(asks_first))?;
     pieces.extend_from_slice(&SERVED)?;
-    for name in &TOKEN_TYPES {
-        pieces.extend_from_slice(&[Piece::Text(*name)])?;
-    }
+    pieces.extend_from_slice(&TOKEN_TYPES)?;
     pieces.extend_from_slice(&END)?;
     Ok(())
 }
 
-/// The answer to the first request: how columns are counted, and whether the client asks before it changes a name.
+/// The answer to the first request, by its parameters: how columns are counted, and what is served.
 pub(crate) fn answer_initialize(
     alloc: Global,
     id: &Value<'_>,
+    params: &Value<'_>,
     encoding: PositionEncoding,
-    asks_first: bool,
 ) -> Result<Vec<u8>, AllocError>
     requires { HasNumbers (value_view id.now) }
     ensures answers { IfOk result (λ body. IsAnswer (value_view id.now) body.items) }
-    ensures announces { IfOk result (λ body. IsAnnounced (value_view id.now) encoding body.items) }
+    ensures announces { IfOk result (λ body. IsAnnounced (value_view id.now) encoding (asks_before_renaming_in (value_view params.now)) body.items) }
 {
     let mut pieces = Vec::new(alloc);
     pieces.extend_from_slice(&[
@@ -189,7 +190,7 @@ pub(crate) fn answer_initialize(
         Piece::Key("positionEncoding"),
         Piece::Text(encoding_name(encoding)),
     ])?;
-    push_served(&mut pieces, asks_first)?;
+    push_served(&mut pieces, asks_before_renaming(params))?;
     // bound to a name, so that its clauses on `Ok` are found
     let body = answer(alloc, id, pieces.as_slice())?;
     Ok(body)

@@ -1,6 +1,8 @@
 // The open documents.
-ghost use Rattle.std.specs.Prelude.{◌≡◌, [], List, IfOk, MatchBool, None, OnOk, Some, false, length, map, option_map, string_bytes, true, unwrap_or};
+ghost use Rattle.std.specs.Prelude.{◌≡◌, ◌||◌, [], ℕ, List, IfOk, MatchBool, None, OnOk, Some, false, length, map, option_map, string_bytes, true, unwrap_or};
 ghost use Rattle.std.specs.BTreeMap.{IsOrdered, values};
+ghost use Rattle.std.specs.BTreeSet.{contains_text};
+ghost use Rattle.std.specs.Map.{values_of};
 ghost use Rattle.std.specs.String.{string_cmp};
 ghost use Rattle.apollo_parser.specs.Promise.{Promise};
 ghost use Rattle.editor_diagnostics.specs.Remarks.{as_remarked};
@@ -8,9 +10,9 @@ ghost use Rattle.editor_validation.specs.Fragments.{Fragments, as_fragments};
 ghost use Rattle.formatter.specs.Comments.{HasNoDefinitions};
 ghost use Rattle.rpc_messages.specs.Messages.{IsNotice};
 ghost use Rattle.gqlls_run.specs.Parameters.{told};
-ghost use Rattle.gqlls_run.specs.Dialogue.{AreAll, IsChanged, Updates};
+ghost use Rattle.gqlls_run.specs.Dialogue.{IsChanged, Updates};
 ghost use Rattle.gqlls_run.specs.Files.{IsSource};
-ghost use Rattle.gqlls_run.specs.State.{IsParsed, file_of, files, names_in, names_of, source_of};
+ghost use Rattle.gqlls_run.specs.State.{AreBeside, IsParsed, entries_beside, file_of, files, is_of, is_own, names_in, names_of, source_of};
 ghost use Rattle.gqlls_run.specs.Told.{AreRemarksOf, IsTold};
 
 use apollo_parser::{DocumentRoot, Limits, Parser, SyntaxNode, SyntaxTree};
@@ -18,11 +20,12 @@ use editor_diagnostics::{Positions, Remark, publication};
 use editor_text::{Change, OpenDocument, closed};
 use editor_validation::{FragmentNames, fragment_names, remarks};
 use embedded_documents::{HostLanguage, is_in_document, masked};
+use file_uris::normalized;
 use formatter::has_no_definitions;
 use line_index::PositionEncoding;
 use std::alloc::{AllocError, Global};
-use std::collections::BTreeMap;
 use std::collections::btree_map::Iter;
+use std::collections::{BTreeMap, BTreeSet};
 use std::iter::Chain;
 
 // The text of a file in another language with only what is in templates; none for one in GraphQL.
@@ -289,6 +292,50 @@ fn all_fragments<'d>(
     Ok(found)
 }
 
+// Adds the URI by which the file that a document's URI names is known, if it names one.
+fn add_own(alloc: Global, own: &mut BTreeSet<String>, uri: &str) -> Result<(), AllocError>
+    ensures { OnOk result ((name : List ℕ) → contains_text own.new name ≡ (is_of name uri.now || contains_text own.old name)) }
+{
+    if let Some(name) = normalized(alloc, uri)? {
+        own.insert(name)?;
+    }
+    Ok(())
+}
+
+// The URIs by which the files of this document and of the open ones are known.
+fn own_files(
+    alloc: Global,
+    documents: &BTreeMap<String, Document>,
+    uri: &str,
+) -> Result<BTreeSet<String>, AllocError>
+    ensures { IfOk result (λ own. (name : List ℕ) → contains_text own name ≡ is_own uri.now documents.now name) }
+{
+    let mut own = BTreeSet::new(alloc);
+    add_own(alloc, &mut own, uri)?;
+    for name in documents.keys() {
+        add_own(alloc, &mut own, name.as_str())?;
+    }
+    Ok(own)
+}
+
+// The names of the fragments of all files but some.
+fn file_fragments<'d>(
+    alloc: Global,
+    files: &'d BTreeMap<String, Document>,
+    own: &BTreeSet<String>,
+) -> Result<Vec<&'d FragmentNames>, AllocError>
+    ensures all { IfOk result (λ found. map (λ f. as_fragments f.now) found.items ≡ map names_of (values_of (entries_beside own.now files.now))) }
+    ensures ordered { IfOk result (λ found. IsOrdered string_cmp files.now) }
+{
+    let mut found = Vec::new(alloc);
+    for (name, document) in files.iter() {
+        if !own.contains(name.as_str()) {
+            found.push(&document.fragments)?;
+        }
+    }
+    Ok(found)
+}
+
 /// The notice of the remarks on a document beside others, by its name, the version that the client gave it, and whether the client takes related
 /// information.
 pub(crate) fn told_beside(
@@ -301,11 +348,12 @@ pub(crate) fn told_beside(
 ) -> Result<Vec<u8>, AllocError>
     ensures notifies { IfOk result (λ body. IsNotice body.items) }
     ensures told { IfOk result (λ body. (limits : Limits) → IsParsed limits document.now → (names : List Fragments)
-        × AreAll (names_in others.entry.opened.now) (names_in others.entry.files.now) names
+        × AreBeside (names_in others.entry.opened.now) (names_in others.entry.files.now) (is_own uri.now others.entry.opened.now) names
         × IsTold limits takes_related uri.now version (file_of document.now) (names_of document.now) names body.items) }
 {
     let mut names = all_fragments(alloc, others.opened)?;
-    let more = all_fragments(alloc, others.files)?;
+    let own = own_files(alloc, others.opened, uri)?;
+    let more = file_fragments(alloc, others.files, &own)?;
     names.extend_from_slice(more.as_slice())?;
     // bound to a name, so that its clauses on `Ok` are found
     let body = document.told(alloc, uri, version, names.as_slice(), takes_related)?;

@@ -4,23 +4,24 @@ ghost use Rattle.json.specs.Json.{null};
 ghost use Rattle.json.specs.Tree.{HasNumbers};
 ghost use Rattle.json.specs.Value.{value_view};
 ghost use Rattle.rpc_messages.specs.Messages.{IsAnswer, IsResult};
-ghost use Rattle.gqlls_run.specs.Layout.{IsFormattingIn, IsFormattingOf, IsLaidOut};
+ghost use Rattle.gqlls_run.specs.Layout.{IsFormattingIn, IsFormattingOf, IsLaidOut, IsRangeFormattingIn, IsRangeFormattingOf};
 ghost use Rattle.gqlls_run.specs.State.{file_of};
 
 use crate::documents::Document;
-use crate::layout::{Layout, formatted};
+use crate::layout::{Layout, format_part, formatted};
+use crate::parameters::span_of;
 use apollo_parser::Limits;
 use editor_diagnostics::Positions;
 use editor_edits::answer_edits;
 use json::Value;
-use rpc_messages::{Piece, answer, refusal};
+use rpc_messages::{Piece, answer, code, refusal};
 use std::alloc::{AllocError, Global};
 
 // `RequestFailed` of the Language Server Protocol.
 pub(crate) const REQUEST_FAILED: i64 = -32803;
 
-/// The answer to a request for a layout: the edits that make the new text, null where the text is left, and an error where the new one would be too long.
-pub(crate) fn answer_layout(
+// The answer to a request for a layout: the edits that make the new text, null where the text is left, and an error where the new one would be too long.
+fn answer_layout(
     alloc: Global,
     id: &Value<'_>,
     positions: &Positions<'_>,
@@ -87,4 +88,44 @@ pub(crate) fn answer_formatting(
         Some(_) => answer_null(alloc, id),
         None => answer_document(alloc, id, document, limits),
     }
+}
+
+// The answer to `textDocument/rangeFormatting` about a document in GraphQL, within limits.
+fn answer_range(
+    alloc: Global,
+    id: &Value<'_>,
+    document: &Document,
+    params: &Value<'_>,
+    limits: Limits,
+) -> Result<Vec<u8>, AllocError>
+    requires { HasNumbers (value_view id.now) }
+    ensures answers { IfOk result (λ body. IsAnswer (value_view id.now) body.items) }
+    ensures formats { IfOk result (λ body. IsRangeFormattingOf limits (value_view id.now) document.now.content body.items) }
+{
+    let positions = document.positions(alloc)?;
+    let Some(within) = span_of(&positions, params) else {
+        return refusal(alloc, id, code::INVALID_PARAMS, "no such place");
+    };
+    let layout = format_part(alloc, positions.text, document.root(), within, limits)?;
+    // bound to a name, so that its clauses on `Ok` are found
+    let body = answer_layout(alloc, id, &positions, &layout)?;
+    Ok(body)
+}
+
+/// The answer to `textDocument/rangeFormatting` about a document, within limits. A file in another language is left as it is.
+pub(crate) fn answer_range_formatting(
+    alloc: Global,
+    id: &Value<'_>,
+    document: &Document,
+    params: &Value<'_>,
+    limits: Limits,
+) -> Result<Vec<u8>, AllocError>
+    requires { HasNumbers (value_view id.now) }
+    ensures answers { IfOk result (λ body. IsAnswer (value_view id.now) body.items) }
+    ensures formats { IfOk result (λ body. IsRangeFormattingIn limits (value_view id.now) (file_of document.now) body.items) }
+{
+    if document.host.is_some() {
+        return answer_null(alloc, id);
+    }
+    answer_range(alloc, id, document, params, limits)
 }

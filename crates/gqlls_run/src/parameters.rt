@@ -7,7 +7,7 @@ ghost use Rattle.json.specs.Json.{string};
 ghost use Rattle.json.specs.Value.{value_view};
 ghost use Rattle.line_index.specs.declared.PositionEncoding.TheVariants.{Utf8};
 ghost use Rattle.gqlls_run.specs.Parameters.{IsVersionIn, Offers, OffersAll, number_at, position_at, position_in, range_in, text_in, uri_in};
-ghost use Rattle.gqlls_run.specs.Parameters.{changed_files, may_register_in, registration_in, name_in, names_at, opened_folders, related_in, root_in, takes_related_in};
+ghost use Rattle.gqlls_run.specs.Parameters.{asks_before_renaming_in, changed_files, may_register_in, prepared_in, registration_in, name_in, names_at, opened_folders, related_in, root_in, takes_related_in};
 ghost use Rattle.gqlls_run.specs.Files.{host_named};
 ghost use Rattle.gqlls_run.specs.Parameters.{each, edit_in, edits_in, extent_in, host_in, items_at, list_of, told};
 
@@ -400,13 +400,18 @@ pub(crate) fn markup_of(params: &Value<'_>) -> Markup {
     }
 }
 
-fn prepare_support(params: &Value<'_>) -> Option<bool> {
-    capability_of(params, "rename")?
-        .get("prepareSupport")?
-        .as_bool()
+// Whether a client asks before it changes a name, where it says so.
+fn prepared_of(params: &Value<'_>) -> Option<bool>
+    ensures { result ≡ prepared_in (value_view params.now) }
+{
+    let capabilities = params.get("capabilities")?;
+    let renaming = capabilities.get("textDocument")?.get("rename")?;
+    renaming.get("prepareSupport")?.as_bool()
 }
 
 /// Whether a client asks before it changes a name, whether it may be changed.
-pub(crate) fn asks_before_renaming(params: &Value<'_>) -> bool {
-    prepare_support(params) == Some(true)
+pub(crate) fn asks_before_renaming(params: &Value<'_>) -> bool
+    ensures { result ≡ asks_before_renaming_in (value_view params.now) }
+{
+    prepared_of(params).unwrap_or(false)
 }

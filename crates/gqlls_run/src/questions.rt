@@ -6,8 +6,7 @@ ghost use Rattle.rpc_messages.specs.Messages.{IsAnswer};
 
 use crate::completing::{call_around, push_completions};
 use crate::documents::{Document, Documents, Known};
-use crate::formatting::{REQUEST_FAILED, answer_layout, answer_null};
-use crate::layout::format_part;
+use crate::formatting::{REQUEST_FAILED, answer_null};
 use crate::naming::{Occurrence, Sought};
 use crate::parameters::{asks_for_definition, new_name_of, offset_of, offsets_of, span_of};
 use crate::signature::answer_signature;
@@ -29,7 +28,6 @@ pub(crate) enum Question {
     Folds,
     Selections,
     Tokens,
-    RangeFormatting,
     Definition,
     References,
     Highlight,
@@ -40,13 +38,12 @@ pub(crate) enum Question {
     Signature,
 }
 
-const QUESTIONS: [(&str, Question); 14] = [
+const QUESTIONS: [(&str, Question); 13] = [
     ("textDocument/documentSymbol", Question::Symbols),
     ("textDocument/foldingRange", Question::Folds),
     ("textDocument/selectionRange", Question::Selections),
     ("textDocument/semanticTokens/full", Question::Tokens),
     ("textDocument/semanticTokens/range", Question::Tokens),
-    ("textDocument/rangeFormatting", Question::RangeFormatting),
     ("textDocument/definition", Question::Definition),
     ("textDocument/references", Question::References),
     ("textDocument/documentHighlight", Question::Highlight),
@@ -307,21 +304,6 @@ impl<'a> Asked<'a, '_, '_> {
         }
     }
 
-    fn range_formatting(self, id: &Value<'_>) -> Result<Vec<u8>, AllocError>
-        requires { HasNumbers (value_view id.now) }
-        ensures { IfOk result (λ body. IsAnswer (value_view id.now) body.items) }
-    {
-        let Some(within) = span_of(self.positions, self.params) else {
-            return self.refused(id);
-        };
-        if self.document.host.is_some() {
-            return answer_null(self.alloc, id);
-        }
-        let text = self.positions.text;
-        let layout = format_part(self.alloc, text, self.root, within, self.limits)?;
-        answer_layout(self.alloc, id, self.positions, &layout)
-    }
-
     fn definition(self, id: &Value<'_>) -> Result<Vec<u8>, AllocError>
         requires { HasNumbers (value_view id.now) }
         ensures { IfOk result (λ body. IsAnswer (value_view id.now) body.items) }
@@ -500,7 +482,6 @@ impl<'a> Asked<'a, '_, '_> {
             Question::Folds => self.folds(id),
             Question::Selections => self.selections(id),
             Question::Tokens => self.tokens(id),
-            Question::RangeFormatting => self.range_formatting(id),
             Question::Definition => self.definition(id),
             Question::References => self.references(id),
             Question::Highlight => self.highlights(id),

@@ -5,7 +5,7 @@ ghost use Rattle.json.specs.Value.{value_view};
 ghost use Rattle.rpc_messages.specs.Messages.{IsAnswer};
 ghost use Rattle.rpc_messages.specs.Replies.{EndsOnlyIf, Replies};
 ghost use Rattle.rpc_messages.specs.declared.reply.Reply.TheVariants.{Answer};
-ghost use Rattle.gqlls_run.specs.Conversation.{Begins, Changes, Closes, Formats, IsAsked, IsHeard, Opens, Publishes, exit_status};
+ghost use Rattle.gqlls_run.specs.Conversation.{Begins, Changes, Closes, Formats, FormatsRange, IsAsked, IsHeard, Opens, Publishes, exit_status};
 ghost use Rattle.gqlls_run.specs.Dialogue.{Learns, begun};
 ghost use Rattle.gqlls_run.specs.Layout.{IsRefusalOf};
 ghost use Rattle.gqlls_run.specs.State.{IsParsed, StepsOf, dialogue_of, file_of};
@@ -13,10 +13,10 @@ ghost use Rattle.gqlls_run.specs.Told.{Keeps};
 
 use crate::capabilities::{answer_initialize, registration};
 use crate::documents::{Document, Documents, insert, told_beside};
-use crate::formatting::{answer_formatting, answer_null};
+use crate::formatting::{answer_formatting, answer_null, answer_range_formatting};
 use crate::parameters::{
-    asks_before_renaming, changes_of, encoding_of, host_of, markup_of, may_register, query_of,
-    takes_related, text_of, uri_of, version_of,
+    changes_of, encoding_of, host_of, markup_of, may_register, query_of, takes_related, text_of,
+    uri_of, version_of,
 };
 use crate::questions::{answer_question, question_of};
 use crate::searching::answer_search;
@@ -121,6 +121,26 @@ impl Server {
         }
     }
 
+    // The answer to a request for the layout of a part of an open document.
+    fn range_layout(
+        &self,
+        alloc: Global,
+        id: &Value<'_>,
+        params: &Value<'_>,
+    ) -> Result<Vec<u8>, AllocError>
+        requires { HasNumbers (value_view id.now) }
+        ensures answers { IfOk result (λ body. IsAnswer (value_view id.now) body.items) }
+        ensures formats { IfOk result (λ body. FormatsRange (value_view id.now) (value_view params.now) (dialogue_of self.now) body.items) }
+    {
+        let Some(uri) = uri_of(params) else {
+            return refused(alloc, id, code::INVALID_PARAMS, NO_DOCUMENT);
+        };
+        let Some(document) = self.documents.get(uri) else {
+            return answer_null(alloc, id);
+        };
+        answer_range_formatting(alloc, id, document, params, self.limits)
+    }
+
     // The answer to a question about an open document.
     fn answered(
         &self,
@@ -133,12 +153,17 @@ impl Server {
         ensures answers { IfOk result (λ body. IsAnswer (value_view id.now) body.items) }
         ensures formats { IfOk result (λ body. method.now ≡ codes "textDocument/formatting"
             → Formats (value_view id.now) (value_view params.now) (dialogue_of self.now) body.items) }
+        ensures formats_range { IfOk result (λ body. method.now ≡ codes "textDocument/rangeFormatting"
+            → FormatsRange (value_view id.now) (value_view params.now) (dialogue_of self.now) body.items) }
     {
         if method == "initialize" {
             return refused(alloc, id, code::INVALID_REQUEST, "initialized before");
         }
         if method == "textDocument/formatting" {
             return self.layout(alloc, id, params);
+        }
+        if method == "textDocument/rangeFormatting" {
+            return self.range_layout(alloc, id, params);
         }
         if method == "workspace/symbol" {
             return answer_search(alloc, id, self.known(), query_of(params));
@@ -322,7 +347,7 @@ impl Service for Server {
                 self.markup = markup_of(params);
                 self.may_register = may_register(params);
                 self.takes_related = takes_related(params);
-                answer_initialize(alloc, id, self.encoding, asks_before_renaming(params))
+                answer_initialize(alloc, id, params, self.encoding)
             }
             Stage::New => refused(alloc, id, code::NOT_INITIALIZED, "not initialized"),
             Stage::Running if method == "shutdown" => {

@@ -13,7 +13,7 @@ use Rattle.json.specs.Json.{Json, Items, Members}
 use Rattle.json.specs.Tree.{json_tokens, items_tokens, members_tokens}
 use Rattle.rpc_messages.specs.declared.nesting.Expected.{Expected}
 use Rattle.rpc_messages.specs.declared.nesting.Expected.TheVariants.{Value, Item, Member}
-use Rattle.rpc_messages.specs.Nesting.{EndsTwoObjects, after, after_all, after_key, after_items, after_members, after_value}
+use Rattle.rpc_messages.specs.Nesting.{after, after_all, after_key, after_items, after_members, after_value}
 use Rattle.rpc_messages.specs.Pieces.{number_token, tokens_of}
 use Rattle.rpc_messages.specs.declared.pieces.Piece.{Piece}
 
@@ -136,17 +136,6 @@ value_of ts h =
     let m : Means (Value ∷ []) ts = means ts (Value ∷ []) h in
     (m.0, m.2 ∙ ap (λ (x : List Token). json_tokens m.0 ++ x) m.3 ∙ append-nil (json_tokens m.0))
 
--- the members that end two objects
-pub two_objects : (ts : List Token) → EndsTwoObjects ts → (inner outer : Members) × (ts ≡ members_tokens inner ++ members_tokens outer)
-two_objects ts h =
-    let m : Means (Member ∷ Member ∷ []) ts = means ts (Member ∷ Member ∷ []) h in
-    let outer : Means (Member ∷ []) m.1 = m.3 in (
-      m.0,
-      outer.0,
-      m.2 ∙ ap (λ (x : List Token). members_tokens m.0 ++ x) (outer.2 ∙ ap (λ (x : List Token). members_tokens outer.0 ++ x) outer.3
-          ∙ append-nil (members_tokens outer.0)),
-    )
-
 -- ---- what comes is expected
 
 -- tokens of the parts of a value, with its end
@@ -206,9 +195,3 @@ one_more pieces k d first old new within so_far added =
     ∙ flat_map-append tokens_of (take k pieces) (piece ∷ []) ∙ ap (λ (x : List Token). flat_map tokens_of (take k pieces) ++ x) last in
     added ∙ ap (after_all (tokens_of piece)) so_far ∙ sym (after_both (flat_map tokens_of (take k pieces)) (tokens_of piece) first)
     ∙ ap (λ (x : List Token). after_all x first) (sym taken)
-
-pub nests_on : (more pieces : List Piece) (first middle last : Option Open) → after_all (flat_map tokens_of more) first ≡ middle
-    → after_all (flat_map tokens_of pieces) middle ≡ last → after_all (flat_map tokens_of (more ++ pieces)) first ≡ last
-nests_on more pieces first middle last so then =
-    ap (λ (x : List Token). after_all x first) (flat_map-append tokens_of more pieces)
-    ∙ after_both (flat_map tokens_of more) (flat_map tokens_of pieces) first ∙ ap (after_all (flat_map tokens_of pieces)) so ∙ then

@@ -54,7 +54,3 @@ after_all (t ∷ ts) state = after_all ts (option_and_then (after t) state)
 -- what is expected, the innermost first
 abbrev pub expected_in : Nesting → Option (List Expected)
 expected_in nesting = cond nesting.is_sound (Some (reverse nesting.expected.items)) None
-
--- the tokens end an object that is the value of a member, and then the object around it
-abbrev pub EndsTwoObjects : List Token → Type 0
-EndsTwoObjects ts = after_all ts (Some (Member ∷ Member ∷ [])) ≡ Some []

@@ -1,8 +1,10 @@
-use Rattle.std.proofs.Common.{◌≡◌, ◌∷◌, ◌∙◌, ℕ, List, refl, sym, ap, inl, arith}
+use Rattle.std.proofs.Common.{◌≡◌, [], ◌∷◌, ◌++◌, ◌∙◌, ℕ, List, Some, refl, sym, ap, arith}
+use Rattle.std.specs.Prelude.{codes}
 use Rattle.std.proofs.lemmas.List.Elements.{All-from_get_or}
 use Rattle.percent_encoding.specs.AsciiSet.{should_percent_encode}
-use Rattle.percent_encoding.specs.Percent.{percent_encode}
+use Rattle.percent_encoding.specs.Percent.{percent_decode, percent_encode}
 use Rattle.percent_encoding.proofs.PercentLemmas.{round_trip, IsByte}
+use Rattle.file_uris.specs.Uris.{path_of, uri_of}
 use Rattle.file_uris.specs.declared.TheConstants.{ESCAPED}
 use Rattle.file_uris.proofs.uri_of.Goals as goal
 
@@ -10,12 +12,16 @@ slash : (rest : List ℕ) → percent_encode ESCAPED (47 ∷ rest) ≡ 47 ∷ pe
 unfolding percent_encode should_percent_encode
 slash rest = refl
 
+spelled : (rest : List ℕ) → path_of (codes "file://" ++ (47 ∷ rest)) ≡ Some (percent_decode (47 ∷ rest))
+spelled rest = refl
+
+names : (path rest : List ℕ) → path ≡ 47 ∷ rest → percent_decode (percent_encode ESCAPED path) ≡ path → path_of (uri_of path) ≡ Some path
+names path rest begins decoded =
+    let begun : percent_encode ESCAPED path ≡ 47 ∷ percent_encode ESCAPED rest = ap (percent_encode ESCAPED) begins ∙ slash rest in
+    ap (λ (x : List ℕ). path_of (codes "file://" ++ x)) begun ∙ spelled (percent_encode ESCAPED rest)
+    ∙ ap (λ (x : List ℕ). Some (percent_decode x)) (sym begun) ∙ ap (λ (x : List ℕ). Some x) decoded
+
 pub returns-clause-names : goal.returns-clause-names
-returns-clause-names c = λ absolute. record {
-  spelled = percent_encode ESCAPED c.args.path.now;
-  spells = record {
-    hostless = inl (rw (c.in_ok-append_to.ensures.ok, c.in_ok-uri.ensures.ok, c.utf8_percent_encode.ensures.text) refl);
-    absolute = (percent_encode ESCAPED absolute.0, ap (percent_encode ESCAPED) absolute.1 ∙ slash absolute.0);
-  };
-  decoded = sym (round_trip _ _ refl (All-from_get_or IsByte c.args.path.now 0 (λ i within. omega (arith, c.type_inv.path i))));
-}
+returns-clause-names c = λ rest begins.
+    ap path_of c.in_ok-uri.ensures ∙ ap (λ (x : List ℕ). path_of (uri_of x)) c.as_bytes.ensures.value
+    ∙ names _ rest begins (round_trip _ _ refl (All-from_get_or IsByte c.args.path.now 0 (λ i within. omega (arith, c.type_inv.path i))))

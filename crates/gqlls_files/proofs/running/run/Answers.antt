@@ -19,7 +19,7 @@ returns-clause-ok g c =
     IfOk-weaker c.serve.result _ _ (λ status served. record {
       last = folder_dialogue_of c.serve.new.service;
       served =
-          served_of folder_dialogue_of (Steps g.F.Files.lists g.F.Files.reads) _ _ _ _ _ _ _
+          served_of folder_dialogue_of (Steps g.F.Files.lists g.F.Files.reads g.F.Files.locates) _ _ _ _ _ _ _
           (opens _ _ c.new.result c.new-server.result c.new.ensures c.new-server.ensures) status served;
     })
     c.serve.ensures.ok
@@ -29,7 +29,7 @@ returns-clause-err g c =
     IfErr-weaker c.serve.result _ _ (λ fault ends. record {
       last = folder_dialogue_of c.serve.new.service;
       ends =
-          fails_of folder_dialogue_of (Steps g.F.Files.lists g.F.Files.reads) _ _ _ _ _ _ _
+          fails_of folder_dialogue_of (Steps g.F.Files.lists g.F.Files.reads g.F.Files.locates) _ _ _ _ _ _ _
           (opens _ _ c.new.result c.new-server.result c.new.ensures c.new-server.ensures) fault ends;
     })
     c.serve.ensures.err

@@ -1,10 +1,15 @@
-use Rattle.std.proofs.Common.{refl, ◌∙◌, ◌++◌, ap}
+use Rattle.std.proofs.Common.{Bool, List, ap, refl, ◌∙◌, subst}
+use Rattle.std.specs.List.{flat_map}
+use Rattle.json.specs.Value.{value_view}
+use Rattle.rpc_messages.specs.Pieces.{tokens_of}
+use Rattle.gqlls_run.specs.Announcement.{IsAnnounced}
+use Rattle.gqlls_run.specs.declared.capabilities.TheConstants.{VERSION}
 use Rattle.gqlls_run.proofs.Announced.{announced}
 use Rattle.gqlls_run.proofs.capabilities.answer_initialize.Goals as goal
 
 pub returns-clause-announces : goal.returns-clause-announces
 returns-clause-announces c =
-    let served = c.in_ok-push_served.ensures in
-    announced _ c.args.encoding _ served.0 c.as_slice.result.now _
-    (c.as_slice.ensures.value ∙ served.1 ∙ ap (λ x. x ++ served.0) c.in_ok-extend_from_slice.ensures.items)
-    (rw (c.new-pieces.ensures.items, c.encoding_name.ensures) refl) served.2 c.in_ok-body.ensures.member
+    subst (λ (asks_first : Bool). IsAnnounced (value_view c.args.id.now) c.args.encoding asks_first c.in_ok-body.body.items) c.asks_before_renaming.ensures
+    (announced _ c.args.encoding c.asks_before_renaming.result VERSION.now (flat_map tokens_of c.extend_from_slice.new.self.items) _ _
+    (rw (c.in_ok-extend_from_slice.ensures.items, c.new-pieces.ensures.items, c.encoding_name.ensures) refl)
+    (ap (flat_map tokens_of) c.as_slice.ensures.value ∙ c.in_ok-push_served.ensures) c.in_ok-body.ensures.member)

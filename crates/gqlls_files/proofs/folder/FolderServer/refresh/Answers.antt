@@ -21,7 +21,7 @@ returns g c =
     let new = c.keep_file.new.self in
     let text = c.as_str-3.result.now in
     let errors = c.in_ok-errors.errors in
-    reads_on g.F.Files.lists g.F.Files.reads
+    reads_on g.F.Files.lists g.F.Files.reads g.F.Files.locates
     (kept c.drop_file.ensures
     (subst (λ (given : Result (List ℕ) Error). g.F.Files.reads old.files.files c.args.path.now given middle.files.files)
     (c.in-Some.ensures.given.2 ∙ ap (λ (bytes : List ℕ). Ok bytes) (sym c.as_str-3.ensures.value)) c.in-Some.ensures.given.1)

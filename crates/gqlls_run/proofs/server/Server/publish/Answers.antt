@@ -1,8 +1,8 @@
 use Rattle.std.proofs.Common.{refl, subst}
-use Rattle.gqlls_run.specs.Dialogue.{AreAll}
-use Rattle.gqlls_run.specs.State.{file_of, names_in, names_of}
+use Rattle.gqlls_run.specs.State.{AreBeside, file_of, is_own, names_in, names_of}
 use Rattle.gqlls_run.proofs.Maps.{updated}
-use Rattle.gqlls_run.proofs.Others.{again, beside}
+use Rattle.gqlls_run.proofs.Others.{again}
+use Rattle.gqlls_run.proofs.Own.{beside}
 use Rattle.gqlls_run.proofs.server.Server.publish.Goals as goal
 
 pub returns-clause-publishes : goal.returns-clause-publishes
@@ -11,8 +11,10 @@ returns-clause-publishes c =
     let files_without = updated file_of _ _ old c.remove.new.self _ _ refl c.remove.ensures.updates refl in
     let names_without = updated names_of _ _ old c.remove.new.self _ _ refl c.remove.ensures.updates refl in
     let told = c.in_ok-told.ensures.told c.args.self.now.limits c.requires in
-    let all = subst (λ documents. AreAll (names_in documents) (names_in c.args.self.now.files) told.0) c.known.ensures.opened
-    (subst (λ files. AreAll (names_in c.known.result.opened.now) (names_in files) told.0) c.known.ensures.files told.1) in
+    let uri = c.args.uri.now in
+    let known = c.known.result.opened.now in
+    let all = subst (λ documents. AreBeside (names_in documents) (names_in c.args.self.now.files) (is_own uri documents) told.0) c.known.ensures.opened
+    (subst (λ files. AreBeside (names_in known) (names_in files) (is_own uri known) told.0) c.known.ensures.files told.1) in
     record {
       fragments = names_of c.args.document;
       sets = record {
@@ -26,7 +28,7 @@ returns-clause-publishes c =
         limits = refl;
       };
       others = told.0;
-      elsewhere = beside _ _ _ _ _ told.0 names_without.this c.in_ok-insert.ensures.names all;
+      elsewhere = beside _ _ c.remove.new.self _ c.in_ok-insert.ensures.names _ told.0 names_without.this all;
       version = c.version_of.result;
       versioned = c.version_of.ensures;
       told = told.2;
