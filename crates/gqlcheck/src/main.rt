@@ -1,4 +1,4 @@
-//! `gqlcheck` checks GraphQL documents before they run: that each is a document, valid by the rules that need no schema, and within limits.
+//! `gqlcheck` checks GraphQL documents before they run: that each is a document, valid by the rules of `validate`, and within limits.
 //!
 //! Here are only the words, the standard devices and the exit status. What is done between them is `run` of `gqlcheck_run`.
 #![tactic(auto)]
