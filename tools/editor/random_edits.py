@@ -88,6 +88,7 @@ class Run:
 
 def at_their_offsets(text, errors):
     """Whether the errors are the first that gqlcst finds in each definition, up to the ends of their lines: a hundred at most, and then how many more there are.
+    An error belongs to the last definition that begins before it.
     A text without definitions, of white space, commas and comments alone, has none."""
     if answers.has_no_definitions(text.text):
         return not errors
@@ -96,7 +97,7 @@ def at_their_offsets(text, errors):
     starts = [int(start) for start in re.findall(rb"^    - \w+@(\d+)\.\.\d+$", report, re.MULTILINE)]
     first = {}
     for start, end in re.findall(rb'^- ERROR@(\d+):(\d+) "', report, re.MULTILINE):
-        first.setdefault(bisect.bisect(starts, int(start)), (int(start), int(start) + len(re.split(rb"[\r\n]", data[int(start):int(end)])[0])))
+        first.setdefault(bisect.bisect_left(starts, int(start)), (int(start), int(start) + len(re.split(rb"[\r\n]", data[int(start):int(end)])[0])))
     wanted = [text.range(*(text.boundary(len(data[:offset].decode())) for offset in part)) for part in list(first.values())[:100]]
     more = len(first) - 100
     if more > 0:
