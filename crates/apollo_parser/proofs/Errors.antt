@@ -234,14 +234,12 @@ pub errors-along : {taken : Bool} {answers : List Answer} {rs : List Report} →
 errors-along no_more [] z = parsed.no_more
 errors-along no_more (d ∷ ds) z = absurd z
 errors-along (bad_text {item = item} e h) (d ∷ ds) z =
-    parsed.bad_text e (record { subject = subject-is d.subject (at_text item.text) z.0.subject; index = z.0.index })
-    (is-fault-message item.text d.message z.0.message) (errors-along h ds z.1)
+    parsed.bad_text e (record { subject = subject-is d.subject (at_text item.text) z.0.subject; index = z.0.index }) (errors-along h ds z.1)
 errors-along (token_limit h) (d ∷ ds) z =
     let about = subject-limit d z.0.subject in
     parsed.token_limit (record { subject = about; index = z.0.index }) (record { subject = about; message = z.0.message }) (errors-along h ds z.1)
 errors-along (fault m {token_kind = k} {item = item} e i h) (d ∷ ds) z =
-    parsed.fault m e i (record { subject = subject-here (is_end k) d.subject item.text z.0.subject; index = z.0.index })
-    (z.0.message ∙ ap (message_text m) (sym z.0.subject)) (errors-along h ds z.1)
+    parsed.fault e i (record { subject = subject-here (is_end k) d.subject item.text z.0.subject; index = z.0.index }) (errors-along h ds z.1)
 errors-along (recursion_limit e i h) (d ∷ ds) z =
     let about = subject-limit d z.0.subject in
     parsed.recursion_limit e i (record { subject = about; index = z.0.index }) (record { subject = about; message = z.0.message }) (errors-along h ds z.1)

@@ -11,11 +11,8 @@ use Rattle.document_grammar.specs.Recovery.{children_of, LeftOver, Rowed, GoesOn
 use Rattle.document_grammar.specs.Leaves.{ignored}
 use Rattle.apollo_lexer.specs.declared.limit.LimitTracker.{LimitTracker}
 use Rattle.apollo_lexer.specs.Diagnostics.{of_text, of_end, of_limit, Subject, Diagnostic}
-use Rattle.apollo_lexer.specs.Faults.{IsFaultMessage}
 use Rattle.apollo_lexer.specs.LexErrors.{limit_message}
-pub use Rattle.parser_rules.specs.declared.message.Message.{Message}
-use Rattle.parser_rules.specs.Messages.{Text, message_text, recursion_limit_message}
-pub use Rattle.parser_state.specs.Found.{found_of}
+use Rattle.parser_rules.specs.Messages.{Text, recursion_limit_message}
 
 -- ---- what a parse gives
 
@@ -63,7 +60,7 @@ pub record IsAbout (what : Subject) (offset : ℕ) (error : Diagnostic) : Type 0
 abbrev pub subject_at : TokenKind → Text → Subject
 subject_at kind text = if is_end kind then of_end else of_text text
 
--- The errors of a lexer's answers, in their order. The grammar's errors are taken, or no longer are.
+-- The errors of a lexer's answers, in their order. The grammar's errors are taken, or no longer are. Which words tell what is wrong is not stated.
 pub data ErrorsAlong : Bool → List Answer → List Diagnostic → Type 0 where
   no_more :
       {taken : Bool}
@@ -73,7 +70,6 @@ pub data ErrorsAlong : Bool → List Answer → List Diagnostic → Type 0 where
       {taken : Bool} {item : Item} {answers : List Answer} {error : Diagnostic} {errors : List Diagnostic}
       → item.kind ≡ None
       → IsAbout (of_text item.text) item.index error
-      → IsFaultMessage item.text error.message
       → ErrorsAlong taken answers errors
       → ErrorsAlong taken (gives item ∷ answers) (error ∷ errors)
   -- the token limit has one where it is met, and none of the grammar's follows
@@ -83,13 +79,12 @@ pub data ErrorsAlong : Bool → List Answer → List Diagnostic → Type 0 where
       → IsTokenLimit error
       → ErrorsAlong false answers errors
       → ErrorsAlong taken (limit_at index ∷ answers) (error ∷ errors)
-  -- the grammar's are at significant tokens, with their texts, or at the end; the message is one of its list, and may quote what is there
+  -- the grammar's are at significant tokens, with their texts, or at the end
   fault :
-      (m : Message) {kind : TokenKind} {item : Item} {answers : List Answer} {error : Diagnostic} {errors : List Diagnostic}
+      {kind : TokenKind} {item : Item} {answers : List Answer} {error : Diagnostic} {errors : List Diagnostic}
       → item.kind ≡ Some kind
       → ignored kind ≡ None
       → IsAbout (subject_at kind item.text) item.index error
-      → error.message ≡ message_text m (found_of error.subject)
       → ErrorsAlong true (gives item ∷ answers) errors
       → ErrorsAlong true (gives item ∷ answers) (error ∷ errors)
   -- so is the recursion limit's, and none of the grammar's follows

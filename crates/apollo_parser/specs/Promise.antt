@@ -66,7 +66,7 @@ pub record Promise (source : Text) (max_depth max_items : ℕ) (t : Parsed) : Ty
   -- ---- the errors
 
   -- They go along the items: one for each bad text and for the token limit; the grammar's and the recursion limit's at significant tokens or
-  -- the end, and none of these after a limit's error. Each message is one of a list.
+  -- the end, and none of these after a limit's error. What their messages say is not stated.
   pub errors : ErrorsOf (limited max_items (items_of source)) t.errors
   -- there are at most three for each item that is read, and one more
   pub error_count : length t.errors ≤ 3 * min (length (items_of source)) max_items + 1
