@@ -23,7 +23,7 @@ no-fault (error.Cycle span) is = omega (arith, is)
 no-fault (error.Undefined span) is = omega (arith, is)
 no-fault error.Memory is = omega (arith, is)
 
-no-refusal : {source : List ℕ} {r k status : ℕ} → IsRefusal source r k status → status ≡ OK → ⊥
+pub no-refusal : {source : List ℕ} {r k status : ℕ} → IsRefusal source r k status → status ≡ OK → ⊥
 no-refusal (not_utf8 why) is = omega (arith, is)
 no-refusal (not_a_document why) is = omega (arith, is)
 no-refusal no_memory is = omega (arith, is)

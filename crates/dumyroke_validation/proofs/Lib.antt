@@ -2,3 +2,5 @@ pub mod Readings
 pub mod Reports
 pub mod Outcomes
 pub mod Again
+pub mod Distinct
+pub mod ViolationsAgain

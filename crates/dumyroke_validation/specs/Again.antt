@@ -4,8 +4,9 @@ use Rattle.apollo_parser.specs.Parsed.{Parsed}
 use Rattle.executable_document.specs.Definitions.{defined}
 use Rattle.operation_limits.specs.Measures.{AreMeasures, Measure}
 use Rattle.dumyroke_validation.specs.declared.rows.OperationRow.{OperationRow}
-use Rattle.dumyroke_validation.specs.Outcomes.{IsDocumentParse, root}
-use Rattle.dumyroke_validation.specs.Rows.{operation_row}
+use Rattle.definition_rules.specs.Violations.{Breach}
+use Rattle.dumyroke_validation.specs.Outcomes.{AreFound, IsDocumentParse, ViolationBuffers, root}
+use Rattle.dumyroke_validation.specs.Rows.{messages, operation_row, violation_rows}
 
 -- The buffer holds all figures of the text's operations.
 pub record HoldMeasures (source : List ℕ) (max_depth max_items : ℕ) (buffer : List OperationRow) : Type 0 where
@@ -14,3 +15,12 @@ pub record HoldMeasures (source : List ℕ) (max_depth max_items : ℕ) (buffer 
   pub measures : List Measure
   pub are_measures : AreMeasures (defined (root parsed)) measures
   pub is : buffer ≡ map operation_row measures
+
+-- The buffers hold all violations of the text, which has fewer of them than the bound.
+pub record HoldViolations (source : List ℕ) (max_depth max_items most : ℕ) (buffers : ViolationBuffers) : Type 0 where
+  pub parsed : Parsed
+  pub parse : IsDocumentParse source max_depth max_items parsed
+  pub breaches : List Breach
+  pub found : AreFound most (root parsed) breaches
+  pub violations : buffers.violations ≡ violation_rows 0 breaches
+  pub messages : buffers.messages ≡ messages breaches
