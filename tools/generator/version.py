@@ -7,10 +7,10 @@ from .layout import CRATES, TOP, mark
 
 # Each file with the text before its version and the text after it.
 PLACES = {
-    CRATES / "gqlcst/src/command.rt": ('pub const VERSION: &str = "gqlcst ', '\\n";'),
+    CRATES / "gqlcst_run/src/command.rt": ('pub const VERSION: &str = "gqlcst ', '\\n";'),
     CRATES / "gqlcheck_run/src/command.rt": ('pub const VERSION: &str = "gqlcheck ', '\\n";'),
     CRATES / "gqlfmt_run/src/command.rt": ('pub const VERSION: &str = "gqlfmt ', '\\n";'),
-    CRATES / "gqlls/src/command.rt": ('pub const VERSION: &str = "gqlls ', '\\n";'),
+    CRATES / "gqlls_files/src/command.rt": ('pub const VERSION: &str = "gqlls ', '\\n";'),
     CRATES / "gqlls_run/src/capabilities.rt": ('const VERSION: &str = "', '";'),
     TOP / "bindings/python/pyproject.toml": ('version = "', '"'),
     TOP / "bindings/python/dumyroke/__init__.py": ('__version__ = "', '"'),

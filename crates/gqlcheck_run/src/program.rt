@@ -90,7 +90,7 @@ pub fn run<A: Allocator + Copy, C: DocumentChecker, R: Source, W: Sink, E: Sink,
         (record { input = R.account reader.new; output = W.account writer.new; complaints = E.account complaints.new; files = files.new }) }
 {
     match options(alloc, words) {
-        Ok(Request::Print(page)) => print(writer, information_text(page)),
+        Ok(Request::Print(page)) => print(PROGRAM, writer, complaints, information_text(page)),
         Ok(Request::Process(plan)) => {
             let job = Job::of(alloc, checker, &plan);
             job.check(reader, writer, complaints, files, plan.files.as_slice())

@@ -1,14 +1,25 @@
--- What the program writes in each mode.
-use Rattle.std.specs.Prelude.{◌≡◌, ℕ, List}
+-- What a run of the program does, by the request in its words, and what it writes in each mode.
+use Rattle.std.specs.Prelude.{◌≡◌, ◌⊎◌, ℕ, List, [], Option, Some, None, Result}
+use Rattle.std.specs.List.{Contains}
+use Rattle.byte_devices.specs.Runs.{Reads, Writes}
+use Rattle.byte_devices.specs.declared.fault.Fault.{Fault}
 use Rattle.apollo_parser.specs.Cut.{Cut}
 use Rattle.apollo_parser.specs.Reads.{items_of}
 use Rattle.apollo_parser.specs.Answers.{limited}
 use Rattle.apollo_parser.specs.Diagnostics.{Diagnostic}
 use Rattle.gqlcst_run.specs.Parsing.{finding_of, IsFound}
 use Rattle.gqlcst_run.specs.Rendering.{AreLines, IsAnswerForm, IsVerdict, error_count}
+use Rattle.program_words.specs.Gqlcst.{request_of}
+use Rattle.program_words.specs.Streams.{OnlyExplains, OnlyPrints, OnlySays, Streams, no_memory}
+use Rattle.program_words.specs.declared.gqlfmt.Request.{Request}
+use Rattle.program_words.specs.declared.gqlfmt.Request.TheVariants.{Print, Process}
+use Rattle.program_words.specs.declared.information.Information.{Information}
+use Rattle.program_words.specs.declared.information.Information.TheVariants.{Help, Version}
 use Rattle.program_words.specs.declared.gqlcst.Mode.{Mode}
 use Rattle.program_words.specs.declared.gqlcst.Mode.TheVariants.{Check, Tokens, Tree}
 use Rattle.apollo_parser.specs.declared.Limits.{Limits}
+use Rattle.gqlcst_run.specs.Ending.{Says, status_of}
+use Rattle.gqlcst_run.specs.declared.command.TheConstants.{HELP, PROGRAM, USAGE, VERSION}
 use Rattle.gqlcst_run.specs.declared.finding.Finding.{Finding}
 
 -- What is written of a text in mode check: `clean`, or the errors that are found in it and their number.
@@ -32,3 +43,26 @@ abbrev pub IsOutput : Mode → Limits → List ℕ → Finding → List ℕ → 
 IsOutput Check limits text finding output = IsCheck limits text finding output
 IsOutput Tokens limits text finding output = IsTokens limits.tokens text finding output
 IsOutput Tree limits text finding output = IsTree limits text finding
+
+-- A text is read, what the mode shows of it is written, and why that failed is said.
+pub record ShowsInput (mode : Mode) (limits : Limits) (status : ℕ) (old new : Streams) : Type 0 where
+  pub ended : Result Finding Fault
+  pub input : List ℕ
+  pub reads : Reads ended input old.input new.input
+  pub writes : Writes (IsOutput mode limits) ended input old.output new.output
+  pub says : Says ended old.complaints new.complaints
+  pub counted : status ≡ status_of ended
+
+abbrev pub information_text : Information → List ℕ
+information_text Help = HELP.now
+information_text Version = VERSION.now
+
+-- What a run does for the request in its words. Where there is none, a word is wrong, or there is none.
+abbrev pub Does : List (List ℕ) → Option (Request (Mode × Limits)) → ℕ → Streams → Streams → Type 0
+Does words (Some (Print page)) status old new = OnlyPrints PROGRAM.now (information_text page) status old new
+Does words (Some (Process command)) status old new = ShowsInput command.0 command.1 status old new
+Does words None status old new = OnlyExplains PROGRAM.now USAGE.now (λ word. Contains words word ⊎ (word ≡ [])) status old new
+
+-- What a run does: that, or it says that memory was refused before the last of its words was read, and nothing else.
+abbrev pub Runs : List (List ℕ) → ℕ → Streams → Streams → Type 0
+Runs words status old new = Does words (request_of words) status old new ⊎ OnlySays (no_memory PROGRAM.now) status old new

@@ -1,24 +1,40 @@
-// What the program says at its end.
+// How a run over a text ends.
 ghost use Rattle.std.specs.Prelude.{◌≡◌};
-ghost use Rattle.gqlcst_run.specs.Ending.{status_of, complaint_of};
+ghost use Rattle.gqlcst_run.specs.Ending.{Says, complaint_of, status_of};
 
 use crate::finding::Finding;
-use byte_devices::Fault;
+use byte_devices::{Fault, Sink};
+use program_words::streams::say;
 
-/// How the program is called.
-pub const USAGE: &str = "usage: gqlcst check|tokens|tree [--recursion N] [--tokens N]";
-
-/// The status, and the text for standard error without its line feed. The text is empty where nothing is printed there.
-pub fn ending(ended: &Result<Finding, Fault>) -> (u8, &'static str)
-    ensures status { result.0 ≡ status_of ended.now }
-    ensures text { result.1.now ≡ complaint_of ended.now }
+// The status for a text alone.
+fn status_of(ended: &Result<Finding, Fault>) -> u8
+    ensures { result ≡ status_of ended.now }
 {
     match ended {
-        Ok(Finding::Clean) => (0, ""),
-        Ok(Finding::Errors(_)) => (1, ""),
-        Err(Fault::Read) => (2, "gqlcst: cannot read"),
-        Err(Fault::Utf8) => (2, "gqlcst: input is not UTF-8"),
-        Err(Fault::Memory) => (2, "gqlcst: out of memory"),
-        Err(Fault::Write) => (2, "gqlcst: cannot write"),
+        Ok(Finding::Clean) => 0,
+        Ok(Finding::Errors(_)) => 1,
+        Err(_) => 2,
     }
+}
+
+fn complaint_of(fault: Fault) -> &'static str
+    ensures { result.now ≡ complaint_of fault }
+{
+    match fault {
+        Fault::Read => "gqlcst: cannot read\n",
+        Fault::Utf8 => "gqlcst: input is not UTF-8\n",
+        Fault::Memory => "gqlcst: out of memory\n",
+        Fault::Write => "gqlcst: cannot write\n",
+    }
+}
+
+/// Says why a text has no finding, if it has none, and gives the status for it: 0 when it is clean, 1 when it has errors, and else 2.
+pub fn end<E: Sink>(complaints: &mut E, ended: &Result<Finding, Fault>) -> u8
+    ensures says { Says ended.now (E.account complaints.old) (E.account complaints.new) }
+    ensures counted { result ≡ status_of ended.now }
+{
+    if let Err(fault) = ended {
+        say(complaints, complaint_of(*fault));
+    }
+    status_of(ended)
 }

@@ -1,17 +1,33 @@
 // A run of the program: it reads, parses and writes.
 ghost use Rattle.std.specs.Prelude.{◌≡◌, List, ℕ, IfOk, OnErr};
-ghost use Rattle.gqlcst_run.specs.Buffering.{PutsSome};
 ghost use Rattle.byte_devices.specs.Runs.{Reads, Writes};
-ghost use Rattle.gqlcst_run.specs.Program.{IsOutput};
+ghost use Rattle.program_words.specs.Gqlfmt.{texts};
+ghost use Rattle.gqlcst_run.specs.Buffering.{PutsSome};
+ghost use Rattle.gqlcst_run.specs.Program.{IsOutput, Runs, information_text};
 
+use crate::command::{HELP, PROGRAM, USAGE, VERSION};
+use crate::ending::end;
 use crate::finding::Finding;
 use crate::output_buffer::OutputBuffer;
 use crate::parsing::{lexer, parse};
 use crate::rendering::{put_errors, put_tokens, put_tree};
 use apollo_parser::Limits;
 use byte_devices::{Fault, Sink, Source, read_to_end};
-use program_words::gqlcst::Mode;
+use program_words::gqlcst::{Mode, options};
+use program_words::gqlfmt::Request;
+use program_words::information::Information;
+use program_words::misuse::WordsError;
+use program_words::streams::{explain, print, say_no_memory};
 use std::alloc::{AllocError, Allocator};
+
+fn information_text(page: Information) -> &'static str
+    ensures { result.now ≡ information_text page }
+{
+    match page {
+        Information::Help => HELP,
+        Information::Version => VERSION,
+    }
+}
 
 // Puts what a mode shows of a text, and answers what was found. Mode tokens needs no parse. All memory that it takes is reserved before the
 // first byte is put.
@@ -45,8 +61,8 @@ fn put_output<A: Allocator + Copy, W: Sink>(
     }
 }
 
-/// Reads to the end, and then writes what the mode shows, a buffer at a time.
-pub fn run<A: Allocator + Copy, R: Source, W: Sink>(
+// Reads to the end, and then writes what the mode shows, a buffer at a time.
+fn process<A: Allocator + Copy, R: Source, W: Sink>(
     alloc: A,
     reader: &mut R,
     writer: &mut W,
@@ -64,4 +80,35 @@ pub fn run<A: Allocator + Copy, R: Source, W: Sink>(
     let finding = put_output(alloc, &mut buffer, writer, source, mode, limits)?;
     buffer.finish(writer)?;
     Ok(finding)
+}
+
+/// Carries out the request in the words after the program's name, and gives the status. It prints a page of the program, or reads a text to its end and then
+/// writes what the mode shows of it. The status is 0 when that is done and the text has no errors, 1 when it has some, and 2 when something could not be read
+/// or written, the text is not UTF-8, memory was refused, or the program is not called so. Then it says which.
+pub fn run<A: Allocator + Copy, R: Source, W: Sink, E: Sink>(
+    alloc: A,
+    reader: &mut R,
+    writer: &mut W,
+    complaints: &mut E,
+    words: &[&str],
+) -> u8
+    ensures { Runs (texts words.now) result
+        (record { input = R.account reader.old; output = W.account writer.old; complaints = E.account complaints.old })
+        (record { input = R.account reader.new; output = W.account writer.new; complaints = E.account complaints.new }) }
+{
+    match options(words) {
+        Ok(Request::Print(page)) => print(PROGRAM, writer, complaints, information_text(page)),
+        Ok(Request::Process((mode, limits))) => {
+            let ended = process(alloc, reader, writer, mode, limits);
+            end(complaints, &ended)
+        }
+        Err(WordsError::Usage(misuse)) => {
+            explain(alloc, PROGRAM, USAGE, complaints, misuse);
+            2
+        }
+        Err(WordsError::Memory) => {
+            say_no_memory(PROGRAM, complaints);
+            2
+        }
+    }
 }

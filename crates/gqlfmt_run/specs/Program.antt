@@ -5,6 +5,7 @@ use Rattle.byte_devices.specs.Runs.{Reads, Writes}
 use Rattle.byte_devices.specs.declared.fault.Fault.{Fault}
 use Rattle.program_words.specs.Complaints.{TellsOfFile}
 use Rattle.program_words.specs.Gqlfmt.{Run, request_of}
+use Rattle.program_words.specs.Misuse.{IsAmong}
 use Rattle.program_words.specs.Streams.{Streams, OnlyPrints, OnlySays, OnlyExplains, no_memory}
 use Rattle.program_words.specs.declared.complaints.FileFault.TheVariants.{NotRead}
 use Rattle.gqlfmt_files.specs.declared.settling.Mode.{Mode}
@@ -80,9 +81,9 @@ module _ {S : Type 0} (lists : S → List ℕ → Listing → S → Type 0) (omi
 
   -- What a run does for the request in its words. Where there is none, a word is wrong.
   abbrev pub Does : List (List ℕ) → Option (Request Run) → ℕ → State S → State S → Type 0
-  Does words (Some (Print page)) status old new = OnlyPrints (information_text page) status (streams old) (streams new) × (new.files ≡ old.files)
+  Does words (Some (Print page)) status old new = OnlyPrints PROGRAM.now (information_text page) status (streams old) (streams new) × (new.files ≡ old.files)
   Does words (Some (Process run)) status old new = Formats run.mode (bounds_of run) run.name run.files status old new
-  Does words None status old new = OnlyExplains PROGRAM.now USAGE.now words status (streams old) (streams new) × (new.files ≡ old.files)
+  Does words None status old new = OnlyExplains PROGRAM.now USAGE.now (IsAmong words) status (streams old) (streams new) × (new.files ≡ old.files)
 
   -- What a run does: that, or it says that memory was refused before the last of its words was read, and nothing else.
   abbrev pub Runs : List (List ℕ) → ℕ → State S → State S → Type 0

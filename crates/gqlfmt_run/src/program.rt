@@ -122,7 +122,7 @@ pub fn run<A: Allocator + Copy, L: DocumentFormatter, R: Source, W: Sink, E: Sin
         (record { input = R.account reader.new; output = W.account writer.new; complaints = E.account complaints.new; files = files.new }) }
 {
     match options(alloc, words) {
-        Ok(Request::Print(page)) => print(writer, information_text(page)),
+        Ok(Request::Print(page)) => print(PROGRAM, writer, complaints, information_text(page)),
         Ok(Request::Process(plan)) => {
             let job = Job {
                 alloc,

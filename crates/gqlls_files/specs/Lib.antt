@@ -1,2 +1,3 @@
 pub mod FolderDialogues
 pub mod State
+pub mod Program

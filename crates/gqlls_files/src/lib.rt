@@ -4,12 +4,12 @@
 //! and one of them again when the client says that it has changed or closes it: names are looked for in these files too. A file that is open counts as the
 //! client has it.
 //!
-//! `gqlls` calls `run`, which is a whole run within limits.
+//! `gqlls` calls `run`, which is a whole run by the words of its command line.
 #![tactic(auto)]
 
 mod bounds;
+mod command;
 mod folder;
 mod running;
 
-pub use gqlls_run::Limits;
 pub use running::run;

@@ -35,10 +35,12 @@ broken-second front more old new b = record {
 }
 
 -- the same, by the bytes that were written
+pub broken_page : (fault : Fault) (page bytes : List ℕ) (old new : Account) → bytes ≡ page → EndsWriting fault bytes old new → IsBroken page old new
+broken_page fault page bytes old new same ends = broken-off fault page old new (subst (λ (b : List ℕ). EndsWriting fault b old new) same ends)
+
 pub said_first : (fault : Fault) (front more bytes : List ℕ) (old new : Account) → bytes ≡ front → EndsWriting fault bytes old new
     → IsSaid (front ++ more) old new
-said_first fault front more bytes old new same ends =
-    inr (broken-first front more old new (broken-off fault front old new (subst (λ (b : List ℕ). EndsWriting fault b old new) same ends)))
+said_first fault front more bytes old new same ends = inr (broken-first front more old new (broken_page fault front bytes old new same ends))
 
 pub said_second : (front more bytes : List ℕ) (old middle new : Account) → bytes ≡ front → middle ≡ moved old bytes → IsSaid more middle new
     → IsSaid (front ++ more) old new

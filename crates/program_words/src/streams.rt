@@ -1,5 +1,6 @@
 // What a program writes about itself, and about the words that it is called with.
-ghost use Rattle.program_words.specs.Streams.{Explains, IsPrinted, IsSaid, no_memory};
+ghost use Rattle.std.specs.Prelude.{◌++◌};
+ghost use Rattle.program_words.specs.Streams.{Explains, IsPrinted, IsSaid, no_memory, no_output};
 
 use crate::misuse::Misuse;
 use byte_devices::{Sink, write_all};
@@ -12,24 +13,34 @@ pub fn say<E: Sink>(complaints: &mut E, text: &str)
     let _ = write_all(complaints, text.as_bytes());
 }
 
-/// Says that there is no memory for more, in the name of a program. It takes no memory itself.
+// Says something in the name of a program. It takes no memory.
 #[tactic(auto, using(crate::proofs::Saying::said_first))]
-pub fn say_no_memory<E: Sink>(program: &str, complaints: &mut E)
-    ensures { IsSaid (no_memory program.now) (E.account complaints.old) (E.account complaints.new) }
+fn say_of<E: Sink>(program: &str, complaints: &mut E, what: &str)
+    ensures { IsSaid (program.now ++ what.now) (E.account complaints.old) (E.account complaints.new) }
 {
     match write_all(complaints, program.as_bytes()) {
-        Ok(()) => say(complaints, ": out of memory\n"),
+        Ok(()) => say(complaints, what),
         Err(_) => {}
     }
 }
 
-/// Prints a page, and gives the status: 0, or 2 where the sink does not take all of it.
-pub fn print<W: Sink>(writer: &mut W, page: &str) -> u8
-    ensures { IsPrinted page.now result (W.account writer.old) (W.account writer.new) }
+/// Says that there is no memory for more, in the name of a program. It takes no memory itself.
+pub fn say_no_memory<E: Sink>(program: &str, complaints: &mut E)
+    ensures { IsSaid (no_memory program.now) (E.account complaints.old) (E.account complaints.new) }
+{
+    say_of(program, complaints, ": out of memory\n");
+}
+
+/// Prints a page of a program, and gives the status: 0, or 2 where the sink does not take all of it, which is said.
+pub fn print<W: Sink, E: Sink>(program: &str, writer: &mut W, complaints: &mut E, page: &str) -> u8
+    ensures { IsPrinted program.now page.now result (W.account writer.old) (W.account writer.new) (E.account complaints.old) (E.account complaints.new) }
 {
     match write_all(writer, page.as_bytes()) {
         Ok(()) => 0,
-        Err(_) => 2,
+        Err(_) => {
+            say_of(program, complaints, ": cannot write\n");
+            2
+        }
     }
 }
 

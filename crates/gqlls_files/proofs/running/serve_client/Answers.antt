@@ -8,7 +8,7 @@ use Rattle.gqlls_run.specs.declared.server.Server.{Server}
 use Rattle.gqlls_files.specs.FolderDialogues.{Steps, opening}
 use Rattle.gqlls_files.specs.State.{folder_dialogue_of}
 use Rattle.gqlls_files.specs.declared.folder.FolderServer.{FolderServer}
-use Rattle.gqlls_files.proofs.running.run.Goals as goal
+use Rattle.gqlls_files.proofs.running.serve_client.Goals as goal
 
 opens : {F : Type 0} (limits : Limits) (files : F) (server : Server) (service : FolderServer F) → dialogue_of server ≡ begun limits
     → folder_dialogue_of service ≡ record { dialogue = dialogue_of server; files = files } → folder_dialogue_of service ≡ opening limits files

@@ -3,7 +3,7 @@ use Rattle.std.proofs.lemmas.Result.{err_from_is_err_and}
 use Rattle.gqlcst_run.specs.Program.{IsOutput}
 use Rattle.byte_devices.proofs.Ends.{cut, whole}
 use Rattle.gqlcst_run.proofs.Buffers.{put-all}
-use Rattle.gqlcst_run.proofs.program.run.Goals as goal
+use Rattle.gqlcst_run.proofs.program.process.Goals as goal
 
 -- what the writer did where it failed or took no byte
 pub returns-in_err-finish : goal.returns-in_err-finish

@@ -1,13 +1,17 @@
 // What the program prints of itself.
 
+/// The name of the program, as its messages have it.
+pub const PROGRAM: &str = "gqlls";
+
 /// The version of the program.
 pub const VERSION: &str = "gqlls 0.1.0\n";
 
 /// How the program is called.
-pub const USAGE: &str = "usage: gqlls [--recursion N] [--tokens N] [--stdio]";
+pub const USAGE: &str = "usage: gqlls [--recursion N] [--tokens N] [--stdio]\n";
 
-/// What it does.
-pub const HELP: &str = "
+/// What it does, and its options.
+pub const HELP: &str = "usage: gqlls [--recursion N] [--tokens N] [--stdio]
+
 A language server for GraphQL. It reads requests from standard input and writes
 answers to standard output, as the Language Server Protocol 3.17 has them, so
 an editor starts it.

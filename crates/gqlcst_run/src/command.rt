@@ -1,10 +1,17 @@
 // What the program prints of itself.
 
+/// The name of the program, as its messages have it.
+pub const PROGRAM: &str = "gqlcst";
+
 /// The version of the program.
 pub const VERSION: &str = "gqlcst 0.1.0\n";
 
-/// What it does.
-pub const HELP: &str = "
+/// How the program is called.
+pub const USAGE: &str = "usage: gqlcst check|tokens|tree [--recursion N] [--tokens N]\n";
+
+/// What it does, and its options.
+pub const HELP: &str = "usage: gqlcst check|tokens|tree [--recursion N] [--tokens N]
+
 Reads a GraphQL document from standard input, and prints what the mode shows.
 
   check          clean, or its errors
