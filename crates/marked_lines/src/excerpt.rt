@@ -1,4 +1,7 @@
 // A line of a text with an offset in it marked.
+ghost use Rattle.std.specs.Prelude.{IfOk, string_bytes};
+ghost use Rattle.marked_lines.specs.Places.{BeginsWith};
+
 use crate::escaping::{column_count, columns_of, push_escaped};
 use std::alloc::{AllocError, Allocator};
 
@@ -8,7 +11,9 @@ const BEFORE: usize = 60;
 const AFTER: usize = 100;
 
 // As many columns of blanks as a character takes: a tab for a tab, so that what follows is below what follows the character.
-fn push_blank<A: Allocator>(text: &mut String<A>, c: char) -> Result<(), AllocError> {
+fn push_blank<A: Allocator>(text: &mut String<A>, c: char) -> Result<(), AllocError>
+    ensures { IfOk result (λ _. BeginsWith (string_bytes text.new) (string_bytes text.old)) }
+{
     if c == '\t' {
         return text.push('\t');
     }
@@ -19,7 +24,9 @@ fn push_blank<A: Allocator>(text: &mut String<A>, c: char) -> Result<(), AllocEr
 }
 
 // The same for some characters.
-fn push_blanks<A: Allocator>(text: &mut String<A>, part: &str) -> Result<(), AllocError> {
+fn push_blanks<A: Allocator>(text: &mut String<A>, part: &str) -> Result<(), AllocError>
+    ensures { IfOk result (λ _. BeginsWith (string_bytes text.new) (string_bytes text.old)) }
+{
     for c in part.chars() {
         push_blank(text, c)?;
     }
@@ -44,19 +51,24 @@ fn push_line<A: Allocator>(
     margin: &str,
     text: &str,
     end: &str,
-) -> Result<(), AllocError> {
+) -> Result<(), AllocError>
+    ensures { IfOk result (λ _. BeginsWith (string_bytes report.new) (string_bytes report.old)) }
+{
     report.push_str(margin)?;
     push_escaped(report, text)?;
     report.push_str(end)
 }
 
 // Below it a mark for each column of a text, at least one, after the blanks before them.
+#[tactic(auto, using(crate::proofs::Fronts::begins_through))]
 fn push_marks<A: Allocator>(
     report: &mut String<A>,
     margin: &str,
     before: &str,
     marked: &str,
-) -> Result<(), AllocError> {
+) -> Result<(), AllocError>
+    ensures { IfOk result (λ _. BeginsWith (string_bytes report.new) (string_bytes report.old)) }
+{
     push_blanks(report, margin)?;
     push_blanks(report, before)?;
     for _ in 0..column_count(marked).max(1) {
@@ -67,12 +79,15 @@ fn push_marks<A: Allocator>(
 
 /// Puts a line of a text at the end of a report, and below it a line that marks as many characters from the column on as are in `marked`.
 /// The column is in bytes. Of a long line the part around the column is shown, and nothing of an empty one.
+#[tactic(auto, using(crate::proofs::Fronts::begins_through))]
 pub fn push_excerpt<A: Allocator>(
     report: &mut String<A>,
     line: &str,
     column: usize,
     marked: &str,
-) -> Result<(), AllocError> {
+) -> Result<(), AllocError>
+    ensures { IfOk result (λ _. BeginsWith (string_bytes report.new) (string_bytes report.old)) }
+{
     if line.is_empty() {
         return Ok(());
     }

@@ -6,6 +6,7 @@
 
 ghost use Rattle.std.specs.Prelude.{◌≡◌, ◌≤◌, ◌++◌, IfOk, codes, length, string_bytes};
 ghost use Rattle.marked_lines.specs.Escaping.{shown};
+ghost use Rattle.marked_lines.specs.Places.{BeginsWith, place};
 
 mod escaping;
 mod excerpt;
@@ -25,6 +26,24 @@ pub struct Remark<'m> {
     pub marked: &'m str,
 }
 
+/// Puts `NAME:LINE:COLUMN: ` at the end of a report, for a byte offset of the text. Lines and columns count from 1, columns in characters. The name is
+/// escaped.
+pub fn push_place<A: Allocator>(
+    report: &mut String<A>,
+    name: &str,
+    index: &LineIndex<'_, A>,
+    offset: usize,
+) -> Result<(), AllocError>
+    requires { offset ≤ length index.now }
+    ensures { IfOk result (λ _. string_bytes report.new ≡ string_bytes report.old ++ place name.now index.now offset) }
+{
+    // in 128 bits, since no contract of an index says that one more fits in fewer
+    let line = index.line_column(offset).line as u128 + 1;
+    let column = index.column_in_chars(offset) as u128 + 1;
+    push_escaped(report, name)?;
+    write!(report, ":{line}:{column}: ")
+}
+
 /// Puts a line `NAME:LINE:COLUMN: MESSAGE` at the end of a report, and below it the line of the text that has the byte offset, with as many characters
 /// marked from the offset on as it has in common with `marked`, at least one. Lines and columns count from 1, columns in characters. Marks are below
 /// what they mark on a terminal, and characters that would not be seen there, or would move others, are escaped.
@@ -35,12 +54,9 @@ pub fn push_message<A: Allocator>(
     remark: &Remark<'_>,
 ) -> Result<(), AllocError>
     requires { remark.now.offset ≤ length index.now }
+    ensures { IfOk result (λ _. BeginsWith (string_bytes report.new) (string_bytes report.old ++ place name.now index.now remark.now.offset)) }
 {
-    let position = index.line_column(remark.offset);
-    let line = position.line.saturating_add(1);
-    let column = index.column_in_chars(remark.offset).saturating_add(1);
-    push_escaped(report, name)?;
-    write!(report, ":{line}:{column}: ")?;
+    push_place(report, name, index, remark.offset)?;
     push_escaped(report, remark.message.0)?;
     push_escaped(report, remark.message.1)?;
     push_escaped(report, remark.message.2)?;
@@ -49,7 +65,7 @@ pub fn push_message<A: Allocator>(
     push_excerpt(
         report,
         index.line_text(remark.offset),
-        position.column,
+        index.line_column(remark.offset).column,
         remark.marked,
     )
 }
@@ -77,7 +93,9 @@ pub fn push_more<A: Allocator>(
     report: &mut String<A>,
     name: &str,
     more: usize,
-) -> Result<(), AllocError> {
+) -> Result<(), AllocError>
+    ensures { IfOk result (λ _. BeginsWith (string_bytes report.new) (string_bytes report.old)) }
+{
     if more == 0 {
         return Ok(());
     }
