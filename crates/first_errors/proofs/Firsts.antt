@@ -1,12 +1,14 @@
 -- The first errors of a text.
-use Rattle.std.proofs.Common.{◌≡◌, ◌<◌, ◌+◌, ℕ, Bool, List, [], ◌∷◌, ◌++◌, append_assoc, cond, drop, get_or, inl, inr, length, map, take, ap, refl, sym, ◌∙◌}
+use Rattle.std.proofs.Common.{◌≡◌, ◌<◌, ◌≤◌, ◌+◌, ℕ, zero, suc, Bool, List, [], ◌∷◌, ◌++◌, append_assoc, cond, drop, get_or, inl, inr, length, map, take}
+use Rattle.std.proofs.Common.{ap, refl, sym, ◌∙◌, arith}
 use Rattle.std.specs.Prelude.{take_while}
 use Rattle.std.proofs.lemmas.Bool.{cases_Bool}
 use Rattle.std.proofs.lemmas.List.{drop-map, drop_more, map-append, take-map}
 use Rattle.std.proofs.lemmas.List.Sums.{take_while-cons}
 use Rattle.apollo_parser.specs.Diagnostics.{Diagnostic}
-use Rattle.first_errors.specs.First.{firsts}
-use Rattle.first_errors.specs.Groups.{Group, group_of, groups, is_earlier}
+use Rattle.apollo_parser.specs.Order.{Place}
+use Rattle.first_errors.specs.First.{IsFirst, firsts}
+use Rattle.first_errors.specs.Groups.{Group, definition_starts, group_of, groups, is_earlier}
 
 -- At most that number of them are kept.
 pub cut : {X Y : Type 0} (h : X → Y) (most : ℕ) (items kept : List X) (all : List Y) → kept ≡ take most items → map h items ≡ all
@@ -24,6 +26,41 @@ taken_while {X = X} p (x ∷ xs) = elim (cases_Bool (p x)) [
       let it : take_while p (x ∷ xs) ≡ [] = take_while-cons p x xs ∙ ap (λ (b : Bool). cond b (x ∷ take_while p xs) []) fails in
       ap (λ (ys : List X). take (length ys) (x ∷ xs)) it ∙ sym it
 ]
+
+-- ---- the first of them
+
+-- The first error of the first definition that has one is the first of all.
+first_of_firsts : (starts : List ℕ) (errors : List Diagnostic) → take 1 (firsts (groups starts errors)) ≡ take 1 errors
+first_of_firsts [] [] = refl
+first_of_firsts [] (e ∷ es) = refl
+first_of_firsts (s ∷ ss) [] = first_of_firsts ss []
+first_of_firsts (s ∷ ss) (e ∷ es) =
+    let all = e ∷ es in
+    let shown = λ (these : List Diagnostic). take 1 (firsts (group_of these ++ groups ss (drop (length these) all))) in
+    elim (cases_Bool (is_earlier s e)) [
+      | inl is ↦
+          let these : take_while (is_earlier s) all ≡ e ∷ take_while (is_earlier s) es =
+          take_while-cons (is_earlier s) e es ∙ ap (λ (b : Bool). cond b (e ∷ take_while (is_earlier s) es) []) is in
+          ap shown these
+      | inr not ↦
+          let these : take_while (is_earlier s) all ≡ [] =
+          take_while-cons (is_earlier s) e es ∙ ap (λ (b : Bool). cond b (e ∷ take_while (is_earlier s) es) []) not in
+          ap shown these ∙ first_of_firsts ss all
+    ]
+
+first_of_some : {X : Type 0} (most : ℕ) (xs : List X) → 1 ≤ most → take 1 (take most xs) ≡ take 1 xs
+first_of_some zero xs some = absurd (omega (arith, some))
+first_of_some (suc most) [] some = refl
+first_of_some (suc most) (x ∷ xs) some = refl
+
+-- Where at least one error may be shown, the first that is shown is the first of all.
+pub first_shown : (document : Place) (errors : List Diagnostic) (most : ℕ) (shown : List Diagnostic) (more : ℕ) → 1 ≤ most
+    → IsFirst document errors most shown more → take 1 shown ≡ take 1 errors
+first_shown document errors most shown more some is =
+    ap (take 1) is.first ∙ first_of_some most (firsts (groups (definition_starts document) errors)) some
+    ∙ first_of_firsts (definition_starts document) errors
+
+-- ---- all of them
 
 -- One definition more.
 pub next : {X : Type 0} (h : X → Diagnostic) (starts : List ℕ) (i d start count : ℕ) (errors these later : List X) (found found' whole : List Diagnostic)

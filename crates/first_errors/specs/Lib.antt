@@ -1,3 +1,4 @@
 pub mod First
 pub mod Groups
+pub mod Places
 pub mod Words

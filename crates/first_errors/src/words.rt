@@ -1,5 +1,7 @@
 // An error as people see it: its words, and where it is.
 ghost use Rattle.std.specs.Prelude.{◌≡◌, ◌++◌, ◌≤◌, length};
+ghost use Rattle.apollo_parser.specs.Errors.{error_of};
+ghost use Rattle.first_errors.specs.Places.{shown_at};
 ghost use Rattle.first_errors.specs.Words.{IsForPeople, IsReplaced};
 
 use apollo_parser::BorrowedError;
@@ -41,7 +43,8 @@ pub fn for_people(message: &str) -> (&'static str, &str)
 
 /// The byte offset at which an error is shown. One at the end of the text is shown after its last character that is no white space.
 pub fn shown_at(source: &str, error: &BorrowedError<'_>) -> usize
-    ensures { result ≤ length source.now }
+    ensures value { result ≡ shown_at source.now (error_of error.now) }
+    ensures within { result ≤ length source.now }
 {
     let offset = if error.is_eof() {
         source.trim_end().len()
