@@ -8,9 +8,11 @@ usage() {
 usage: ./do COMMAND
 
   quick              the checks that need no proof, in some eight seconds: generated files, names of rules, texts, promises
+  generate           writes all files that are generated
+  affected [CRATE..] says which crates have to be proved again since the last commit, or after a change of these crates, and how long that takes
   check CRATE [..]   proves one crate over what earlier checks left (rt check); further words go to rt check
   try CRATE [..]     runs a program, or with --test a crate's tests, and proves nothing (rt try)
-  edits [CRATE..]    tries all edits that must fail, those that the gate leaves out as well (rt must-fail)
+  edits [CRATE..]    tries the edits that must fail, those that the gate leaves out as well, of these crates (rt must-fail) or of all (rt ci)
   quick-bindings     makes the library for C without a proof, in a minute, and runs its tests and those of Rust and Python
   gate               what a merge has to pass: quick, rt ci, and test
   fresh              the gate in a bare Debian that has the kit, Python, gcc and git alone, with a network and without one: before a commit that
@@ -33,14 +35,31 @@ jobs_here() {
     echo "$jobs"
 }
 
+# Runs a check. Where it fails, says what mends it, and lets the others go on.
+must() {
+    local mend=$1
+    shift
+    "$@" || { echo "./do quick: $* failed. $mend" >&2; failed=1; }
+}
+
 quick() {
-    tools/generate --check
-    tools/generate --test
-    tools/rule_names
-    tools/format_texts --check
-    tools/promises --check
-    tools/words
-    tools/lint
+    failed=0
+    must "Run ./do generate." tools/generate --check
+    must "Change the generator or its input as it says." tools/generate --test
+    must "Put the crates of crates.txt in order, or run ./do generate." tools/crates --check
+    must "Give the function the name of its rule." tools/rule_names
+    must "Run ./do generate." tools/format_texts --check
+    must "Run ./do generate, or mend the page or the list that it names." tools/promises --check
+    must "Write the sentence in other words." tools/words
+    must "Mend the Python." tools/lint
+    return $failed
+}
+
+generate() {
+    tools/generate
+    tools/crates
+    tools/format_texts
+    tools/promises
 }
 
 tests() {
@@ -66,7 +85,8 @@ quick_bindings() {
     tools/bindings test-quick
 }
 
-# In a copy, where a crate's edits/ are in its must-fail/ with those of the gate.
+# In a copy, where a crate's edits/ are in its must-fail/ with those of the gate. All of them are tried by rt ci, which takes what the gate has proved and tries
+# as many at a time as there are processors.
 all_edits() {
     copy=$(mktemp -d)
     trap 'rm -rf "$copy"' EXIT
@@ -77,7 +97,11 @@ all_edits() {
     done
     cd "$copy"
     git init --quiet
-    rt must-fail "$@"
+    if [ $# -eq 0 ]; then
+        RT_JOBS="${RT_JOBS:-$(jobs_here)}" rt ci
+    else
+        rt must-fail "$@"
+    fi
 }
 
 # The folder of a crate, which is the first word.
@@ -90,6 +114,8 @@ command=${1:-}
 [ $# -eq 0 ] || shift
 case $command in
     quick) quick ;;
+    generate) generate ;;
+    affected) exec tools/affected "$@" ;;
     edits) all_edits "$@" ;;
     quick-bindings) quick_bindings ;;
     check) enter "$@"; shift; exec rt check "$@" ;;

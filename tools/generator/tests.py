@@ -28,7 +28,7 @@ WORDS = "tools/generator/typed_docs.py"
 # The crates that have generated files.
 WRITTEN = (
     *("document_grammar", "grammar_machine", "parser_rules", "apollo_grammar", "apollo_document", "apollo_parser", "gqlcst_run", "gqlfmt_run", "gqlcheck_run"),
-    *("apollo_tree", "definition_rules", "dumyroke_flat", "dumyroke_validation", "gqlcst", "gqlls", "gqlls_run", "schema_members", *(path.name for path in CRATES.glob("apollo_cst_*"))),
+    *("apollo_tree", "definition_rules", "dumyroke_flat", "dumyroke_validation", "gqlls_files", "gqlls_run", "schema_members", *(path.name for path in CRATES.glob("apollo_cst_*"))),
 )
 
 # The file with the mistake, a text that is in it once, what is there in its place, and the message.
