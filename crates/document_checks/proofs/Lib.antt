@@ -1,3 +1,4 @@
+pub mod Found
 pub mod Measuring
 pub mod Verdicts
 pub mod Texts

@@ -1,10 +1,11 @@
 -- When the operations of a document are within limits.
-use Rattle.std.proofs.Common.{◌≡◌, ◌≢◌, ℕ, ◌≤◌, Bool, true, false, List, [], ◌∷◌, map, refl, sym, ap, ap₂, ◌∙◌, subst, arith, get_or, cond}
-use Rattle.std.proofs.Common.{Option, Some, None, ltb}
+use Rattle.std.proofs.Common.{◌≡◌, ◌≢◌, ℕ, ◌≤◌, Bool, true, false, List, [], ◌∷◌, ◌++◌, map, refl, sym, ap, ap₂, ◌∙◌, subst, arith, get_or, cond}
+use Rattle.std.proofs.Common.{◌+◌, ◌<◌, Option, Some, None, ltb, eqb, eqb-true, eq-eqb, length, take}
 use Rattle.std.specs.Prelude.{◌↔◌, All, find}
 use Rattle.std.specs.List.{filter}
 use Rattle.std.proofs.lemmas.Bool.Decides.{nat_tests}
-use Rattle.std.proofs.lemmas.List.Elements.{All-get_or}
+use Rattle.std.proofs.lemmas.List.{map-append, take_more}
+use Rattle.std.proofs.lemmas.List.Elements.{All-append, All-cons, All-get_or, All-head, All-nil, All-same, All-tail}
 use Rattle.apollo_tree.specs.Order.{Place}
 use Rattle.executable_document.specs.Definitions.{Defined, as_defined, defined}
 use Rattle.expansion_figures.specs.declared.figures.Figures.{Figures}
@@ -50,9 +51,6 @@ none_of_twins ds a b ms m t =
 pub fails : {P : Type 0} (passes : Bool) → passes ≡ false → (P → ⊥) → (passes ≡ true) ↔ P
 fails passes is not = (λ e. absurd (let r : ⊥ = cc in r), λ p. absurd (not p))
 
-pub holds : {P : Type 0} (passes : Bool) → passes ≡ true → P → (passes ≡ true) ↔ P
-holds passes is p = (λ e. p, λ q. is)
-
 no_figures : (asked : Asked) (document : Place) (e : MeasureError) → e ≢ Memory → IsMeasureError (defined document) e → AreWithin asked document → ⊥
 no_figures asked document (SameName a b) other error w = none_of_twins (defined document) (as_defined a) (as_defined b) w.measures w.figures error
 no_figures asked document (Cycle span) other error w = no_cycle error.0 span w.figures.figures_are error.1 error.2
@@ -93,13 +91,45 @@ exceeds measures limits e x all =
     (found (λ l. ltb (figure_of l limits) (figure_of l x.measure.figures)) limits_in_order e.limit x.limit_is)
     (m e.limit)
 
-pub all_within : (measures : List Measure) (limits : Figures) (passes : Bool) → passes ≡ true → All (IsWithin limits) measures
-    → (passes ≡ true) ↔ All (IsWithin limits) measures
-all_within measures limits passes is all = holds passes is all
+-- ---- one operation after the other
 
-pub one_exceeds : (measures : List Measure) (limits : Figures) (e : Exceeded) (passes : Bool) → passes ≡ false → IsExceeded measures limits e
-    → (passes ≡ true) ↔ All (IsWithin limits) measures
-one_exceeds measures limits e passes is x = fails passes is (exceeds measures limits e x)
+all_front : (P : Measure → Type 0) (xs ys : List Measure) → All P (xs ++ ys) → All P xs
+all_front P [] ys all = All-nil P
+all_front P (x ∷ xs) ys all = All-cons P x xs (All-head P x (xs ++ ys) all) (all_front P xs ys (All-tail P x (xs ++ ys) all))
+
+all_last : (P : Measure → Type 0) (xs : List Measure) (y : Measure) → All P (xs ++ y ∷ []) → P y
+all_last P [] y all = All-head P y [] all
+all_last P (x ∷ xs) y all = all_last P xs y (All-tail P x (xs ++ y ∷ []) all)
+
+one_more : {X : Type 0} (measure_of : X → Measure) (xs : List X) (i : ℕ) (x : X) → i < length xs → x ≡ get_or xs i x
+    → map measure_of (take (i + 1) xs) ≡ map measure_of (take i xs) ++ measure_of x ∷ []
+one_more measure_of xs i x inside is =
+    ap (map measure_of) (take_more xs i x inside) ∙ map-append measure_of (take i xs) (get_or xs i x ∷ [])
+    ∙ ap (λ y. map measure_of (take i xs) ++ measure_of y ∷ []) (sym is)
+
+-- one more is within the limits
+pub within_more : {X : Type 0} (measure_of : X → Measure) (limits : Figures) (xs : List X) (i count count' : ℕ) (x : X) → i < length xs
+    → x ≡ get_or xs i x → count' ≡ count → (count ≡ 0) ↔ All (IsWithin limits) (map measure_of (take i xs))
+    → All (IsWithin limits) (measure_of x ∷ []) → (count' ≡ 0) ↔ All (IsWithin limits) (map measure_of (take (i + 1) xs))
+within_more measure_of limits xs i count count' x inside is same iff one =
+    let front = map measure_of (take i xs) in
+    let last = measure_of x ∷ [] in
+    let more = one_more measure_of xs i x inside is in (
+      λ none. All-same (IsWithin limits) _ _ more (All-append (IsWithin limits) front last (iff.0 (sym same ∙ none)) one),
+      λ all. same ∙ iff.1 (all_front (IsWithin limits) front last (All-same (IsWithin limits) _ _ (sym more) all)),
+    )
+
+-- one more exceeds one of them
+pub exceeds_more : {X : Type 0} (measure_of : X → Measure) (limits : Figures) (xs : List X) (i count : ℕ) (x : X) (e : Exceeded) → i < length xs
+    → x ≡ get_or xs i x → IsExceeded (measure_of x ∷ []) limits e → 0 < count
+    → (count ≡ 0) ↔ All (IsWithin limits) (map measure_of (take (i + 1) xs))
+exceeds_more measure_of limits xs i count x e inside is exceeded some =
+    let last = measure_of x in
+    let all_of = All-same (IsWithin limits) _ _ (sym (one_more measure_of xs i x inside is)) in (
+      λ none. absurd (omega (arith, some, none)),
+      λ all. absurd (exceeds (last ∷ []) limits e exceeded
+          (All-cons (IsWithin limits) last [] (all_last (IsWithin limits) (map measure_of (take i xs)) last (all_of all)) (All-nil (IsWithin limits)))),
+    )
 
 -- ---- the operations that are wanted
 
@@ -108,14 +138,14 @@ pub missing : (asked : Asked) (ms : List Measure) (passes : Bool) → filter (is
     → (passes ≡ true) ↔ IsChosenWithin asked ms
 missing asked ms passes none named is = fails passes is (λ w. w.there named none)
 
--- it is there, or none is named
-pub judged : (asked : Asked) (ms chosen : List Measure) (passes : Bool) → chosen ≡ filter (is_chosen asked.operation) ms
-    → (asked.operation ≢ None → chosen ≢ []) → (passes ≡ true) ↔ All (IsWithin asked.most) chosen
+-- It is there, or none is named. There is nothing to report exactly if all are within the limits.
+pub judged : (asked : Asked) (ms chosen : List Measure) (count : ℕ) (passes : Bool) → chosen ≡ filter (is_chosen asked.operation) ms
+    → (asked.operation ≢ None → chosen ≢ []) → passes ≡ eqb count 0 → (count ≡ 0) ↔ All (IsWithin asked.most) chosen
     → (passes ≡ true) ↔ IsChosenWithin asked ms
-judged asked ms chosen passes same there iff = (
+judged asked ms chosen count passes same there is iff = (
   λ e. record {
-    within = subst (λ (xs : List Measure). All (IsWithin asked.most) xs) same (iff.0 e);
+    within = subst (λ (xs : List Measure). All (IsWithin asked.most) xs) same (iff.0 (eqb-true count 0 (sym is ∙ e)));
     there = λ named empty. there named (same ∙ empty);
   },
-  λ w. iff.1 (subst (λ (xs : List Measure). All (IsWithin asked.most) xs) (sym same) w.within),
+  λ w. is ∙ eq-eqb count 0 (iff.1 (subst (λ (xs : List Measure). All (IsWithin asked.most) xs) (sym same) w.within)),
 )

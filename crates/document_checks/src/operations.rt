@@ -1,5 +1,5 @@
 // Checking the operations of a valid document: their figures, and which limits they exceed.
-ghost use Rattle.std.specs.Prelude.{◌≡◌, ◌≢◌, ◌↔◌, All, IfOk, OnOk, map, true, false, option_map};
+ghost use Rattle.std.specs.Prelude.{◌≡◌, ◌≢◌, ◌↔◌, ◌<◌, All, IfOk, OnOk, map, true, false, option_map, vec_len};
 ghost use Rattle.std.specs.List.{filter};
 ghost use Rattle.apollo_tree.specs.References.{node_place};
 ghost use Rattle.operation_limits.specs.Limits.{IsWithin};
@@ -87,11 +87,13 @@ fn limit_finding(alloc: Global, exceeded: &Exceeded<'_>) -> Result<Finding, Allo
 fn exceeded_limits(
     alloc: Global,
     operations: &[OperationFigures<'_>],
-    checks: &Checks<'_>,
-) -> Result<Vec<Finding>, AllocError> {
+    most: &Figures,
+) -> Result<Vec<Finding>, AllocError>
+    ensures { IfOk result (λ findings. (vec_len findings ≡ 0) ↔ All (IsWithin most.now) (map as_measure operations.now)) }
+{
     let mut findings = Vec::new(alloc);
     for measured in operations {
-        if let Err(exceeded) = within(&[*measured], &checks.most) {
+        if let Err(exceeded) = within(&[*measured], most) {
             findings.push(limit_finding(alloc, &exceeded)?)?;
         }
     }
@@ -100,7 +102,8 @@ fn exceeded_limits(
 
 // The report of a document that has no operation of the name.
 fn unknown_operation(alloc: Global, name: &str) -> Result<Report, AllocError>
-    ensures { IfOk result (λ report. report.passes ≡ false) }
+    ensures passes { IfOk result (λ report. report.passes ≡ false) }
+    ensures found { IfOk result (λ report. 0 < vec_len report.findings) }
 {
     let message = format!(in alloc; "Unknown operation named \"{name}\".")?;
     let finding = Finding {
@@ -112,17 +115,6 @@ fn unknown_operation(alloc: Global, name: &str) -> Result<Report, AllocError>
     Report::of(alloc, finding)
 }
 
-// Whether all of these operations are within the limits.
-#[tactic(auto, using(crate::proofs::Verdicts::all_within, crate::proofs::Verdicts::one_exceeds))]
-fn are_within(operations: &[OperationFigures<'_>], most: &Figures) -> bool
-    ensures { (result ≡ true) ↔ All (IsWithin most.now) (map as_measure operations.now) }
-{
-    match within(operations, most) {
-        Ok(()) => true,
-        Err(_) => false,
-    }
-}
-
 // The report on operations that have these figures.
 #[tactic(auto, using(crate::proofs::Verdicts::missing, crate::proofs::Verdicts::judged))]
 fn limited(
@@ -130,18 +122,18 @@ fn limited(
     operations: &[OperationFigures<'_>],
     checks: &Checks<'_>,
 ) -> Result<Report, AllocError>
-    ensures { IfOk result (λ report. (report.passes ≡ true) ↔ IsChosenWithin (as_asked checks.now) (map as_measure operations.now)) }
+    ensures judged { IfOk result (λ report. (report.passes ≡ true) ↔ IsChosenWithin (as_asked checks.now) (map as_measure operations.now)) }
+    ensures found { IfOk result (λ report. report.passes ≡ false → 0 < vec_len report.findings) }
 {
     let chosen = chosen(alloc, operations, checks.operation)?;
     if checks.operation.is_some() && chosen.is_empty() {
         let report = unknown_operation(alloc, checks.operation.unwrap_or(""))?;
         return Ok(report);
     }
-    let passes = are_within(chosen.as_slice(), &checks.most);
-    let findings = exceeded_limits(alloc, chosen.as_slice(), checks)?;
+    let findings = exceeded_limits(alloc, chosen.as_slice(), &checks.most)?;
     let operations = figures_of(alloc, chosen.as_slice())?;
     Ok(Report {
-        passes,
+        passes: findings.is_empty(),
         findings,
         more: 0,
         operations,
@@ -169,7 +161,9 @@ fn fault_of(error: MeasureError<'_>) -> Result<(Span, &'static str), AllocError>
 
 // The report of a document whose operations have no figures.
 fn unmeasured(alloc: Global, error: MeasureError<'_>) -> Result<Report, AllocError>
-    ensures { IfOk result (λ report. (report.passes ≡ false) × (error.entry ≢ Memory)) }
+    ensures passes { IfOk result (λ report. report.passes ≡ false) }
+    ensures found { IfOk result (λ report. 0 < vec_len report.findings) }
+    ensures memory { OnOk result (error.entry ≢ Memory) }
 {
     let (span, words) = fault_of(error)?;
     let finding = Finding {
@@ -188,7 +182,8 @@ pub(crate) fn check_operations(
     document: &SyntaxNode<'_>,
     checks: &Checks<'_>,
 ) -> Result<Report, AllocError>
-    ensures { IfOk result (λ report. (report.passes ≡ true) ↔ AreWithin (as_asked checks.now) (node_place document.now)) }
+    ensures judged { IfOk result (λ report. (report.passes ≡ true) ↔ AreWithin (as_asked checks.now) (node_place document.now)) }
+    ensures found { IfOk result (λ report. report.passes ≡ false → 0 < vec_len report.findings) }
 {
     match measure(alloc, document) {
         Ok(operations) => limited(alloc, operations.as_slice(), checks),

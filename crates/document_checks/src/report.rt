@@ -1,5 +1,5 @@
 // What a text is checked against, and what is found.
-ghost use Rattle.std.specs.Prelude.{◌≡◌, IfOk, true, false};
+ghost use Rattle.std.specs.Prelude.{◌≡◌, ◌<◌, IfOk, true, false, vec_len};
 
 use apollo_parser::{BorrowedError, Limits};
 use apollo_tree::SyntaxNode;
@@ -15,7 +15,7 @@ pub struct Checks<'a> {
     pub most: Figures,
     /// The name of the operation that has to be within them, or `None` for all operations.
     pub operation: Option<&'a str>,
-    /// How many findings are reported at most.
+    /// How many findings are reported at most. If this is 0, the first of them still is.
     pub findings: usize,
 }
 
@@ -69,7 +69,8 @@ impl Report {
 
     /// A report of these findings alone, for a text that does not pass.
     pub(crate) fn failed(alloc: Global, findings: Vec<Finding>, more: usize) -> Report
-        ensures { result.passes ≡ false }
+        ensures passes { result.passes ≡ false }
+        ensures findings { result.findings.items ≡ findings.items }
     {
         Report {
             passes: false,
@@ -81,7 +82,8 @@ impl Report {
 
     /// A report of one finding alone, for a text that does not pass.
     pub(crate) fn of(alloc: Global, finding: Finding) -> Result<Report, AllocError>
-        ensures { IfOk result (λ report. report.passes ≡ false) }
+        ensures passes { IfOk result (λ report. report.passes ≡ false) }
+        ensures found { IfOk result (λ report. 0 < vec_len report.findings) }
     {
         let mut findings = Vec::new(alloc);
         findings.push(finding)?;
@@ -102,7 +104,9 @@ impl Finding {
     }
 
     /// A finding that an error of the parser is, with the byte offset at which it is shown.
-    pub(crate) fn of_error(error: &BorrowedError<'_>, start: usize, message: String) -> Finding {
+    pub(crate) fn of_error(error: &BorrowedError<'_>, start: usize, message: String) -> Finding
+        ensures { result.start ≡ start }
+    {
         Finding {
             start,
             end: start.saturating_add(error.data().len()),
