@@ -5,7 +5,9 @@ use Rattle.byte_devices.specs.declared.fault.Fault.{Fault}
 use Rattle.document_checks.specs.Checking.{Asked, Passes}
 use Rattle.program_words.specs.Complaints.{Tells, TellsOfFile}
 use Rattle.program_words.specs.declared.complaints.FileFault.{FileFault}
+use Rattle.gqlcheck_run.specs.Places.{IsAboutFirst}
 use Rattle.gqlcheck_run.specs.declared.command.TheConstants.{PROGRAM}
+use Rattle.gqlcheck_run.specs.declared.job.Printing.{Printing}
 
 -- 0 where a text passes, 1 where it does not, 2 where that was not found out or not said
 abbrev pub status_of : {E : Type 0} → Result Bool E → ℕ
@@ -13,11 +15,12 @@ status_of (Ok true) = 0
 status_of (Ok false) = 1
 status_of (Err fault) = 2
 
--- What is written of a text that is found to pass, or not to: of one that passes nothing, unless its figures are wanted. How findings and figures are
--- printed is not stated.
-pub record IsOutput (asked : Asked) (figures : Bool) (source : List ℕ) (passes : Bool) (output : List ℕ) : Type 0 where
+-- What is written of a text of this name that is found to pass, or not to: of one that passes nothing, unless its figures are wanted, and of one that does
+-- not, first the place of what is found. How more findings and figures are printed is not stated.
+pub record IsOutput (asked : Asked) (printing : Printing) (name source : List ℕ) (passes : Bool) (output : List ℕ) : Type 0 where
   pub judged : (passes ≡ true) ↔ Passes asked source
-  pub quiet : passes ≡ true → figures ≡ false → output ≡ []
+  pub quiet : passes ≡ true → printing.figures ≡ false → output ≡ []
+  pub found : passes ≡ false → IsAboutFirst asked printing.json name source output
 
 -- What is said on standard error: nothing of a text that was checked, and why one was not.
 abbrev pub Says : List ℕ → Result Bool Fault → Account → Account → Type 0

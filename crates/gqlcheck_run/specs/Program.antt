@@ -18,6 +18,7 @@ use Rattle.program_words.specs.declared.gqlfmt.Request.TheVariants.{Print, Proce
 use Rattle.program_words.specs.declared.information.Information.{Information}
 use Rattle.program_words.specs.declared.information.Information.TheVariants.{Help, Version}
 use Rattle.gqlcheck_run.specs.declared.command.TheConstants.{PROGRAM, USAGE, HELP, VERSION}
+use Rattle.gqlcheck_run.specs.declared.job.Printing.{Printing}
 use Rattle.gqlcheck_run.specs.declared.texts.TheConstants.{INPUT}
 use Rattle.gqlcheck_run.specs.Ending.{IsOutput, Says, SaysOfFile, status_of}
 
@@ -29,20 +30,24 @@ information_text Version = VERSION.now
 abbrev pub asked_by : Run → Asked
 asked_by run = record { limits = run.limits; most = run.most; operation = run.operation }
 
+-- what it prints of texts
+abbrev pub printing_of : Run → Printing
+printing_of run = record { figures = run.figures; json = run.json }
+
 -- Standard input is read and checked, what comes of that is written, and why it was not checked is said.
-pub record ChecksInput (asked : Asked) (figures : Bool) (status : ℕ) (old new : Streams) : Type 0 where
+pub record ChecksInput (asked : Asked) (printing : Printing) (status : ℕ) (old new : Streams) : Type 0 where
   pub ended : Result Bool Fault
   pub input : List ℕ
   pub reads : Reads ended input old.input new.input
-  pub writes : Writes (IsOutput asked figures) ended input old.output new.output
+  pub writes : Writes (IsOutput asked printing INPUT.now) ended input old.output new.output
   pub says : Says INPUT.now ended old.complaints new.complaints
   pub counted : status ≡ status_of ended
 
 -- the files, as a trait tells what reading one does
-module _ {S : Type 0} (reads : S → List ℕ → Result (List ℕ) Error → S → Type 0) (asked : Asked) (figures : Bool) where
+module _ {S : Type 0} (reads : S → List ℕ → Result (List ℕ) Error → S → Type 0) (asked : Asked) (printing : Printing) where
   -- A file that was found is checked, and a path that could not be read is left alone.
   abbrev pub HandlesFound : FoundPath → Result Bool FileFault → S → Account → S → Account → Type 0
-  HandlesFound (file path) ended old output new output' = ReadsAndWrites (IsOutput asked figures) reads path ended old output new output'
+  HandlesFound (file path) ended old output new output' = ReadsAndWrites (IsOutput asked printing path) reads path ended old output new output'
   HandlesFound (unreadable path) (Err (NotRead error)) old output new output' = (new ≡ old) × (output' ≡ output)
   HandlesFound found_path ended old output new output' = ⊥
 
@@ -56,18 +61,18 @@ module _ {S : Type 0} (reads : S → List ℕ → Result (List ℕ) Error → S 
 -- the same, as a trait tells what listing a folder does, too
 module _ {S : Type 0} (lists : S → List ℕ → Listing → S → Type 0) (reads : S → List ℕ → Result (List ℕ) Error → S → Type 0) where
   -- the files that these paths name are checked, one path after the other
-  abbrev pub ChecksPaths : Asked → Bool → List (List ℕ) → ℕ → Desk S → Desk S → Type 0
-  ChecksPaths asked figures paths status old new = InTurn (HandlesNamed lists PROGRAM.now (ChecksFound reads asked figures)) paths status old new
+  abbrev pub ChecksPaths : Asked → Printing → List (List ℕ) → ℕ → Desk S → Desk S → Type 0
+  ChecksPaths asked printing paths status old new = InTurn (HandlesNamed lists PROGRAM.now (ChecksFound reads asked printing)) paths status old new
 
   -- or standard input where there are none
-  abbrev pub ChecksTexts : Asked → Bool → List (List ℕ) → ℕ → State S → State S → Type 0
-  ChecksTexts asked figures [] status old new = ChecksInput asked figures status (streams old) (streams new) × (new.files ≡ old.files)
-  ChecksTexts asked figures (path ∷ paths) status old new = ChecksPaths asked figures (path ∷ paths) status (desk old) (desk new) × (new.input ≡ old.input)
+  abbrev pub ChecksTexts : Asked → Printing → List (List ℕ) → ℕ → State S → State S → Type 0
+  ChecksTexts asked printing [] status old new = ChecksInput asked printing status (streams old) (streams new) × (new.files ≡ old.files)
+  ChecksTexts asked printing (path ∷ paths) status old new = ChecksPaths asked printing (path ∷ paths) status (desk old) (desk new) × (new.input ≡ old.input)
 
   -- What a run does for the request in its words. Where there is none, a word is wrong.
   abbrev pub Does : List (List ℕ) → Option (Request Run) → ℕ → State S → State S → Type 0
   Does words (Some (Print page)) status old new = OnlyPrints PROGRAM.now (information_text page) status (streams old) (streams new) × (new.files ≡ old.files)
-  Does words (Some (Process run)) status old new = ChecksTexts (asked_by run) run.figures run.files status old new
+  Does words (Some (Process run)) status old new = ChecksTexts (asked_by run) (printing_of run) run.files status old new
   Does words None status old new = OnlyExplains PROGRAM.now USAGE.now (IsAmong words) status (streams old) (streams new) × (new.files ≡ old.files)
 
   -- What a run does: that, or it says that memory was refused before the last of its words was read, and nothing else.

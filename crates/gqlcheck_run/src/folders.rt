@@ -22,7 +22,7 @@ impl<A: Allocator + Copy, C: DocumentChecker> Job<'_, '_, A, C> {
         complaints: &mut E,
         path: &str,
     ) -> u8
-        ensures { HandlesNamed F.lists PROGRAM.now (ChecksFound F.reads (as_asked self.now.checks) self.now.figures) path.now result
+        ensures { HandlesNamed F.lists PROGRAM.now (ChecksFound F.reads (as_asked self.now.checks) self.now.printing) path.now result
             (record { files = files.old; output = W.account writer.old; complaints = E.account complaints.old })
             (record { files = files.new; output = W.account writer.new; complaints = E.account complaints.new }) }
     {
@@ -43,7 +43,7 @@ impl<A: Allocator + Copy, C: DocumentChecker> Job<'_, '_, A, C> {
         complaints: &mut E,
         paths: &[&str],
     ) -> u8
-        ensures { ChecksPaths F.lists F.reads (as_asked self.now.checks) self.now.figures (texts paths.now) result
+        ensures { ChecksPaths F.lists F.reads (as_asked self.now.checks) self.now.printing (texts paths.now) result
             (record { files = files.old; output = W.account writer.old; complaints = E.account complaints.old })
             (record { files = files.new; output = W.account writer.new; complaints = E.account complaints.new }) }
     {

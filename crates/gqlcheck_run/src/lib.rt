@@ -9,6 +9,7 @@ mod ending;
 mod folders;
 mod job;
 mod json_lines;
+mod places;
 mod program;
 mod rendering;
 mod texts;

@@ -5,7 +5,7 @@ ghost use Rattle.program_words.specs.Gqlfmt.{texts};
 ghost use Rattle.gqlcheck_run.specs.Program.{ChecksTexts, Runs, information_text};
 
 use crate::command::{HELP, PROGRAM, USAGE, VERSION};
-use crate::job::Job;
+use crate::job::{Job, Printing};
 use byte_devices::{Sink, Source};
 use document_checks::{Checks, DocumentChecker};
 use gqlfmt_files::Files;
@@ -37,7 +37,7 @@ impl<'c, 'w, A: Allocator + Copy, C: DocumentChecker> Job<'c, 'w, A, C> {
         ensures limits { result.checks.limits ≡ plan.now.limits }
         ensures most { result.checks.most ≡ plan.now.most }
         ensures operation { result.checks.operation ≡ plan.now.operation }
-        ensures figures { result.figures ≡ plan.now.figures }
+        ensures printing { result.printing ≡ record { figures = plan.now.figures; json = plan.now.json } }
     {
         Job {
             alloc,
@@ -48,8 +48,10 @@ impl<'c, 'w, A: Allocator + Copy, C: DocumentChecker> Job<'c, 'w, A, C> {
                 operation: plan.operation,
                 findings: if plan.json { JSON_FINDINGS } else { FINDINGS },
             },
-            figures: plan.figures,
-            json: plan.json,
+            printing: Printing {
+                figures: plan.figures,
+                json: plan.json,
+            },
         }
     }
 
@@ -62,7 +64,7 @@ impl<'c, 'w, A: Allocator + Copy, C: DocumentChecker> Job<'c, 'w, A, C> {
         files: &mut F,
         paths: &[&str],
     ) -> u8
-        ensures { ChecksTexts F.lists F.reads (as_asked self.now.checks) self.now.figures (texts paths.now) result
+        ensures { ChecksTexts F.lists F.reads (as_asked self.now.checks) self.now.printing (texts paths.now) result
             (record { input = R.account reader.old; output = W.account writer.old; complaints = E.account complaints.old; files = files.old })
             (record { input = R.account reader.new; output = W.account writer.new; complaints = E.account complaints.new; files = files.new }) }
     {

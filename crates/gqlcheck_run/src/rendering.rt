@@ -1,10 +1,13 @@
 // What is printed for people.
-ghost use Rattle.std.specs.Prelude.{◌≡◌};
+ghost use Rattle.std.specs.Prelude.{◌≡◌, ◌++◌, IfOk, false, length, min, string_bytes};
+ghost use Rattle.marked_lines.specs.Places.{BeginsWith, place};
+ghost use Rattle.gqlcheck_run.specs.Rendering.{BeginsAtFirst};
 ghost use Rattle.gqlcheck_run.specs.Titles.{title_of};
 
+use crate::places::offset_within;
 use document_checks::{Figures, Finding, Limit, OperationReport, Report};
 use line_index::LineIndex;
-use marked_lines::{Remark, push_escaped, push_message, push_more};
+use marked_lines::{Remark, push_message, push_more, push_place};
 use std::alloc::{AllocError, Allocator};
 
 // The finding, and the line of the text with its place marked.
@@ -16,8 +19,9 @@ fn push_finding<'t, A: Allocator>(
     finding: &'t Finding,
 ) -> Result<(), AllocError>
     requires { index.now ≡ source.now }
+    ensures { IfOk result (λ _. BeginsWith (string_bytes text.new) (string_bytes text.old ++ place name.now source.now (min finding.now.start (length source.now)))) }
 {
-    let start = finding.start.min(source.len());
+    let start = offset_within(source, finding.start);
     let remark = Remark {
         offset: start,
         message: (finding.message.as_str(), "", "", ""),
@@ -27,19 +31,22 @@ fn push_finding<'t, A: Allocator>(
 }
 
 // The findings, and how many more there are.
-fn push_findings<A: Allocator>(
-    text: &mut String<A>,
+fn findings_text<A: Allocator>(
+    alloc: A,
     name: &str,
     source: &str,
     index: &LineIndex<'_, A>,
     report: &Report,
-) -> Result<(), AllocError>
+) -> Result<String<A>, AllocError>
     requires { index.now ≡ source.now }
+    ensures { IfOk result (λ text. BeginsAtFirst false name.now source.now report.now.findings.items (string_bytes text)) }
 {
+    let mut text = String::new(alloc);
     for finding in &report.findings {
-        push_finding(text, name, source, index, finding)?;
+        push_finding(&mut text, name, source, index, finding)?;
     }
-    push_more(text, name, report.more)
+    push_more(&mut text, name, report.more)?;
+    Ok(text)
 }
 
 /// The words for a figure.
@@ -55,14 +62,20 @@ pub fn words_of(limit: Limit) -> &'static str {
     }
 }
 
+// What is put before a figure, by its number from 0.
+fn sign_before(index: usize) -> &'static str {
+    if index == 0 { ":" } else { "," }
+}
+
 // Each figure, after a colon or a comma.
-fn push_figures<A: Allocator>(text: &mut String<A>, figures: &Figures) -> Result<(), AllocError> {
-    let mut sign = ":";
-    for limit in &Limit::ALL {
+fn push_figures<A: Allocator>(text: &mut String<A>, figures: &Figures) -> Result<(), AllocError>
+    ensures { IfOk result (λ _. BeginsWith (string_bytes text.new) (string_bytes text.old)) }
+{
+    for (index, limit) in Limit::ALL.iter().enumerate() {
+        let sign = sign_before(index);
         let words = words_of(*limit);
         let figure = figures.limited_by(*limit);
         write!(text, "{sign} {words} {figure}")?;
-        sign = ",";
     }
     text.push('\n')
 }
@@ -87,14 +100,11 @@ fn push_operations<A: Allocator>(
     operations: &[OperationReport],
 ) -> Result<(), AllocError>
     requires { index.now ≡ source.now }
+    ensures { IfOk result (λ _. BeginsWith (string_bytes text.new) (string_bytes text.old)) }
 {
     for operation in operations {
-        let start = operation.start.min(source.len());
-        let line = index.line_column(start).line.saturating_add(1);
-        let column = index.column_in_chars(start).saturating_add(1);
-        let title = title_of(operation.name.as_str());
-        push_escaped(text, name)?;
-        write!(text, ":{line}:{column}: {title}")?;
+        push_place(text, name, index, offset_within(source, operation.start))?;
+        text.push_str(title_of(operation.name.as_str()))?;
         push_figures(text, &operation.figures)?;
     }
     Ok(())
@@ -108,10 +118,11 @@ pub fn rendered<A: Allocator + Copy>(
     source: &str,
     report: &Report,
     figures: bool,
-) -> Result<Vec<u8, A>, AllocError> {
+) -> Result<Vec<u8, A>, AllocError>
+    ensures { IfOk result (λ output. BeginsAtFirst false name.now source.now report.now.findings.items output.items) }
+{
     let index = LineIndex::new(alloc, source)?;
-    let mut text = String::new(alloc);
-    push_findings(&mut text, name, source, &index, report)?;
+    let mut text = findings_text(alloc, name, source, &index, report)?;
     if figures {
         push_operations(
             &mut text,

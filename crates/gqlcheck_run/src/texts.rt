@@ -23,7 +23,7 @@ impl<A: Allocator + Copy, C: DocumentChecker> Job<'_, '_, A, C> {
     // Reads to the end, and checks the whole text.
     fn read_input<R: Source, W: Sink>(&self, reader: &mut R, writer: &mut W) -> Result<bool, Fault>
         ensures { (input : List ℕ) × Reads result input (R.account reader.old) (R.account reader.new)
-            × Writes (IsOutput (as_asked self.now.checks) self.now.figures) result input (W.account writer.old) (W.account writer.new) }
+            × Writes (IsOutput (as_asked self.now.checks) self.now.printing INPUT.now) result input (W.account writer.old) (W.account writer.new) }
     {
         let bytes = read_to_end(self.alloc, reader)?;
         self.check_bytes(writer, INPUT, bytes.as_slice())
@@ -36,7 +36,7 @@ impl<A: Allocator + Copy, C: DocumentChecker> Job<'_, '_, A, C> {
         writer: &mut W,
         complaints: &mut E,
     ) -> u8
-        ensures { ChecksInput (as_asked self.now.checks) self.now.figures result
+        ensures { ChecksInput (as_asked self.now.checks) self.now.printing result
             (record { input = R.account reader.old; output = W.account writer.old; complaints = E.account complaints.old })
             (record { input = R.account reader.new; output = W.account writer.new; complaints = E.account complaints.new }) }
     {
@@ -51,7 +51,7 @@ impl<A: Allocator + Copy, C: DocumentChecker> Job<'_, '_, A, C> {
         writer: &mut W,
         path: &str,
     ) -> Result<bool, FileFault>
-        ensures { ReadsAndWrites (IsOutput (as_asked self.now.checks) self.now.figures) F.reads path.now result
+        ensures { ReadsAndWrites (IsOutput (as_asked self.now.checks) self.now.printing path.now) F.reads path.now result
             files.old (W.account writer.old) files.new (W.account writer.new) }
     {
         match files.read(self.alloc, path) {
@@ -70,7 +70,7 @@ impl<A: Allocator + Copy, C: DocumentChecker> Job<'_, '_, A, C> {
         writer: &mut W,
         named: &Named<A>,
     ) -> Result<bool, FileFault>
-        ensures { HandlesFound F.reads (as_asked self.now.checks) self.now.figures (as_named named.now) result
+        ensures { HandlesFound F.reads (as_asked self.now.checks) self.now.printing (as_named named.now) result
             files.old (W.account writer.old) files.new (W.account writer.new) }
     {
         match named {
@@ -87,7 +87,7 @@ impl<A: Allocator + Copy, C: DocumentChecker> Job<'_, '_, A, C> {
         complaints: &mut E,
         named: &Named<A>,
     ) -> u8
-        ensures { ChecksFound F.reads (as_asked self.now.checks) self.now.figures (as_named named.now) result
+        ensures { ChecksFound F.reads (as_asked self.now.checks) self.now.printing (as_named named.now) result
             (record { files = files.old; output = W.account writer.old; complaints = E.account complaints.old })
             (record { files = files.new; output = W.account writer.new; complaints = E.account complaints.new }) }
     {
@@ -103,7 +103,7 @@ impl<A: Allocator + Copy, C: DocumentChecker> Job<'_, '_, A, C> {
         complaints: &mut E,
         found: &[Named<A>],
     ) -> u8
-        ensures { InTurn (ChecksFound F.reads (as_asked self.now.checks) self.now.figures) (map as_named found.now) result
+        ensures { InTurn (ChecksFound F.reads (as_asked self.now.checks) self.now.printing) (map as_named found.now) result
             (record { files = files.old; output = W.account writer.old; complaints = E.account complaints.old })
             (record { files = files.new; output = W.account writer.new; complaints = E.account complaints.new }) }
     {

@@ -6,6 +6,6 @@ use Rattle.gqlcheck_run.proofs.job.Job.check_files.Goals as goal
 
 pub loop-named-preserved : goal.loop-named-preserved
 loop-named-preserved g c =
-    in_turn-next (ChecksFound g.F.Files.reads (as_asked c.args.self.now.checks) c.args.self.now.figures) as_named c.args.found.now c.loop-named.named-index
+    in_turn-next (ChecksFound g.F.Files.reads (as_asked c.args.self.now.checks) c.args.self.now.printing) as_named c.args.found.now c.loop-named.named-index
     c.loop-named.status c.check_found-one.result c.max-status.result c.named-item.result _ _ _ c.loop-named-test.true c.loop-named.invariant
     (rw (← c.named-item.is) c.check_found-one.ensures) c.max-status.ensures
