@@ -1,6 +1,5 @@
 -- The documents beside one that is published.
 use Rattle.std.proofs.Common.{◌≡◌, ℕ, Bool, List, Option, None, ◌∙◌, subst}
-use Rattle.apollo_parser.specs.declared.Limits.{Limits}
 use Rattle.json.specs.Json.{Json}
 use Rattle.rpc_messages.specs.declared.reply.Reply.{Reply}
 use Rattle.editor_validation.specs.Fragments.{Fragments}
@@ -37,7 +36,6 @@ publishes_again uri file params reply old middle new takes published = record {
   version = published.version;
   versioned = published.versioned;
   told =
-      subst (λ (limits : Limits). Notifies (IsTold limits old.takes_related uri published.version file published.fragments published.others) reply) takes.limits
-      (subst (λ (related : Bool). Notifies (IsTold middle.limits related uri published.version file published.fragments published.others) reply)
-      takes.takes_related published.told);
+      subst (λ (related : Bool). Notifies (IsTold related uri published.version file published.fragments published.others) reply) takes.takes_related
+      published.told;
 }

@@ -111,11 +111,11 @@ pub record Publishes (uri : List ℕ) (file : OpenFile) (params : Json) (reply :
   pub elsewhere : AreOthers uri new.fragments new.files others
   pub version : Option ℤ
   pub versioned : IsVersionIn params version
-  pub told : Notifies (IsTold old.limits old.takes_related uri version file fragments others) reply
+  pub told : Notifies (IsTold old.takes_related uri version file fragments others) reply
 
--- a text in a language that is opened, in the encoding of the conversation
+-- a text in a language that is opened, in the encoding and within the limits of the conversation
 abbrev pub opened : Dialogue → List ℕ → Option HostLanguage → OpenFile
-opened dialogue text host = record { content = record { encoding = dialogue.encoding; text = text }; host = host }
+opened dialogue text host = record { content = record { encoding = dialogue.encoding; text = text }; host = host; limits = dialogue.limits }
 
 -- `textDocument/didOpen`: the document has the text and the language of the message. Without a name or a text the message is ignored.
 abbrev pub Opens : Json → Reply → Dialogue → Dialogue → Type 0

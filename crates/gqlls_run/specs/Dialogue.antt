@@ -77,5 +77,6 @@ AreOthers uri fragments files others =
 pub record IsChanged (edits : List Edit) (old new : OpenFile) : Type 0 where
   pub encoding : new.content.encoding ≡ old.content.encoding
   pub host : new.host ≡ old.host
+  pub limits : new.limits ≡ old.limits
   pub text : units old.content.encoding new.content.text
       ≡ fold (λ text edit. replaced old.content.encoding text edit.0 (units old.content.encoding edit.1)) (units old.content.encoding old.content.text) edits

@@ -1,15 +1,17 @@
 -- The files that a client has open, and what of them is GraphQL.
 use Rattle.std.specs.Prelude.{◌≡◌, ℕ, ◌||◌, if◌then◌else◌, List, Option, Some, None, MatchOption}
 use Rattle.std.specs.Prelude.{codes, bytes_eq}
+use Rattle.apollo_parser.specs.declared.Limits.{Limits}
 use Rattle.editor_text.specs.Client.{Opened}
 use Rattle.embedded_documents.specs.Masked.{IsMasked}
 use Rattle.embedded_documents.specs.declared.scanning.HostLanguage.{HostLanguage}
 use Rattle.embedded_documents.specs.declared.scanning.HostLanguage.TheVariants.{JavaScript, Python}
 
--- an open file: its text, and its language where that isn't GraphQL
+-- a file: its text, its language where that isn't GraphQL, and the limits of its parse
 pub record OpenFile : Type 0 where
   pub content : Opened
   pub host : Option HostLanguage
+  pub limits : Limits
 
 -- the language that a `languageId` names; any other is taken for GraphQL
 abbrev pub host_named : List ℕ → Option HostLanguage

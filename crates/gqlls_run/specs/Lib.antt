@@ -5,5 +5,7 @@ pub mod Parameters
 pub mod Registration
 pub mod Dialogue
 pub mod Files
+pub mod Kept
+pub mod Parsing
 pub mod State
 pub mod Told

@@ -5,35 +5,22 @@ use Rattle.std.specs.BTreeSet.{BTreeSet, contains_text}
 use Rattle.std.specs.List.{Contains, list_any}
 use Rattle.std.specs.declared.string.String.{String}
 use Rattle.json.specs.Json.{Json}
-use Rattle.apollo_parser.specs.Promise.{Promise}
-use Rattle.apollo_parser.specs.declared.Limits.{Limits}
 use Rattle.rpc_messages.specs.declared.reply.Reply.{Reply}
-use Rattle.editor_validation.specs.Fragments.{Fragments, as_fragments}
+use Rattle.editor_validation.specs.Fragments.{Fragments}
 use Rattle.file_uris.specs.Uris.{normalized}
 use Rattle.gqlls_run.specs.Conversation.{Steps}
 use Rattle.gqlls_run.specs.Dialogue.{Dialogue}
-use Rattle.gqlls_run.specs.Files.{IsSource, OpenFile}
-use Rattle.gqlls_run.specs.Told.{fragments_of}
+use Rattle.gqlls_run.specs.Files.{OpenFile}
 use Rattle.gqlls_run.specs.declared.documents.Document.{Document}
 use Rattle.gqlls_run.specs.declared.server.Server.{Server}
 
 -- the file of a document
 abbrev pub file_of : Document → OpenFile
-file_of document = record { content = document.content; host = document.host }
+file_of document = document.file
 
 -- the names of its fragments
 abbrev pub names_of : Document → Fragments
-names_of document = as_fragments document.fragments
-
--- the text that is parsed, where it is masked and where it is not
-abbrev pub source_of : Document → List ℕ
-source_of document = unwrap_or (option_map string_bytes document.masked) document.content.text
-
--- a server keeps the tree of the text that is to be parsed, and the names of its fragments
-pub record IsParsed (limits : Limits) (document : Document) : Type 0 where
-  pub source : IsSource (file_of document) (source_of document)
-  pub promise : Promise (source_of document) limits.recursion limits.tokens document.tree
-  pub named : names_of document ≡ fragments_of document.tree
+names_of document = document.fragments
 
 -- the files, by their names
 abbrev pub files : {A : Type 0} → BTreeMap (String A) Document → List ℕ → Option OpenFile

@@ -1,15 +1,14 @@
 -- What is published of the documents that a client has open, and known of files that are not.
 use Rattle.std.specs.Prelude.{◌≡◌, ℕ, ℤ, Bool, List, [], Option, Some, length}
 use Rattle.apollo_parser.specs.Parsed.{Parsed}
-use Rattle.apollo_parser.specs.Promise.{Promise}
-use Rattle.apollo_parser.specs.declared.Limits.{Limits}
 use Rattle.editor_diagnostics.specs.Publication.{IsPublication}
 use Rattle.editor_diagnostics.specs.Remarks.{Remarked}
-use Rattle.editor_validation.specs.Fragments.{Fragments, fragments_in}
+use Rattle.editor_validation.specs.Fragments.{Fragments}
 use Rattle.editor_validation.specs.Remarks.{AreRemarksOn}
 use Rattle.formatter.specs.Comments.{HasNoDefinitions}
 use Rattle.gqlls_run.specs.Dialogue.{Dialogue, Learns}
 use Rattle.gqlls_run.specs.Files.{IsSource, OpenFile}
+use Rattle.gqlls_run.specs.Parsing.{IsParse, fragments_of}
 use Rattle.rpc_messages.specs.declared.reply.Reply.{Reply}
 use Rattle.rpc_messages.specs.declared.reply.Reply.TheVariants.{Nothing, Answer, Notice, Request, Exit}
 
@@ -19,26 +18,22 @@ abbrev pub AreRemarksOf : Bool → List Fragments → Parsed → List Remarked �
 AreRemarksOf takes_related others parsed remarks =
     AreRemarksOn takes_related others (record { whole = parsed.tree; index = 0 }) parsed.errors remarks
 
--- the names of fragments in a parse
-abbrev pub fragments_of : Parsed → Fragments
-fragments_of parsed = fragments_in (record { whole = parsed.tree; index = 0 })
-
 -- A file that is not open has this text, whose fragments are those of a parse within the limits. The parse has this number of errors.
 pub record Keeps (name text : List ℕ) (errors : ℕ) (old new : Dialogue) : Type 0 where
   pub parsed : Parsed
   pub counted : errors ≡ length parsed.errors
-  pub promise : Promise text old.limits.recursion old.limits.tokens parsed
+  pub promise : IsParse old.limits text parsed
   pub learns : Learns name (Some (fragments_of parsed)) old new
 
--- The body publishes the remarks on a parse of this file within the limits, at their positions as the client counts them. There are none where
+-- The body publishes the remarks on a parse of this file within its limits, at their positions as the client counts them. There are none where
 -- the text that is parsed has no definitions. The parse has these fragments.
 pub record IsTold
-    (limits : Limits) (takes_related : Bool) (uri : List ℕ) (version : Option ℤ) (file : OpenFile) (fragments : Fragments) (others : List Fragments)
+    (takes_related : Bool) (uri : List ℕ) (version : Option ℤ) (file : OpenFile) (fragments : Fragments) (others : List Fragments)
     (body : List ℕ) : Type 0 where
   pub text : List ℕ
   pub source : IsSource file text
   pub parsed : Parsed
-  pub promise : Promise text limits.recursion limits.tokens parsed
+  pub promise : IsParse file.limits text parsed
   pub named : fragments ≡ fragments_of parsed
   pub remarks : List Remarked
   pub said : (¬ HasNoDefinitions text) → AreRemarksOf takes_related others parsed remarks

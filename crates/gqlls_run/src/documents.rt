@@ -1,10 +1,10 @@
 // The open documents.
-ghost use Rattle.std.specs.Prelude.{◌≡◌, ◌||◌, [], ℕ, List, IfOk, MatchBool, None, OnOk, Some, false, length, map, option_map, string_bytes, true, unwrap_or};
+ghost use Rattle.std.specs.Prelude.{◌≡◌, ◌||◌, [], ℕ, List, IfOk, IfSome, MatchBool, None, OnOk, Some, false, length, map, option_map, string_bytes, true, unwrap_or};
 ghost use Rattle.std.specs.BTreeMap.{IsOrdered, values};
 ghost use Rattle.std.specs.BTreeSet.{contains_text};
 ghost use Rattle.std.specs.Map.{values_of};
 ghost use Rattle.std.specs.String.{string_cmp};
-ghost use Rattle.apollo_parser.specs.Promise.{Promise};
+ghost use Rattle.apollo_tree.specs.References.{node_place};
 ghost use Rattle.editor_diagnostics.specs.Remarks.{as_remarked};
 ghost use Rattle.editor_validation.specs.Fragments.{Fragments, as_fragments};
 ghost use Rattle.formatter.specs.Comments.{HasNoDefinitions};
@@ -12,7 +12,8 @@ ghost use Rattle.rpc_messages.specs.Messages.{IsNotice};
 ghost use Rattle.gqlls_run.specs.Parameters.{told};
 ghost use Rattle.gqlls_run.specs.Dialogue.{IsChanged, Updates};
 ghost use Rattle.gqlls_run.specs.Files.{IsSource};
-ghost use Rattle.gqlls_run.specs.State.{AreBeside, IsParsed, entries_beside, file_of, files, is_of, is_own, names_in, names_of, source_of};
+ghost use Rattle.gqlls_run.specs.Parsing.{IsMended, IsParse, IsParsed};
+ghost use Rattle.gqlls_run.specs.State.{AreBeside, entries_beside, file_of, files, is_of, is_own, names_in, names_of};
 ghost use Rattle.gqlls_run.specs.Told.{AreRemarksOf, IsTold};
 
 use apollo_parser::{DocumentRoot, Limits, Parser, SyntaxNode, SyntaxTree};
@@ -27,6 +28,7 @@ use std::alloc::{AllocError, Global};
 use std::collections::btree_map::Iter;
 use std::collections::{BTreeMap, BTreeSet};
 use std::iter::Chain;
+use std::marker::Model;
 
 // The text of a file in another language with only what is in templates; none for one in GraphQL.
 fn masked_text(
@@ -34,7 +36,7 @@ fn masked_text(
     content: &OpenDocument,
     host: Option<HostLanguage>,
 ) -> Result<Option<String>, AllocError>
-    ensures { IfOk result (λ text. IsSource (record { content = content.now; host = host })
+    ensures { IfOk result (λ text. (limits : Limits) → IsSource (record { content = content.now; host = host; limits = limits })
         (unwrap_or (option_map string_bytes text) content.now.text)) }
 {
     match host {
@@ -55,7 +57,7 @@ fn source_in<'t>(content: &'t OpenDocument, masked: &'t Option<String>) -> &'t s
 
 // The tree of a text, within limits.
 fn parsed(alloc: Global, text: &str, limits: Limits) -> Result<SyntaxTree<DocumentRoot>, AllocError>
-    ensures { IfOk result (Promise text.now limits.recursion limits.tokens) }
+    ensures { IfOk result (IsParse limits text.now) }
 {
     // bound to a name, so that its clauses on `Ok` are found
     let tree = Parser::within(text, limits).parse(alloc)?;
@@ -68,25 +70,29 @@ fn mended(
     text: &str,
     tree: &SyntaxTree<DocumentRoot>,
     limits: Limits,
-) -> Result<Option<SyntaxTree<DocumentRoot>>, AllocError> {
+) -> Result<Option<SyntaxTree<DocumentRoot>>, AllocError>
+    ensures { IfOk result (λ mended. IfSome mended (IsMended limits text.now tree.now)) }
+{
     if tree.errors().as_slice().is_empty() {
         return Ok(None);
     }
-    let Some(text) = closed(alloc, text)? else {
+    let Some(whole) = closed(alloc, text)? else {
         return Ok(None);
     };
-    let tree = Parser::within(text.as_str(), limits).parse(alloc)?;
-    Ok(Some(tree))
+    let shown = parsed(alloc, whole.as_str(), limits)?;
+    Ok(Some(shown))
 }
 
-/// A document that a client has open, or the documents in templates of a file, with the tree.
+/// A document that a client has open, or the documents in templates of a file, with its tree. Contracts see the file, the text of it that is parsed, and the
+/// parses.
 #[derive(Drop)]
 pub(crate) struct Document {
-    pub content: OpenDocument,
+    content: OpenDocument,
     // the language of the file, if it isn't GraphQL
-    pub host: Option<HostLanguage>,
+    host: Option<HostLanguage>,
     // the text that is parsed, where it is another; its byte offsets are those of the text
     masked: Option<String>,
+    limits: Limits,
     tree: SyntaxTree<DocumentRoot>,
     // the one that answers are about, where it is another
     mended: Option<SyntaxTree<DocumentRoot>>,
@@ -94,19 +100,33 @@ pub(crate) struct Document {
     fragments: FragmentNames,
 }
 
+impl Model for Document {
+    ghost use Rattle.std.specs.Coded.{codes};
+    ghost use Rattle.apollo_tree.specs.Codes.{forest_code};
+    ghost use Rattle.gqlls_run.specs.Parsing.{ParsedFile};
+
+    ghost Value = { ParsedFile };
+
+    ghost coded = { Prim.hlevel (codes, forest_code) };
+
+    ghost use Rattle.gqlls_run.specs.Kept.{IsKept, parsed_file};
+
+    ghost view = { parsed_file };
+
+    ghost invariant = { IsKept };
+}
+
 impl Document {
-    /// A document with its tree, which is parsed within limits.
-    pub(crate) fn new(
+    // A document with its tree.
+    fn of(
         alloc: Global,
-        encoding: PositionEncoding,
-        text: &str,
+        content: OpenDocument,
         host: Option<HostLanguage>,
         limits: Limits,
     ) -> Result<Document, AllocError>
-        ensures file { IfOk result (λ document. file_of document ≡ record { content = record { encoding = encoding; text = text.now }; host = host }) }
-        ensures parsed { IfOk result (IsParsed limits) }
+        ensures file { IfOk result (λ document. document.file ≡ record { content = content; host = host; limits = limits }) }
+        ensures parsed { IfOk result IsParsed }
     {
-        let content = OpenDocument::new(alloc, encoding, text)?;
         let masked = masked_text(alloc, &content, host)?;
         let source = source_in(&content, &masked);
         let tree = parsed(alloc, source, limits)?;
@@ -116,40 +136,76 @@ impl Document {
             content,
             host,
             masked,
+            limits,
             tree,
             mended,
             fragments,
         })
     }
 
-    /// Changes the text, and parses it within limits.
-    pub(crate) fn change(
-        &mut self,
+    /// A document with its tree, which is parsed within limits.
+    pub(crate) fn new(
+        alloc: Global,
+        encoding: PositionEncoding,
+        text: &str,
+        host: Option<HostLanguage>,
+        limits: Limits,
+    ) -> Result<Document, AllocError>
+        ensures file { IfOk result (λ document. document.file ≡ record { content = record { encoding = encoding; text = text.now }; host = host; limits = limits }) }
+        ensures parsed { IfOk result IsParsed }
+    {
+        let content = OpenDocument::new(alloc, encoding, text)?;
+        // bound to a name, so that its clauses on `Ok` are found
+        let document = Document::of(alloc, content, host, limits)?;
+        Ok(document)
+    }
+
+    /// The document after changes of its text, parsed within the same limits.
+    pub(crate) fn changed(
+        self,
         alloc: Global,
         changes: &[Change<'_>],
-        limits: Limits,
-    ) -> Result<(), AllocError>
-        ensures changed { OnOk result (IsChanged (map told changes.now) (file_of self.old) (file_of self.new)) }
-        ensures parsed { OnOk result (IsParsed limits self.new) }
+    ) -> Result<Document, AllocError>
+        ensures { IfOk result (λ document. IsChanged (map told changes.now) self.file document.file) }
     {
-        self.content.change_all(alloc, changes)?;
-        self.masked = masked_text(alloc, &self.content, self.host)?;
-        self.tree = parsed(alloc, self.source(), limits)?;
-        self.mended = mended(alloc, self.source(), &self.tree, limits)?;
-        self.fragments = fragment_names(alloc, &self.tree.root())?;
-        Ok(())
+        let mut content = self.content;
+        content.change_all(alloc, changes)?;
+        // bound to a name, so that its clauses on `Ok` are found
+        let document = Document::of(alloc, content, self.host, self.limits)?;
+        Ok(document)
+    }
+
+    /// The text, and the encoding in which positions in it count columns.
+    pub(crate) fn content(&self) -> &OpenDocument
+        ensures { result.now ≡ self.now.file.content }
+    {
+        &self.content
+    }
+
+    /// The language of the file, if it isn't GraphQL.
+    pub(crate) fn host(&self) -> Option<HostLanguage>
+        ensures { result ≡ self.now.file.host }
+    {
+        self.host
+    }
+
+    /// The names of the fragments of the text's own tree.
+    pub(crate) fn fragments(&self) -> &FragmentNames
+        ensures { as_fragments result.now ≡ self.now.fragments }
+    {
+        &self.fragments
     }
 
     /// How many errors the text's own parse has.
     pub(crate) fn error_count(&self) -> usize
-        ensures { result ≡ length self.now.tree.errors }
+        ensures { result ≡ length self.now.parsed.errors }
     {
         self.tree.errors().as_slice().len()
     }
 
     /// The text that is parsed.
     pub(crate) fn source(&self) -> &str
-        ensures { result.now ≡ source_of self.now }
+        ensures { result.now ≡ self.now.source }
     {
         source_in(&self.content, &self.masked)
     }
@@ -162,16 +218,18 @@ impl Document {
         others: &[&'a FragmentNames],
         takes_related: bool,
     ) -> Result<Vec<Remark>, AllocError>
-        ensures said { IfOk result (λ found. (¬ HasNoDefinitions (source_of self.now)) → AreRemarksOf takes_related (map (λ f. as_fragments f.now) others.now) self.now.tree (map as_remarked found.items)) }
-        ensures silent { IfOk result (λ found. HasNoDefinitions (source_of self.now) → map as_remarked found.items ≡ []) }
+        ensures said { IfOk result (λ found. (¬ HasNoDefinitions self.now.source) → AreRemarksOf takes_related (map (λ f. as_fragments f.now) others.now) self.now.parsed (map as_remarked found.items)) }
+        ensures silent { IfOk result (λ found. HasNoDefinitions self.now.source → map as_remarked found.items ≡ []) }
+        ensures parsed { IfOk result (λ found. IsParsed self.now) }
     {
+        let root = self.tree.root();
         if has_no_definitions(self.source()) {
             return Ok(Vec::new(alloc));
         }
         // bound to a name, so that its clauses on `Ok` are found
         let found = remarks(
             alloc,
-            &self.tree.root(),
+            &root,
             self.tree.errors().as_slice(),
             others,
             takes_related,
@@ -190,7 +248,7 @@ impl Document {
         takes_related: bool,
     ) -> Result<Vec<u8>, AllocError>
         ensures notifies { IfOk result (λ body. IsNotice body.items) }
-        ensures told { IfOk result (λ body. (limits : Limits) → IsParsed limits self.now → IsTold limits takes_related uri.now version (file_of self.now) (names_of self.now) (map (λ f. as_fragments f.now) others.now) body.items) }
+        ensures told { IfOk result (λ body. IsTold takes_related uri.now version self.now.file self.now.fragments (map (λ f. as_fragments f.now) others.now) body.items) }
     {
         let positions = self.positions(alloc)?;
         let remarks = self.remarks(alloc, others, takes_related)?;
@@ -208,7 +266,10 @@ impl Document {
     }
 
     /// The root of the tree that answers are about. Its byte offsets are those of the text, and its strings need not be.
-    pub(crate) fn root(&self) -> SyntaxNode<'_> {
+    pub(crate) fn root(&self) -> SyntaxNode<'_>
+        ensures place { node_place result ≡ record { whole = self.now.shown.tree; index = 0 } }
+        ensures parsed { IsParsed self.now }
+    {
         match &self.mended {
             Some(tree) => tree.root(),
             None => self.tree.root(),
@@ -217,8 +278,8 @@ impl Document {
 
     /// The positions in its text.
     pub(crate) fn positions(&self, alloc: Global) -> Result<Positions<'_>, AllocError>
-        ensures text { IfOk result (λ positions. positions.text.now ≡ self.now.content.text) }
-        ensures encoding { IfOk result (λ positions. positions.encoding ≡ self.now.content.encoding) }
+        ensures text { IfOk result (λ positions. positions.text.now ≡ self.now.file.content.text) }
+        ensures encoding { IfOk result (λ positions. positions.encoding ≡ self.now.file.content.encoding) }
     {
         Positions::new(alloc, self.content.text(), self.content.encoding())
     }
@@ -287,7 +348,7 @@ fn all_fragments<'d>(
 {
     let mut found = Vec::new(alloc);
     for document in documents.values() {
-        found.push(&document.fragments)?;
+        found.push(document.fragments())?;
     }
     Ok(found)
 }
@@ -330,7 +391,7 @@ fn file_fragments<'d>(
     let mut found = Vec::new(alloc);
     for (name, document) in files.iter() {
         if !own.contains(name.as_str()) {
-            found.push(&document.fragments)?;
+            found.push(document.fragments())?;
         }
     }
     Ok(found)
@@ -347,9 +408,9 @@ pub(crate) fn told_beside(
     takes_related: bool,
 ) -> Result<Vec<u8>, AllocError>
     ensures notifies { IfOk result (λ body. IsNotice body.items) }
-    ensures told { IfOk result (λ body. (limits : Limits) → IsParsed limits document.now → (names : List Fragments)
+    ensures told { IfOk result (λ body. (names : List Fragments)
         × AreBeside (names_in others.entry.opened.now) (names_in others.entry.files.now) (is_own uri.now others.entry.opened.now) names
-        × IsTold limits takes_related uri.now version (file_of document.now) (names_of document.now) names body.items) }
+        × IsTold takes_related uri.now version (file_of document.now) (names_of document.now) names body.items) }
 {
     let mut names = all_fragments(alloc, others.opened)?;
     let own = own_files(alloc, others.opened, uri)?;

@@ -64,7 +64,7 @@ fn answer_document(
 ) -> Result<Vec<u8>, AllocError>
     requires { HasNumbers (value_view id.now) }
     ensures answers { IfOk result (λ body. IsAnswer (value_view id.now) body.items) }
-    ensures formats { IfOk result (λ body. IsFormattingOf limits (value_view id.now) document.now.content body.items) }
+    ensures formats { IfOk result (λ body. IsFormattingOf limits (value_view id.now) document.now.file.content body.items) }
 {
     let positions = document.positions(alloc)?;
     let layout = formatted(alloc, positions.text, limits)?;
@@ -84,7 +84,7 @@ pub(crate) fn answer_formatting(
     ensures answers { IfOk result (λ body. IsAnswer (value_view id.now) body.items) }
     ensures formats { IfOk result (λ body. IsFormattingIn limits (value_view id.now) (file_of document.now) body.items) }
 {
-    match document.host {
+    match document.host() {
         Some(_) => answer_null(alloc, id),
         None => answer_document(alloc, id, document, limits),
     }
@@ -100,7 +100,7 @@ fn answer_range(
 ) -> Result<Vec<u8>, AllocError>
     requires { HasNumbers (value_view id.now) }
     ensures answers { IfOk result (λ body. IsAnswer (value_view id.now) body.items) }
-    ensures formats { IfOk result (λ body. IsRangeFormattingOf limits (value_view id.now) document.now.content body.items) }
+    ensures formats { IfOk result (λ body. IsRangeFormattingOf limits (value_view id.now) document.now.file.content body.items) }
 {
     let positions = document.positions(alloc)?;
     let Some(within) = span_of(&positions, params) else {
@@ -124,7 +124,7 @@ pub(crate) fn answer_range_formatting(
     ensures answers { IfOk result (λ body. IsAnswer (value_view id.now) body.items) }
     ensures formats { IfOk result (λ body. IsRangeFormattingIn limits (value_view id.now) (file_of document.now) body.items) }
 {
-    if document.host.is_some() {
+    if document.host().is_some() {
         return answer_null(alloc, id);
     }
     answer_range(alloc, id, document, params, limits)

@@ -189,7 +189,7 @@ impl<'a> Asked<'a, '_, '_> {
             return Ok(None);
         };
         let (source, root) = match definer.document {
-            Some(known) => (known.document.content.text(), known.document.root()),
+            Some(known) => (known.document.content().text(), known.document.root()),
             None => (STANDARD, self.standard),
         };
         Ok(Some(Elsewhere {

@@ -8,7 +8,7 @@ ghost use Rattle.rpc_messages.specs.declared.reply.Reply.TheVariants.{Answer};
 ghost use Rattle.gqlls_run.specs.Conversation.{Begins, Changes, Closes, Formats, FormatsRange, IsAsked, IsHeard, Opens, Publishes, exit_status};
 ghost use Rattle.gqlls_run.specs.Dialogue.{Learns, begun};
 ghost use Rattle.gqlls_run.specs.Layout.{IsRefusalOf};
-ghost use Rattle.gqlls_run.specs.State.{IsParsed, StepsOf, dialogue_of, file_of};
+ghost use Rattle.gqlls_run.specs.State.{StepsOf, dialogue_of, file_of};
 ghost use Rattle.gqlls_run.specs.Told.{Keeps};
 
 use crate::capabilities::{answer_initialize, registration};
@@ -85,7 +85,7 @@ impl Server {
         ensures { Learns uri.now None (dialogue_of self.old) (dialogue_of self.new) }
     {
         match self.files.remove(uri) {
-            Some(document) => document.content.text().len(),
+            Some(document) => document.content().text().len(),
             None => 0,
         }
     }
@@ -211,7 +211,6 @@ impl Server {
         document: Document,
         params: &Value<'_>,
     ) -> Result<Reply, AllocError>
-        requires { IsParsed self.old.limits document }
         ensures replies { IfOk result (Replies None) }
         ensures ends { IfOk result (EndsOnlyIf ⊥) }
         ensures publishes { IfOk result (λ reply. Publishes uri.now (file_of document) (value_view params.now) reply (dialogue_of self.old) (dialogue_of self.new)) }
@@ -259,10 +258,10 @@ impl Server {
         let Some(changes) = changes_of(alloc, params)? else {
             return Ok(Reply::Nothing);
         };
-        let Some(mut document) = self.documents.remove(uri) else {
+        let Some(document) = self.documents.remove(uri) else {
             return Ok(Reply::Nothing);
         };
-        document.change(alloc, changes.as_slice(), self.limits)?;
+        let document = document.changed(alloc, changes.as_slice())?;
         // bound to a name, so that its clauses on `Ok` are found
         let reply = self.publish(alloc, uri, document, params)?;
         Ok(reply)

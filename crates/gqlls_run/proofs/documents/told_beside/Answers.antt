@@ -12,7 +12,7 @@ use Rattle.gqlls_run.proofs.Maps.{all_beside, all_of, in_either}
 use Rattle.gqlls_run.proofs.documents.told_beside.Goals as goal
 
 pub returns-clause-told : goal.returns-clause-told
-returns-clause-told c = λ limits parsed.
+returns-clause-told c =
     let others = c.args.others in
     let all_names = λ (fs : List (Bor FragmentNames)). map (λ (f : Bor FragmentNames). as_fragments f.now) fs in
     let names = all_names c.as_slice-2.result.now in
@@ -27,4 +27,4 @@ returns-clause-told c = λ limits parsed.
     ⊎ ((name : List ℕ) × (is_own c.args.uri.now others.opened.now name ≡ false) × (names_in others.files.now name ≡ Some b)))) (sym same)
     (in_either in_opened in_files b (all_of names_of others.opened.now c.in_ok-names.ensures.ordered b)
     (all_beside names_of c.in_ok-own.own others.files.now (is_own c.args.uri.now others.opened.now) c.in_ok-own.ensures c.in_ok-more.ensures.ordered b))) in
-    (names, all, c.in_ok-body.ensures.told limits parsed)
+    (names, all, c.in_ok-body.ensures.told)

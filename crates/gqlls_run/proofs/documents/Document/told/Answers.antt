@@ -5,26 +5,26 @@ use Rattle.editor_validation.specs.Fragments.{as_fragments}
 use Rattle.editor_validation.specs.declared.fragments.FragmentNames.{FragmentNames}
 use denote.Ref.{Bor}
 use Rattle.formatter.specs.Comments.{HasNoDefinitions}
-use Rattle.gqlls_run.specs.State.{source_of}
 use Rattle.gqlls_run.specs.Told.{AreRemarksOf}
 use Rattle.gqlls_run.proofs.Texts.{same_publication}
 use Rattle.gqlls_run.proofs.documents.Document.told.Goals as goal
 
 pub returns-clause-told : goal.returns-clause-told
-returns-clause-told c = λ limits parsed.
+returns-clause-told c =
     let document = c.args.self.now in
+    let parsed = c.in_ok-remarks.ensures.parsed in
     let found = sym c.as_slice.ensures.value in
     let others = map (λ (f : Bor FragmentNames). as_fragments f.now) c.args.others.now in
     record {
-      text = source_of document;
+      text = document.source;
       source = parsed.source;
-      parsed = document.tree;
+      parsed = document.parsed;
       promise = parsed.promise;
       named = parsed.named;
       remarks = map as_remarked c.as_slice.result.now;
       said = subst
-          (λ (found : List Remark). (¬ HasNoDefinitions (source_of document))
-          → AreRemarksOf c.args.takes_related others document.tree (map as_remarked found)) found c.in_ok-remarks.ensures.said;
-      silent = subst (λ (found : List Remark). HasNoDefinitions (source_of document) → map as_remarked found ≡ []) found c.in_ok-remarks.ensures.silent;
+          (λ (found : List Remark). (¬ HasNoDefinitions document.source)
+          → AreRemarksOf c.args.takes_related others document.parsed (map as_remarked found)) found c.in_ok-remarks.ensures.said;
+      silent = subst (λ (found : List Remark). HasNoDefinitions document.source → map as_remarked found ≡ []) found c.in_ok-remarks.ensures.silent;
       published = same_publication _ _ _ _ _ _ _ _ c.in_ok-positions.ensures.encoding c.in_ok-positions.ensures.text c.in_ok-body.ensures.published;
     }

@@ -16,7 +16,7 @@ returns-clause-changes c =
     let old = c.args.self.now in
     let middle : Server = record old { documents = c.remove.new.self } in
     let before = c.in-Some-remove.document in
-    let after = c.change.new.self in
+    let after = c.in_ok-document.document in
     changes (value_view c.args.params.now) c.in_ok-reply.reply (dialogue_of old) (dialogue_of c.publish.new.self)
     c.in-Some.uri.now (map told c.in-Some-2.changes.items) (file_of before)
     (found_in _ _ _ _ c.uri_of.ensures c.in-Some.is) (found_in _ _ _ _ c.in_ok-changes.ensures c.in-Some-2.is)
@@ -24,7 +24,7 @@ returns-clause-changes c =
     (record {
       after = file_of after;
       changed = subst (λ (changes : List Change). IsChanged (map told changes) (file_of before) (file_of after))
-          c.as_slice.ensures.value c.in_ok-change.ensures.changed;
+          c.as_slice.ensures.value c.in_ok-document.ensures;
       publishes = publishes_again _ _ _ _ (dialogue_of old) (dialogue_of middle) (dialogue_of c.publish.new.self)
           (record {
             documents = updated file_of _ _ old.documents c.remove.new.self _ _ refl c.remove.ensures.updates refl;
