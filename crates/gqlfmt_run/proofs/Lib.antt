@@ -1,6 +1,7 @@
 pub mod PathLemmas
 pub mod FolderLemmas
 pub mod Outputs
+pub mod Reasons
 pub mod Saying
 pub mod Quotes
 pub mod TooLong

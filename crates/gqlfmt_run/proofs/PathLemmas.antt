@@ -3,6 +3,7 @@ use Rattle.std.proofs.Common.{◌≡◌, ◌∙◌, ℕ, Bool, List, inl, inr, s
 use Rattle.std.specs.Prelude.{Ok}
 use Rattle.std.specs.Str.{IsUtf8}
 use Rattle.std.specs.declared.io.Error.{Error}
+use Rattle.byte_devices.specs.Devices.{Account}
 use Rattle.gqlfmt_files.specs.declared.settling.Mode.{Mode}
 use Rattle.gqlfmt_files.specs.declared.settling.Mode.TheVariants.{Write}
 use Rattle.gqlfmt_files.specs.declared.settling.Revised.{Revised}
@@ -11,11 +12,14 @@ use Rattle.gqlfmt_files.specs.declared.settling.Settled.{Settled}
 use Rattle.gqlfmt_files.specs.declared.settling.Settled.TheVariants as settled
 use Rattle.gqlfmt_files.specs.declared.settling.Settled.TheVariants.{Done, Found}
 use Rattle.gqlfmt_files.specs.Settling.{Settles}
+use Rattle.program_words.specs.declared.complaints.FileFault.{FileFault}
 use Rattle.gqlfmt_run.specs.declared.job.Bounds.{Bounds}
 use Rattle.gqlfmt_run.specs.declared.formatting.Refusal.{Refusal}
+use Rattle.gqlfmt_run.specs.Complaints.{Complains, IsSilent}
 use Rattle.gqlfmt_run.specs.Formatting.{IsRevised}
 use Rattle.gqlfmt_run.specs.Paths.{FollowsText, Rewrites}
 use Rattle.gqlfmt_run.proofs.Outputs.{is-refused}
+use Rattle.gqlfmt_run.proofs.Saying.{complained}
 
 module _ {S : Type 0} (reads : S → List ℕ → Result (List ℕ) Error → S → Type 0) (replaces : S → List ℕ → List ℕ → Bool → S → Type 0) where
   -- it has the layout, is rewritten, or is refused
@@ -34,16 +38,21 @@ module _ {S : Type 0} (reads : S → List ℕ → Result (List ℕ) Error → S 
   settled-text X mode bounds path source (Refused refusal) settled.Refused old new writes utf8 made settled =
       (utf8, is-refused bounds source refusal made, settled)
 
-  -- The same of a file. Its text is known as it was read, as a slice and as a text.
-  pub settled-handled : {A : Type 0} (X : Type 0) (mode : Mode) (bounds : Bounds) (path bytes slice source : List ℕ) (revised : Revised A (Refusal A))
-      (ended : Settled) (old middle new : S) → mode ≡ Write
+  -- The same of a file, and what is said of it. Its text is known as it was read, as a slice and as a text.
+  pub settled-handled : {A : Type 0} (X Y : Type 0) (m : Mode) (bounds : Bounds) (path bytes slice source : List ℕ) (revised : Revised A (Refusal A))
+      (ended : Settled) (old middle new : S) (said said' : Account) → m ≡ Write
       → reads old path (Ok bytes) middle → slice ≡ bytes → (source ≡ slice) × IsUtf8 slice → IsRevised bounds source revised
-      → Settles replaces {X = X} mode path revised (Ok ended) middle new → Rewrites reads replaces bounds path (Ok ended) old new
-  settled-handled X mode bounds path bytes slice source revised ended old middle new writes read same text made settled = record {
-    given = Ok bytes;
-    middle = middle;
-    read = read;
-    follows =
-        subst (λ (s : List ℕ). FollowsText reads replaces bounds path s (Ok ended) middle new) (text.0 ∙ same)
-        (settled-text X mode bounds path source revised ended middle new writes (subst IsUtf8 (sym text.0) text.1) made settled);
-  }
+      → Settles replaces {X = X} m path revised (Ok ended) middle new → Complains {X = Y} bounds path source revised (Ok tt) said said'
+      → (given : Result (List ℕ) Error) × Rewrites reads replaces bounds path given (Ok ended) old new × IsSilent {E = FileFault} bounds path given (Ok ended) said said'
+  settled-handled X Y m bounds path bytes slice source revised ended old middle new said said' writes read same text made settled complains = (
+    Ok bytes,
+    record {
+      middle = middle;
+      read = read;
+      follows =
+          subst (λ (s : List ℕ). FollowsText reads replaces bounds path s (Ok ended) middle new) (text.0 ∙ same)
+          (settled-text X m bounds path source revised ended middle new writes (subst IsUtf8 (sym text.0) text.1) made settled);
+    },
+    subst (λ (s : List ℕ). IsSilent {E = FileFault} bounds path (Ok s) (Ok ended) said said') (text.0 ∙ same)
+        (complained replaces X Y m bounds path source revised ended middle new said said' writes made settled complains),
+  )

@@ -1,25 +1,61 @@
 -- What the program says on standard error of a text that it was to format.
-use Rattle.std.specs.Prelude.{◌≡◌, ◌⊎◌, ℕ, List, Result, Ok, Err}
+use Rattle.std.specs.Prelude.{◌≡◌, ◌⊎◌, ℕ, List, Result, Ok, Err, map}
+use Rattle.std.specs.declared.io.Error.{Error}
+use Rattle.apollo_parser.specs.Diagnostics.{Diagnostic}
+use Rattle.apollo_parser.specs.Errors.{error_of}
+use Rattle.apollo_parser.specs.declared.Limits.{Limits}
 use Rattle.byte_devices.specs.Devices.{Account}
 use Rattle.byte_devices.specs.declared.fault.Fault.{Fault}
+use Rattle.first_errors.specs.Places.{IsFirstErrorOf, shown_at}
 use Rattle.gqlfmt_files.specs.declared.settling.Revised.{Revised}
 use Rattle.gqlfmt_files.specs.declared.settling.Revised.TheVariants as revised
 use Rattle.gqlfmt_files.specs.declared.settling.Settled.{Settled}
 use Rattle.gqlfmt_files.specs.declared.settling.Settled.TheVariants.{Done, Found, Refused}
+use Rattle.marked_lines.specs.Places.{BeginsWith, OfFirst, place}
 use Rattle.program_words.specs.Complaints.{Tells, TellsOfFile, line_about}
 use Rattle.program_words.specs.Streams.{IsSaid}
 use Rattle.program_words.specs.declared.complaints.FileFault.{FileFault}
 use Rattle.program_words.specs.declared.complaints.FileFault.TheVariants.{NotRead, NotReplaced, Device}
+use Rattle.gqlfmt_run.specs.Formatting.{HasErrors, HasOutgrown, IsRefusedFor, IsTooLong}
 use Rattle.gqlfmt_run.specs.declared.command.TheConstants.{PROGRAM}
-use Rattle.gqlfmt_run.specs.declared.report.TheConstants.{COPY_ADVICE}
+use Rattle.gqlfmt_run.specs.declared.formatting.Refusal.{Refusal}
+use Rattle.gqlfmt_run.specs.declared.job.Bounds.{Bounds}
+use Rattle.gqlfmt_run.specs.declared.report.TheConstants.{COPY_ADVICE, OUTGROWN, TOO_LONG}
 
--- What is said, by the outcome for the text: nothing where it has the layout or another one, and why where it was not formatted. How errors are shown is
--- not stated.
-abbrev pub Says : List ℕ → Result Settled Fault → Account → Account → Type 0
-Says name (Ok Done) old new = new ≡ old
-Says name (Ok Found) old new = new ≡ old
-Says name (Ok Refused) old new = Unit {0}
-Says name (Err fault) old new = Tells PROGRAM.now name fault old new
+-- ---- why a text is refused
+
+-- The report on a text with errors begins with the text's name and the place where its first error is shown. What follows is not stated.
+pub record IsErrorReport (limits : Limits) (name source report : List ℕ) : Type 0 where
+  pub error : Diagnostic
+  pub is_first : IsFirstErrorOf limits source error
+  pub begins : BeginsWith report (place name source (shown_at source error))
+
+-- why a source of this name is left as it is: its errors, or in a line that its formatted text would have too many tokens or bytes
+abbrev pub IsReason : Bounds → List ℕ → List ℕ → List ℕ → Type 0
+IsReason bounds name source report =
+    (HasErrors bounds.limits source × IsErrorReport bounds.limits name source report)
+    ⊎ (HasOutgrown bounds.limits source × (report ≡ line_about PROGRAM.now name OUTGROWN.now))
+    ⊎ (IsTooLong bounds source × (report ≡ line_about PROGRAM.now name TOO_LONG.now))
+
+-- That is said.
+abbrev pub SaysReason : Bounds → List ℕ → List ℕ → Account → Account → Type 0
+SaysReason bounds name source old new = (report : List ℕ) × IsReason bounds name source report × IsSaid report old new
+
+-- ---- standard input
+
+-- Nothing is said of a text that was handled, and why one was not.
+abbrev pub SaysFault : {T : Type 0} → List ℕ → Result T Fault → Account → Account → Type 0
+SaysFault name (Ok outcome) old new = new ≡ old
+SaysFault name (Err fault) old new = Tells PROGRAM.now name fault old new
+
+-- What is said of a source that was to be formatted: nothing where it has the layout or another one, and why where it is refused or was not formatted.
+abbrev pub Says : Bounds → List ℕ → List ℕ → Result Settled Fault → Account → Account → Type 0
+Says bounds name source (Ok Done) old new = new ≡ old
+Says bounds name source (Ok Found) old new = new ≡ old
+Says bounds name source (Ok Refused) old new = SaysReason bounds name source old new
+Says bounds name source (Err fault) old new = Tells PROGRAM.now name fault old new
+
+-- ---- files
 
 -- A copy of a file may be named.
 abbrev pub MayMentionCopy : Account → Account → Type 0
@@ -31,23 +67,35 @@ MentionsCopy (NotReplaced error) old new = MayMentionCopy old new
 MentionsCopy (NotRead error) old new = new ≡ old
 MentionsCopy (Device fault) old new = new ≡ old
 
--- The same of a file.
-abbrev pub SaysOfFile : List ℕ → Result Settled FileFault → Account → Account → Type 0
-SaysOfFile path (Ok Done) old new = new ≡ old
-SaysOfFile path (Ok Found) old new = new ≡ old
-SaysOfFile path (Ok Refused) old new = Unit {0}
-SaysOfFile path (Err fault) old new = (middle : Account) × TellsOfFile PROGRAM.now path fault old middle × MentionsCopy fault middle new
+-- why the file at a path was not formatted, and then of a copy
+abbrev pub TellsOfFileAndCopy : List ℕ → FileFault → Account → Account → Type 0
+TellsOfFileAndCopy path fault old new = (middle : Account) × TellsOfFile PROGRAM.now path fault old middle × MentionsCopy fault middle new
 
--- Before that, nothing is said but of a text's errors.
-abbrev pub IsSilent : {E : Type 0} → Result Settled E → Account → Account → Type 0
-IsSilent (Ok Done) old new = new ≡ old
-IsSilent (Ok Found) old new = new ≡ old
-IsSilent (Ok Refused) old new = Unit {0}
-IsSilent (Err fault) old new = new ≡ old
+abbrev pub SaysFileFault : {T : Type 0} → List ℕ → Result T FileFault → Account → Account → Type 0
+SaysFileFault path (Ok outcome) old new = new ≡ old
+SaysFileFault path (Err fault) old new = TellsOfFileAndCopy path fault old new
+
+-- What is said of the file at a path, by what reading it gave: the same as of standard input. Only a text that was read is refused.
+abbrev pub SaysOfFile : Bounds → List ℕ → Result (List ℕ) Error → Result Settled FileFault → Account → Account → Type 0
+SaysOfFile bounds path given (Ok Done) old new = new ≡ old
+SaysOfFile bounds path given (Ok Found) old new = new ≡ old
+SaysOfFile bounds path (Ok source) (Ok Refused) old new = SaysReason bounds path source old new
+SaysOfFile bounds path (Err error) (Ok Refused) old new = ⊥
+SaysOfFile bounds path given (Err fault) old new = TellsOfFileAndCopy path fault old new
+
+-- ---- what the calls below a run say
+
+-- Nothing is said but why a text is refused.
+abbrev pub IsSilent : {E : Type 0} → Bounds → List ℕ → Result (List ℕ) Error → Result Settled E → Account → Account → Type 0
+IsSilent bounds name given (Ok Done) old new = new ≡ old
+IsSilent bounds name given (Ok Found) old new = new ≡ old
+IsSilent bounds name (Ok source) (Ok Refused) old new = SaysReason bounds name source old new
+IsSilent bounds name (Err error) (Ok Refused) old new = ⊥
+IsSilent bounds name given (Err fault) old new = new ≡ old
 
 -- Only why a text is refused is said, if memory for that is there.
-abbrev pub Complains : {A E X : Type 0} → Revised A E → Result (Unit {0}) X → Account → Account → Type 0
-Complains (revised.Refused refusal) (Ok _) old new = Unit {0}
-Complains (revised.Refused refusal) (Err error) old new = new ≡ old
-Complains revised.Same ended old new = new ≡ old
-Complains (revised.Changed text) ended old new = new ≡ old
+abbrev pub Complains : {A E X : Type 0} → Bounds → List ℕ → List ℕ → Revised A (Refusal E) → Result (Unit {0}) X → Account → Account → Type 0
+Complains bounds name source (revised.Refused refusal) (Ok _) old new = IsRefusedFor bounds source refusal → SaysReason bounds name source old new
+Complains bounds name source (revised.Refused refusal) (Err error) old new = new ≡ old
+Complains bounds name source revised.Same ended old new = new ≡ old
+Complains bounds name source (revised.Changed text) ended old new = new ≡ old

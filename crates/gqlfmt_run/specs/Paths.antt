@@ -11,7 +11,8 @@ use Rattle.gqlfmt_files.specs.declared.settling.Mode.TheVariants.{Write}
 use Rattle.gqlfmt_files.specs.declared.settling.Settled.{Settled}
 use Rattle.gqlfmt_files.specs.declared.settling.Settled.TheVariants.{Done, Found, Refused}
 use Rattle.named_files.specs.Finding.{FoundPath, file, unreadable, path_of}
-use Rattle.named_files.specs.Handling.{Desk, ReadsAndWrites}
+use Rattle.named_files.specs.Handling as handling
+use Rattle.named_files.specs.Handling.{Desk}
 use Rattle.program_words.specs.declared.complaints.FileFault.{FileFault}
 use Rattle.program_words.specs.declared.complaints.FileFault.TheVariants.{NotRead, NotReplaced, Device}
 use Rattle.gqlfmt_run.specs.Complaints.{SaysOfFile}
@@ -46,27 +47,29 @@ module _ {S : Type 0} (reads : S → List ℕ → Result (List ℕ) Error → S 
     FollowsRead path (Err error) (Err (NotRead error')) old new = (error' ≡ error) × (new ≡ old)
     FollowsRead path (Err error) _ old new = ⊥
 
-    -- The file was read once, and then left alone or rewritten.
-    pub record Rewrites (path : List ℕ) (ended : Result Settled FileFault) (old new : S) : Type 0 where
-      pub given : Result (List ℕ) Error
+    -- The file was read once, which gave this, and then left alone or rewritten.
+    pub record Rewrites (path : List ℕ) (given : Result (List ℕ) Error) (ended : Result Settled FileFault) (old new : S) : Type 0 where
       pub middle : S
       pub read : reads old path given middle
       pub follows : FollowsRead path given ended middle new
 
     -- In mode write that is done, and nothing is written to standard output. In any other the same is written as of standard input.
-    abbrev pub HandlesFile : Mode → List ℕ → Result Settled FileFault → S → Account → S → Account → Type 0
-    HandlesFile Write path ended old output new output' = Rewrites path ended old new × (output' ≡ output)
-    HandlesFile mode path ended old output new output' = ReadsAndWrites (IsOutput mode bounds path) reads path ended old output new output'
+    abbrev pub HandlesFile : Mode → List ℕ → Result (List ℕ) Error → Result Settled FileFault → S → Account → S → Account → Type 0
+    HandlesFile Write path given ended old output new output' = Rewrites path given ended old new × (output' ≡ output)
+    HandlesFile mode path given ended old output new output' =
+        reads old path given new × handling.FollowsRead (IsOutput mode bounds path) given ended output output'
 
     -- A file that was found is handled, and a path that could not be read is left alone.
-    abbrev pub HandlesFound : Mode → FoundPath → Result Settled FileFault → S → Account → S → Account → Type 0
-    HandlesFound mode (file path) ended old output new output' = HandlesFile mode path ended old output new output'
-    HandlesFound mode (unreadable path) (Err (NotRead error)) old output new output' = (new ≡ old) × (output' ≡ output)
-    HandlesFound mode found_path ended old output new output' = ⊥
+    abbrev pub HandlesFound : Mode → FoundPath → Result (List ℕ) Error → Result Settled FileFault → S → Account → S → Account → Type 0
+    HandlesFound mode (file path) given ended old output new output' = HandlesFile mode path given ended old output new output'
+    HandlesFound mode (unreadable path) given (Err (NotRead error)) old output new output' = (new ≡ old) × (output' ≡ output)
+    HandlesFound mode found_path given ended old output new output' = ⊥
 
     -- That is done, and why it was not formatted is said.
     pub record FormatsFound (mode : Mode) (found_path : FoundPath) (status : ℕ) (old new : Desk S) : Type 0 where
       pub ended : Result Settled FileFault
-      pub handles : HandlesFound mode found_path ended old.files old.output new.files new.output
-      pub says : SaysOfFile (path_of found_path) ended old.complaints new.complaints
+      -- what reading the file gave
+      pub given : Result (List ℕ) Error
+      pub handles : HandlesFound mode found_path given ended old.files old.output new.files new.output
+      pub says : SaysOfFile bounds (path_of found_path) given ended old.complaints new.complaints
       pub counted : status ≡ status_of ended

@@ -18,7 +18,7 @@ use Rattle.program_words.specs.declared.gqlfmt.Request.TheVariants.{Print, Proce
 use Rattle.gqlfmt_run.specs.declared.job.Bounds.{Bounds}
 use Rattle.gqlfmt_run.specs.declared.command.TheConstants.{PROGRAM, USAGE, HELP, VERSION}
 use Rattle.gqlfmt_run.specs.Status.{status_of}
-use Rattle.gqlfmt_run.specs.Complaints.{Says}
+use Rattle.gqlfmt_run.specs.Complaints.{Says, SaysFault}
 use Rattle.gqlfmt_run.specs.Input.{IsOutput, PassesOn}
 use Rattle.gqlfmt_files.specs.Listing.{Listing}
 use Rattle.named_files.specs.Handling.{State, desk, streams}
@@ -32,13 +32,13 @@ information_text Version = VERSION.now
 abbrev pub bounds_of : Run → Bounds
 bounds_of run = record { limits = run.limits; most_output = run.most_output; line_endings = run.line_endings }
 
--- Standard input is read, what comes of it is written, and why it was not formatted is said, under this name.
+-- Standard input is read, what comes of it is written, and why it is refused or was not formatted is said, under this name.
 pub record FormatsInput (mode : Mode) (bounds : Bounds) (name : List ℕ) (status : ℕ) (old new : Streams) : Type 0 where
   pub ended : Result Settled Fault
   pub input : List ℕ
   pub reads : Reads ended input old.input new.input
   pub writes : Writes (IsOutput mode bounds name) ended input old.output new.output
-  pub says : Says name ended old.complaints new.complaints
+  pub says : Says bounds name input ended old.complaints new.complaints
   pub counted : status ≡ status_of ended
 
 -- Standard input is read and passed on as it is, and why that failed is said, under this name.
@@ -47,7 +47,7 @@ pub record KeepsInput (mode : Mode) (name : List ℕ) (status : ℕ) (old new : 
   pub input : List ℕ
   pub reads : Reads ended input old.input new.input
   pub passes : PassesOn mode ended input old.output new.output
-  pub says : Says name ended old.complaints new.complaints
+  pub says : SaysFault name ended old.complaints new.complaints
   pub counted : status ≡ status_of ended
 
 -- What follows the answer whether standard input is left alone, which is to be the text of the file at this path. It is passed on or formatted. Where there

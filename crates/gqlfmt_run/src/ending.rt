@@ -1,7 +1,6 @@
 // How formatting a text ends.
 ghost use Rattle.std.specs.Prelude.{◌≡◌};
-ghost use Rattle.byte_devices.specs.Devices.{Account};
-ghost use Rattle.gqlfmt_run.specs.Complaints.{IsSilent, Says, SaysOfFile};
+ghost use Rattle.gqlfmt_run.specs.Complaints.{SaysFault, SaysFileFault};
 ghost use Rattle.gqlfmt_run.specs.Status.{status_of};
 
 use crate::command::PROGRAM;
@@ -23,14 +22,13 @@ fn status_of<E>(ended: &Result<Settled, E>) -> u8
 }
 
 /// Tells why standard input was not formatted, if it was not, and gives the status for it.
-#[tactic(auto, using(crate::proofs::Saying::silent_says))]
 pub fn end<A: Allocator, E: Sink>(
     alloc: A,
     complaints: &mut E,
     name: &str,
     ended: &Result<Settled, Fault>,
 ) -> u8
-    ensures says { (before : Account) → IsSilent ended.now before (E.account complaints.old) → Says name.now ended.now before (E.account complaints.new) }
+    ensures says { SaysFault name.now ended.now (E.account complaints.old) (E.account complaints.new) }
     ensures counted { result ≡ status_of ended.now }
 {
     if let Err(fault) = ended {
@@ -40,7 +38,6 @@ pub fn end<A: Allocator, E: Sink>(
 }
 
 /// Tells why the file at a path was not formatted, if it was not, and which copy of it is there; and gives the status for it.
-#[tactic(auto, using(crate::proofs::Saying::silent_says_of_file))]
 pub fn end_of_file<A: Allocator + Copy, F: Files, E: Sink>(
     alloc: A,
     files: &F,
@@ -48,7 +45,7 @@ pub fn end_of_file<A: Allocator + Copy, F: Files, E: Sink>(
     path: &str,
     ended: &Result<Settled, FileFault>,
 ) -> u8
-    ensures says { (before : Account) → IsSilent ended.now before (E.account complaints.old) → SaysOfFile path.now ended.now before (E.account complaints.new) }
+    ensures says { SaysFileFault path.now ended.now (E.account complaints.old) (E.account complaints.new) }
     ensures counted { result ≡ status_of ended.now }
 {
     if let Err(fault) = ended {

@@ -1,5 +1,5 @@
 // Formatting standard input.
-ghost use Rattle.std.specs.Prelude.{◌≡◌, ◌≢◌, ◌⊎◌, ℕ, List, [], IfErr, IfOk, MatchResult, string_bytes};
+ghost use Rattle.std.specs.Prelude.{◌≡◌, ◌≢◌, ℕ, List, [], Ok, IfErr, IfOk, MatchResult, string_bytes};
 ghost use Rattle.byte_devices.specs.Runs.{Reads, Writes};
 ghost use Rattle.byte_devices.specs.declared.fault.Fault.TheVariants.{Read};
 ghost use Rattle.gqlfmt_files.specs.declared.settling.Settled.TheVariants.{Refused};
@@ -53,8 +53,9 @@ impl<A: Allocator + Copy, L: DocumentFormatter> Job<'_, A, L> {
         source: &str,
     ) -> Result<(Settled, String<A>), AllocError>
         ensures output { IfOk result (λ it. IsOutput self.now.mode self.now.bounds name.now source.now it.0 (string_bytes it.1)) }
+        ensures empty { IfOk result (λ it. it.0 ≡ Refused → string_bytes it.1 ≡ []) }
         ensures silent { MatchResult result
-            (λ it. (E.account complaints.new ≡ E.account complaints.old) ⊎ ((it.0 ≡ Refused) × (string_bytes it.1 ≡ [])))
+            (λ it. IsSilent {E = Unit {0}} self.now.bounds name.now (Ok source.now) (Ok it.0) (E.account complaints.old) (E.account complaints.new))
             (λ error. E.account complaints.new ≡ E.account complaints.old) }
     {
         match self.revise(source)? {
@@ -79,7 +80,7 @@ impl<A: Allocator + Copy, L: DocumentFormatter> Job<'_, A, L> {
         bytes: &[u8],
     ) -> Result<Settled, Fault>
         ensures output { Writes (IsOutput self.now.mode self.now.bounds name.now) result bytes.now (W.account writer.old) (W.account writer.new) }
-        ensures silent { IsSilent result (E.account complaints.old) (E.account complaints.new) }
+        ensures silent { IsSilent self.now.bounds name.now (Ok bytes.now) result (E.account complaints.old) (E.account complaints.new) }
         ensures reads { IfErr result (λ fault. fault ≢ Read) }
     {
         let Ok(source) = str::from_utf8(bytes) else {
@@ -98,13 +99,14 @@ impl<A: Allocator + Copy, L: DocumentFormatter> Job<'_, A, L> {
         complaints: &mut E,
         name: &str,
     ) -> Result<Settled, Fault>
-        ensures output { (input : List ℕ) × Reads result input (R.account reader.old) (R.account reader.new)
-            × Writes (IsOutput self.now.mode self.now.bounds name.now) result input (W.account writer.old) (W.account writer.new) }
-        ensures silent { IsSilent result (E.account complaints.old) (E.account complaints.new) }
+        ensures { (input : List ℕ) × Reads result input (R.account reader.old) (R.account reader.new)
+            × Writes (IsOutput self.now.mode self.now.bounds name.now) result input (W.account writer.old) (W.account writer.new)
+            × IsSilent self.now.bounds name.now (Ok input) result (E.account complaints.old) (E.account complaints.new) }
     {
         let bytes = read_to_end(self.alloc, reader)?;
         self.write_layout(writer, complaints, name, bytes.as_slice())
     }
+
     /// Reads to the end, and writes the whole text as it is, or nothing in a mode that shows what would change.
     pub fn pass_on<R: Source, W: Sink>(
         &self,

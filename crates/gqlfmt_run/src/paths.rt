@@ -1,7 +1,8 @@
 // Formatting files.
-ghost use Rattle.std.specs.Prelude.{◌≡◌, map};
-ghost use Rattle.named_files.specs.Finding.{as_named};
-ghost use Rattle.named_files.specs.Handling.{InTurn, ReadsAndWrites};
+ghost use Rattle.std.specs.Prelude.{◌≡◌, ℕ, List, Result, map};
+ghost use Rattle.std.specs.declared.io.Error.{Error};
+ghost use Rattle.named_files.specs.Finding.{as_named, path_of};
+ghost use Rattle.named_files.specs.Handling.{FollowsRead, InTurn};
 ghost use Rattle.gqlfmt_files.specs.declared.settling.Mode.TheVariants.{Write};
 ghost use Rattle.gqlfmt_run.specs.Complaints.{IsSilent};
 ghost use Rattle.gqlfmt_run.specs.Input.{IsOutput};
@@ -25,8 +26,8 @@ impl<A: Allocator + Copy, L: DocumentFormatter> Job<'_, A, L> {
         path: &str,
     ) -> Result<Settled, FileFault>
         requires { self.now.mode ≡ Write }
-        ensures handles { Rewrites F.reads F.replaces self.now.bounds path.now result files.old files.new }
-        ensures silent { IsSilent result (E.account complaints.old) (E.account complaints.new) }
+        ensures { (given : Result (List ℕ) Error) × Rewrites F.reads F.replaces self.now.bounds path.now given result files.old files.new
+            × IsSilent self.now.bounds path.now given result (E.account complaints.old) (E.account complaints.new) }
     {
         let bytes = match files.read(self.alloc, path) {
             Ok(bytes) => bytes,
@@ -51,9 +52,9 @@ impl<A: Allocator + Copy, L: DocumentFormatter> Job<'_, A, L> {
         complaints: &mut E,
         path: &str,
     ) -> Result<Settled, FileFault>
-        ensures handles { ReadsAndWrites (IsOutput self.now.mode self.now.bounds path.now) F.reads path.now result
-            files.old (W.account writer.old) files.new (W.account writer.new) }
-        ensures silent { IsSilent result (E.account complaints.old) (E.account complaints.new) }
+        ensures { (given : Result (List ℕ) Error) × F.reads files.old path.now given files.new
+            × FollowsRead (IsOutput self.now.mode self.now.bounds path.now) given result (W.account writer.old) (W.account writer.new)
+            × IsSilent self.now.bounds path.now given result (E.account complaints.old) (E.account complaints.new) }
     {
         match files.read(self.alloc, path) {
             Ok(bytes) => {
@@ -72,9 +73,9 @@ impl<A: Allocator + Copy, L: DocumentFormatter> Job<'_, A, L> {
         complaints: &mut E,
         path: &str,
     ) -> Result<Settled, FileFault>
-        ensures handles { HandlesFile F.reads F.replaces self.now.bounds self.now.mode path.now result
-            files.old (W.account writer.old) files.new (W.account writer.new) }
-        ensures silent { IsSilent result (E.account complaints.old) (E.account complaints.new) }
+        ensures { (given : Result (List ℕ) Error) × HandlesFile F.reads F.replaces self.now.bounds self.now.mode path.now given result
+            files.old (W.account writer.old) files.new (W.account writer.new)
+            × IsSilent self.now.bounds path.now given result (E.account complaints.old) (E.account complaints.new) }
     {
         match self.mode {
             Mode::Write => self.rewrite_file(files, complaints, path),
@@ -92,9 +93,9 @@ impl<A: Allocator + Copy, L: DocumentFormatter> Job<'_, A, L> {
         complaints: &mut E,
         named: &Named<A>,
     ) -> Result<Settled, FileFault>
-        ensures handles { HandlesFound F.reads F.replaces self.now.bounds self.now.mode (as_named named.now) result
-            files.old (W.account writer.old) files.new (W.account writer.new) }
-        ensures silent { IsSilent result (E.account complaints.old) (E.account complaints.new) }
+        ensures { (given : Result (List ℕ) Error) × HandlesFound F.reads F.replaces self.now.bounds self.now.mode (as_named named.now) given result
+            files.old (W.account writer.old) files.new (W.account writer.new)
+            × IsSilent self.now.bounds (path_of (as_named named.now)) given result (E.account complaints.old) (E.account complaints.new) }
     {
         match named {
             Named::File(path) => self.format_file(files, writer, complaints, path.as_str()),

@@ -1,10 +1,15 @@
 // What is said on standard error: the errors of a text, with their positions, and why a text was not formatted.
-ghost use Rattle.std.specs.Prelude.{◌≡◌, OnErr};
-ghost use Rattle.gqlfmt_run.specs.Complaints.{Complains, MayMentionCopy, MentionsCopy};
+ghost use Rattle.std.specs.Prelude.{◌≡◌, ◌++◌, IfOk, MatchResult, string_bytes};
+ghost use Rattle.apollo_parser.specs.Errors.{error_of};
+ghost use Rattle.first_errors.specs.Places.{shown_at};
+ghost use Rattle.marked_lines.specs.Places.{BeginsWith, OfFirst, place};
+ghost use Rattle.gqlfmt_run.specs.Complaints.{Complains, IsReason, MayMentionCopy, MentionsCopy, SaysReason};
+ghost use Rattle.gqlfmt_run.specs.Formatting.{IsRefusedFor};
 
 use crate::command::PROGRAM;
 use crate::formatting::Refusal;
 use crate::job::Job;
+use apollo_parser::BorrowedError;
 use byte_devices::Sink;
 use first_errors::{FirstErrors, for_people, shown_at};
 use gqlfmt_files::{Files, Revised};
@@ -14,29 +19,49 @@ use program_words::complaints::FileFault;
 use program_words::streams::say;
 use std::alloc::{AllocError, Allocator};
 
+// Why a text is left as it is, where it has no errors.
+const OUTGROWN: &str = "it would have more tokens than allowed when formatted";
+
+const TOO_LONG: &str = "it would have more bytes than --max-output allows when formatted";
+
 // What is said of a copy.
 const COPY_ADVICE: &str =
     "a copy of the file: once no run is at work, restore the file from it if need be, and remove it";
 
-/// A line `NAME:LINE:COLUMN: MESSAGE` for each error, and below it the line of the text with the position marked; then how many more errors there are.
-/// Lines and columns count from 1, columns in characters.
+// A line `NAME:LINE:COLUMN: MESSAGE` for an error, and below it the line of the text with the position marked.
+fn push_error<'s, A: Allocator>(
+    report: &mut String<A>,
+    name: &str,
+    source: &'s str,
+    index: &LineIndex<'_, A>,
+    error: &BorrowedError<'s>,
+) -> Result<(), AllocError>
+    requires { index.now ≡ source.now }
+    ensures { IfOk result (λ _. BeginsWith (string_bytes report.new) (string_bytes report.old ++ place name.now source.now (shown_at source.now (error_of error.now)))) }
+{
+    let (words, quoted, end) = error.message_parts();
+    let (front, rest) = for_people(words);
+    let remark = Remark {
+        offset: shown_at(source, error),
+        message: (front, rest, quoted, end),
+        marked: error.data(),
+    };
+    push_message(report, name, index, &remark)
+}
+
+// That for each error; then how many more errors there are. Lines and columns count from 1, columns in characters.
 fn render_report<A: Allocator + Copy>(
     alloc: A,
     name: &str,
     source: &str,
     first: &FirstErrors<'_, A>,
-) -> Result<String<A>, AllocError> {
+) -> Result<String<A>, AllocError>
+    ensures { IfOk result (λ report. OfFirst (λ error. BeginsWith (string_bytes report) (place name.now source.now (shown_at source.now (error_of error)))) first.now.errors.items) }
+{
     let index = LineIndex::new(alloc, source)?;
     let mut report = String::new(alloc);
     for error in &first.errors {
-        let (words, quoted, end) = error.message_parts();
-        let (front, rest) = for_people(words);
-        let remark = Remark {
-            offset: shown_at(source, error),
-            message: (front, rest, quoted, end),
-            marked: error.data(),
-        };
-        push_message(&mut report, name, &index, &remark)?;
+        push_error(&mut report, name, source, &index, error)?;
     }
     push_more(&mut report, name, first.more)?;
     Ok(report)
@@ -49,17 +74,13 @@ impl<A: Allocator + Copy, L> Job<'_, A, L> {
         name: &str,
         source: &str,
         refusal: &Refusal<'_, A>,
-    ) -> Result<String<A>, AllocError> {
+    ) -> Result<String<A>, AllocError>
+        ensures { IfOk result (λ report. IsRefusedFor self.now.bounds source.now refusal.now → IsReason self.now.bounds name.now source.now (string_bytes report)) }
+    {
         match refusal {
             Refusal::Errors(first) => render_report(self.alloc, name, source, first),
-            Refusal::Outgrown => {
-                let reason = "it would have more tokens than allowed when formatted";
-                complaint(self.alloc, PROGRAM, name, reason)
-            }
-            Refusal::TooLong => {
-                let reason = "it would have more bytes than --max-output allows when formatted";
-                complaint(self.alloc, PROGRAM, name, reason)
-            }
+            Refusal::Outgrown => complaint(self.alloc, PROGRAM, name, OUTGROWN),
+            Refusal::TooLong => complaint(self.alloc, PROGRAM, name, TOO_LONG),
         }
     }
 
@@ -71,7 +92,9 @@ impl<A: Allocator + Copy, L> Job<'_, A, L> {
         source: &str,
         refusal: &Refusal<'_, A>,
     ) -> Result<(), AllocError>
-        ensures { OnErr result (E.account complaints.new ≡ E.account complaints.old) }
+        ensures { MatchResult result
+            (λ _. IsRefusedFor self.now.bounds source.now refusal.now → SaysReason self.now.bounds name.now source.now (E.account complaints.old) (E.account complaints.new))
+            (λ _. E.account complaints.new ≡ E.account complaints.old) }
     {
         let report = self.reasons(name, source, refusal)?;
         say(complaints, report.as_str());
@@ -86,7 +109,7 @@ impl<A: Allocator + Copy, L> Job<'_, A, L> {
         source: &str,
         revised: &Revised<A, Refusal<'_, A>>,
     ) -> Result<(), AllocError>
-        ensures { Complains revised.now result (E.account complaints.old) (E.account complaints.new) }
+        ensures { Complains self.now.bounds name.now source.now revised.now result (E.account complaints.old) (E.account complaints.new) }
     {
         match revised {
             Revised::Refused(refusal) => self.complain(complaints, name, source, refusal),

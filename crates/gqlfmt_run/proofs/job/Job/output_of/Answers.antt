@@ -5,3 +5,6 @@ pub returns-in_ok-complain-in-Refused-clause-output : goal.returns-in_ok-complai
 returns-in_ok-complain-in-Refused-clause-output g c =
     of_refused c.args.self.now.mode c.args.self.now.bounds c.args.name.now c.args.source.now _
     (is-refused _ _ _ (rw c.in-Refused.is at c.in_ok-revise.ensures)) c.new.ensures.bytes
+
+pub returns-in_ok-complain-in-Refused-clause-silent : goal.returns-in_ok-complain-in-Refused-clause-silent
+returns-in_ok-complain-in-Refused-clause-silent g c = c.in_ok-complain-in-Refused.ensures (rw c.in-Refused.is at c.in_ok-revise.ensures)

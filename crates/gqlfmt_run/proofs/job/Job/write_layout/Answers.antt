@@ -1,8 +1,9 @@
 use Rattle.std.proofs.Common.{string_bytes, refl}
 use Rattle.std.proofs.lemmas.Result.{err_from_is_err_and}
+use Rattle.byte_devices.specs.declared.fault.Fault.{Fault}
 use Rattle.byte_devices.proofs.Ends.{cut}
 use Rattle.gqlfmt_run.specs.Input.{IsOutput}
-use Rattle.gqlfmt_run.proofs.Saying.{silent-broken}
+use Rattle.gqlfmt_run.proofs.Saying.{silent-again, silent-broken}
 use Rattle.gqlfmt_run.proofs.job.Job.write_layout.Goals as goal
 
 -- what the writer did where it failed or took no byte
@@ -20,6 +21,11 @@ returns-in_err-write_all-clause-output g c =
 pub returns-in_err-write_all-clause-silent : goal.returns-in_err-write_all-clause-silent
 returns-in_err-write_all-clause-silent g c =
     let p = err_from_is_err_and c.from_residual-in_err-write_all.result c.from_residual-in_err-write_all.ensures.1 in
-    rw p.1 (silent-broken c.in_err-write_all.field-0.0
+    rw p.1 (silent-broken c.args.self.now.bounds c.args.name.now c.in-Ok.source.now c.in_ok-settled.settled c.in_err-write_all.field-0.0
     (string_bytes c.in_ok-settled.output) c.as_bytes.result.now _ _ _ _ c.as_bytes.ensures.value c.in_err-write_all.ensures.err
-    c.in_ok-settled.ensures.silent)
+    c.in_ok-settled.ensures.empty c.in_ok-settled.ensures.silent)
+
+pub returns-clause-silent : goal.returns-clause-silent
+returns-clause-silent g c =
+    silent-again (Unit {0}) Fault c.args.self.now.bounds c.args.name.now c.in-Ok.source.now c.args.bytes.now c.in_ok-settled.settled _ _ c.in-Ok.ensures.cases.0
+    c.in_ok-settled.ensures.silent
