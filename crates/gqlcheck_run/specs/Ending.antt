@@ -16,7 +16,7 @@ status_of (Ok false) = 1
 status_of (Err fault) = 2
 
 -- What is written of a text of this name that is found to pass, or not to: of one that passes nothing, unless its figures are wanted, and of one that does
--- not, first the place of what is found. How more findings and figures are printed is not stated.
+-- not, first the place of a finding. How more findings and figures are printed is not stated.
 pub record IsOutput (asked : Asked) (printing : Printing) (name source : List ℕ) (passes : Bool) (output : List ℕ) : Type 0 where
   pub judged : (passes ≡ true) ↔ Passes asked source
   pub quiet : passes ≡ true → printing.figures ≡ false → output ≡ []

@@ -43,7 +43,8 @@ module _ {S : Type 0} (reads : S → List ℕ → Result (List ℕ) Error → S 
       (ended : Settled) (old middle new : S) (said said' : Account) → m ≡ Write
       → reads old path (Ok bytes) middle → slice ≡ bytes → (source ≡ slice) × IsUtf8 slice → IsRevised bounds source revised
       → Settles replaces {X = X} m path revised (Ok ended) middle new → Complains {X = Y} bounds path source revised (Ok tt) said said'
-      → (given : Result (List ℕ) Error) × Rewrites reads replaces bounds path given (Ok ended) old new × IsSilent {E = FileFault} bounds path given (Ok ended) said said'
+      → (given : Result (List ℕ) Error) × Rewrites reads replaces bounds path given (Ok ended) old new
+      × IsSilent {E = FileFault} bounds path given (Ok ended) said said'
   settled-handled X Y m bounds path bytes slice source revised ended old middle new said said' writes read same text made settled complains = (
     Ok bytes,
     record {

@@ -37,7 +37,7 @@ error-report of limits name source report shown more none are begins =
     (λ empty. refused.some (refused.errors_of ∙ ap (λ (t : Parsed). t.errors) (sym same) ∙ empty))
     (first_shown _ are.parsed.errors most_shown (map of shown) more (omega arith) are.first) begins
 
--- so the reason is told
+-- so that is the reason
 pub of-errors : {E : Type 0} (of : E → Diagnostic) (bounds : Bounds) (name source report : List ℕ) (shown : List E) (more : ℕ)
     → HasErrors bounds.limits source × AreFirstOf bounds.limits source most_shown (map of shown) more
     → OfFirst (λ error. BeginsWith report (place name source (shown_at source (of error)))) shown → IsReason bounds name source report

@@ -38,7 +38,7 @@ module _ (bounds : Bounds) (name : List ℕ) where
   silent_says_of_file (Err error) (Ok Refused) old middle new silent said = absurd silent
   silent_says_of_file given (Err fault) old middle new silent said = subst (λ (a : Account). TellsOfFileAndCopy name fault a new) silent said
 
--- What is said does not depend on what fails elsewhere, nor on how the source is known.
+-- What is said is the same for each type of faults, and for each name of the source.
 pub silent-again : (E F : Type 0) (bounds : Bounds) (name source text : List ℕ) (settled : Settled) (old new : Account) → source ≡ text
     → IsSilent {E = E} bounds name (Ok source) (Ok settled) old new → IsSilent {E = F} bounds name (Ok text) (Ok settled) old new
 silent-again E F bounds name source text Done old new same silent = silent

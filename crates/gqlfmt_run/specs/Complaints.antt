@@ -75,7 +75,7 @@ abbrev pub SaysFileFault : {T : Type 0} → List ℕ → Result T FileFault → 
 SaysFileFault path (Ok outcome) old new = new ≡ old
 SaysFileFault path (Err fault) old new = TellsOfFileAndCopy path fault old new
 
--- What is said of the file at a path, by what reading it gave: the same as of standard input. Only a text that was read is refused.
+-- What is said of the file at a path, by the result of the read: the same as of standard input. Only a text that was read is refused.
 abbrev pub SaysOfFile : Bounds → List ℕ → Result (List ℕ) Error → Result Settled FileFault → Account → Account → Type 0
 SaysOfFile bounds path given (Ok Done) old new = new ≡ old
 SaysOfFile bounds path given (Ok Found) old new = new ≡ old

@@ -9,4 +9,5 @@ use Rattle.gqlfmt_run.proofs.report.render_report.Given as goal
 abbrev pub invariant-loop-error : goal.invariant-loop-error
 invariant-loop-error g l =
     (l.error-index ≡ 0 → string_bytes l.report ≡ [])
-    × OfFirst (λ error. BeginsWith (string_bytes l.report) (place l.name l.source (shown_at l.source (error_of error)))) (take l.error-index l.first.errors.items)
+    × OfFirst (λ error. BeginsWith (string_bytes l.report) (place l.name l.source (shown_at l.source (error_of error))))
+    (take l.error-index l.first.errors.items)

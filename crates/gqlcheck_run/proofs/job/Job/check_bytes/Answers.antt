@@ -9,7 +9,8 @@ use Rattle.gqlcheck_run.proofs.job.Job.check_bytes.Goals as goal
 pub returns-in_err-write_all-clause-output : goal.returns-in_err-write_all-clause-output
 returns-in_err-write_all-clause-output g c =
     let k =
-    cut (IsOutput (as_asked c.args.self.now.checks) c.args.self.now.printing c.args.name.now) c.in_err-write_all.field-0.0 c.in_ok-passes.passes c.args.bytes.now
+    cut (IsOutput (as_asked c.args.self.now.checks) c.args.self.now.printing c.args.name.now) c.in_err-write_all.field-0.0
+    c.in_ok-passes.passes c.args.bytes.now
     c.args.bytes.now c.in-Ok.source.now
     c.in_ok-passes.output.items c.as_slice.result.now (g.W.Sink.account c.args.writer.now) _ _ _ refl refl c.in-Ok.ensures.cases
     c.in_ok-passes.ensures
