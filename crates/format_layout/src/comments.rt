@@ -1,5 +1,5 @@
 // Comments, and the line ends before them and before tokens, on the walk over the tree of a document.
-use crate::rules::{Inside, closes, is_between_items, opens};
+use crate::rules::{goes_on, is_inside_construct, keeps_blank, keeps_blank_before_comment};
 use crate::slot::{BREAKS, Part, Separator, Slot};
 use crate::walk::Frame;
 use document_grammar::SyntaxKind;
@@ -105,16 +105,6 @@ impl CommentState {
         self.ignores_next
     }
 
-    // Whether empty lines before a child of a node become one: between items, and next to comments in lines of their own.
-    #[inline(always)]
-    fn may_keep_blank(&self, parent: &Frame) -> bool {
-        self.last_child_was_comment
-            || match parent.previous {
-                Some(left) => !opens(left) && is_between_items(parent.inside, left),
-                None => false,
-            }
-    }
-
     /// The separator before a child that is no comment, with an empty line where the source has some and one of them stays.
     #[inline(always)]
     pub fn with_blank(
@@ -124,8 +114,8 @@ impl CommentState {
         separator: Separator,
         line_ends: u8,
     ) -> Separator {
-        let is_dropped = matches!(parent.inside, Inside::Values) && !self.last_child_was_comment;
-        if line_ends > 1 && !closes(child) && !is_dropped && self.may_keep_blank(parent) {
+        let is_after_comment = self.last_child_was_comment;
+        if line_ends > 1 && keeps_blank(parent.inside, parent.previous, child, is_after_comment) {
             separator.with_blank()
         } else {
             separator
@@ -147,12 +137,10 @@ impl CommentState {
                 ..slot
             };
         }
-        let goes_on = !parent.inside.is_group()
-            && !matches!(Inside::of(child), Inside::Braces)
-            && child != SyntaxKind::L_CURLY;
+        let deeper = u16::from(goes_on(parent.inside, child));
         Slot {
             separator: Separator::Line,
-            level: slot.level.saturating_add(u16::from(goes_on)),
+            level: slot.level.saturating_add(deeper),
             ..slot
         }
     }
@@ -162,10 +150,13 @@ impl CommentState {
         if is_first {
             return Separator::Nothing;
         }
+        let is_after_comment = self.last_child_was_comment;
         match line_ends {
             0 => Separator::Space,
             1 => Separator::Line,
-            _ if parent.previous.is_none() || self.may_keep_blank(parent) => Separator::BlankLine,
+            _ if keeps_blank_before_comment(parent.inside, parent.previous, is_after_comment) => {
+                Separator::BlankLine
+            }
             _ => Separator::Line,
         }
     }
@@ -178,15 +169,13 @@ impl CommentState {
         is_after_group: bool,
         line_ends: u8,
     ) -> Slot {
-        let goes_on = !matches!(parent.inside, Inside::Document)
-            && !parent.inside.is_group()
-            && parent.previous != Some(SyntaxKind::DESCRIPTION);
+        let deeper = u16::from(is_inside_construct(parent.inside, parent.previous));
         Slot {
             separator: self.separator_of_comment(parent, is_first, line_ends),
             part: Part::Neither,
             is_after_group,
             width: BREAKS,
-            level: parent.level.saturating_add(u16::from(goes_on)),
+            level: parent.level.saturating_add(deeper),
         }
     }
 }

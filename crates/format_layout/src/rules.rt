@@ -1,4 +1,4 @@
-// The layout of each construct: what is between two neighbours below a node, and which lines are indented.
+// The layout of each construct, and all of it: what is between two neighbours below a node, where empty lines stay, and which lines are indented.
 use crate::slot::Separator;
 use document_grammar::SyntaxKind;
 
@@ -139,6 +139,62 @@ fn is_tight(parent: SyntaxKind, left: SyntaxKind, right: SyntaxKind) -> bool {
 #[inline(always)]
 pub fn is_between_items(inside: Inside, left: SyntaxKind) -> bool {
     matches!(inside, Inside::Document) || inside.has_brackets() || is_in_braces(inside, left)
+}
+
+// Whether empty lines after this child become one: between items, and after a comment in a line of its own.
+#[inline(always)]
+fn may_keep_blank(inside: Inside, left: Option<SyntaxKind>, is_after_comment: bool) -> bool {
+    is_after_comment
+        || match left {
+            Some(left) => !opens(left) && is_between_items(inside, left),
+            None => false,
+        }
+}
+
+/// Whether empty lines between two neighbours become one, where the right one is no comment. Between the values of a list they go, and before a closing
+/// bracket.
+#[inline(always)]
+pub fn keeps_blank(
+    inside: Inside,
+    left: Option<SyntaxKind>,
+    right: SyntaxKind,
+    is_after_comment: bool,
+) -> bool {
+    let is_dropped = matches!(inside, Inside::Values) && !is_after_comment;
+    !closes(right) && !is_dropped && may_keep_blank(inside, left, is_after_comment)
+}
+
+/// Whether empty lines before a comment become one. They do before the first child too.
+#[inline(always)]
+pub fn keeps_blank_before_comment(
+    inside: Inside,
+    left: Option<SyntaxKind>,
+    is_after_comment: bool,
+) -> bool {
+    left.is_none() || may_keep_blank(inside, left, is_after_comment)
+}
+
+/// Whether a comment after this child is inside a construct. Its line is then one level deeper.
+#[inline(always)]
+pub fn is_inside_construct(inside: Inside, left: Option<SyntaxKind>) -> bool {
+    !matches!(inside, Inside::Document)
+        && !inside.is_group()
+        && left != Some(SyntaxKind::DESCRIPTION)
+}
+
+/// Whether a construct goes on with this child. After a comment its line is then one level deeper.
+#[inline(always)]
+pub fn goes_on(inside: Inside, right: SyntaxKind) -> bool {
+    !inside.is_group()
+        && !matches!(Inside::of(right), Inside::Braces)
+        && right != SyntaxKind::L_CURLY
+}
+
+/// Whether a sign between members is left out that is the first child: `|` before the first location of a directive. Before the first member of a union and
+/// the first interface, `between` says it.
+#[inline(always)]
+pub fn leaves_out_sign(parent: SyntaxKind, left: Option<SyntaxKind>) -> bool {
+    parent == SyntaxKind::DIRECTIVE_LOCATIONS && left.is_none()
 }
 
 // What is between two items of a group between brackets, or between an item and a bracket.

@@ -2,7 +2,9 @@
 // some 6 % less time. The walk itself is not, since its loop and the writer's would have to share the processor's registers.
 use crate::comments::CommentState;
 use crate::elements::Elements;
-use crate::rules::{Inside, between, closes, is_between_items, is_in_braces, is_word, opens};
+use crate::rules::{
+    Inside, between, closes, is_between_items, is_in_braces, is_word, leaves_out_sign, opens,
+};
 use crate::size::{QUOTES, columns, has_lines};
 use crate::slot::{BREAKS, Part, Separator, Slot};
 use apollo_tree::IndexedElement;
@@ -311,7 +313,7 @@ impl<'t, A: Allocator + Copy> Walk<'t, A> {
         Ok(())
     }
 
-    // Whether the token, which has the last slot, is left out: a sign before the first interface or location.
+    // Whether the token, which has the last slot, is left out: a sign before the first member, interface or location.
     #[inline(always)]
     fn is_left_out(&mut self, kind: SyntaxKind, parent: &Frame) -> bool {
         if kind != SyntaxKind::PIPE && kind != SyntaxKind::AMP {
@@ -320,7 +322,7 @@ impl<'t, A: Allocator + Copy> Walk<'t, A> {
         let Some(slot) = self.slots.last_mut() else {
             return false;
         };
-        if parent.kind == SyntaxKind::DIRECTIVE_LOCATIONS && parent.previous.is_none() {
+        if leaves_out_sign(parent.kind, parent.previous) {
             slot.separator = Separator::NoSign;
         }
         matches!(slot.separator, Separator::NoSign)
