@@ -233,8 +233,9 @@ typedef struct dumyroke_violation_counts {
 
 /* Validates a document by the rules of dumyroke_rule, within both limits of a parse.
  *
- * Writes the violations and their messages, each as far as there is room, as dumyroke_parse does. No two violations are the same, and if there are
- * fewer than `most`, they are all, and a second call needs just the counted room. With `most` violations that is tested, not proved.
+ * Writes the violations and their messages, each as far as there is room, as dumyroke_parse does. They are in the order of the text, and no two are
+ * the same. If there are fewer than `most`, they are all, and a second call needs just the counted room. With `most` violations that is tested, not
+ * proved.
  *
  *   text       `text_length` bytes of UTF-8.
  *   most       how many violations are looked for at most: SIZE_MAX for all. With 0 nothing is looked for.

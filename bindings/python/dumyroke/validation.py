@@ -41,9 +41,10 @@ class Violation(Placed):
 
 
 def validate(text: Text, most: int | None = 1000, recursion_limit: int | None = 500, token_limit: int | None = None) -> list[Violation]:
-    """The places at which a document breaks a rule of the standard's section 5 that needs no schema, at most so many, or all with None. No two are the
-    same. If there are fewer, they are all, and unless `most` is 0 there are none exactly if it keeps all these rules. A document of the type system is
-    judged only by what one definition may not have twice: fields, arguments, input fields, enum values, union members and interfaces of one name.
+    """The places at which a document breaks a rule of the standard's section 5 that needs no schema, in the order of the text: at most so many, or all
+    with None. No two are the same. If there are fewer, they are all, and unless `most` is 0 there are none exactly if it keeps all these rules. A document
+    of the type system is judged only by what one definition may not have twice: fields, arguments, input fields, enum values, union members and
+    interfaces of one name.
 
     Raises `NotADocument` with the errors if the text is none within both limits, and else as `parse` does."""
     source, limits = given(text, recursion_limit, token_limit)

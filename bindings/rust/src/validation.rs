@@ -18,8 +18,9 @@ pub struct Violation {
     pub message: String,
 }
 
-/// The places at which a document breaks a [`Rule`], at most `most` of them. No two are the same. If there are fewer, they are all, and there are none
-/// exactly if the document keeps all these rules. A document of the type system is judged only by those on what one definition has twice.
+/// The places at which a document breaks a [`Rule`], at most `most` of them, in the order of the text. No two are the same. If there are fewer, they are
+/// all, and there are none exactly if the document keeps all these rules. A document of the type system is judged only by those on what one definition
+/// has twice.
 ///
 /// ```
 /// use dumyroke::validation::{validate, Rule};

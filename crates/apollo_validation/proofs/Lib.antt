@@ -1,4 +1,5 @@
 pub mod ListLemmas
+pub mod OneListLemmas
 pub mod ReadLemmas
 pub mod ValidLemmas
 pub mod WalkLemmas

@@ -3,8 +3,10 @@ use Rattle.std.proofs.Common.{◌≡◌, ◌⊎◌, ◌==◌, ℕ, suc, ◌<◌,
 use Rattle.std.proofs.Common.{not, Option, Some, None, arith, refl, sym, ◌∙◌, ap, subst, inl, inr, ⊎_elim}
 use Rattle.std.specs.Prelude.{◌↔◌, Bool, if◌then◌else◌, option_and_then}
 use Rattle.std.specs.List.{Contains}
+use Rattle.std.specs.List.Sorted.{IsPermutation}
 use Rattle.std.proofs.lemmas.Bool.Decides.{nat_tests}
 use Rattle.std.proofs.lemmas.List.{get_or_default, length-map}
+use Rattle.std.proofs.lemmas.List.Sorted.{Contains-permutation, IsPermutation-sym, length_permutation}
 use Rattle.apollo_tree.specs.Order.{Place}
 use Rattle.apollo_tree.specs.Children.{child_nodes}
 use Rattle.executable_document.specs.declared.executables.DefinitionKind.TheVariants.{Operation, Fragment}
@@ -15,6 +17,7 @@ use Rattle.definition_rules.specs.declared.violations.Rule.TheVariants.{NoFragme
 use Rattle.definition_rules.specs.declared.violations.Rule.TheVariants.{UniqueFragmentNames, UniqueOperationNames}
 use Rattle.definition_rules.specs.declared.violations.Violation.{Violation}
 use Rattle.definition_rules.specs.declared.violations.Violations.{Violations}
+use Rattle.definition_rules.specs.TextOrder.{AreInTextOrder}
 use Rattle.definition_rules.specs.Violations.{Adds, Breach, as_breach, count, found}
 use Rattle.definition_rules.specs.Parts.{at, operations, parts_in, targets}
 use Rattle.definition_rules.specs.Rules.{AnonymousIsAlone, AreUnique, FragmentsAreUsed, HasNoCycles}
@@ -22,6 +25,7 @@ use Rattle.definition_rules.specs.Broken.{BreaksVariables, IsNotAlone, IsOnCycle
 use Rattle.definition_rules.specs.Broken.{IsUndefinedVariable, IsUnusedFragment, IsUnusedVariable, Repeats}
 use Rattle.definition_rules.specs.Rules.{SpreadsAreDefined, VariablesAreWell}
 use Rattle.definition_rules.proofs.AddLemmas.{adds_same, adds_then}
+use Rattle.definition_rules.proofs.DistinctLemmas.{differ_permuted}
 use Rattle.definition_rules.proofs.NameLemmas.{unique_repeats}
 use Rattle.definition_rules.proofs.OperationLemmas.{find_has, find_passes}
 use Rattle.apollo_validation.specs.declared.lists.NamedList.{NamedList}
@@ -271,17 +275,21 @@ adds_all d v0 v1 v2 v3 v4 v5 v6 v7 v8 v9 a1 a2 a3 a4 a5 a6 a7 a8 a9 =
     (λ ((((((((g1, g2), g3), g4), g5), g6), g7), g8), g9). are_valid d g1 g2 g3 g4 g5 g6 g7 g8 g9)
     b9.adds
 
--- ---- what is found from an empty list on
+-- ---- what is found from an empty list on, in the order of the text
 pub exact :
-    (Breaks : Breach → Type 0) (IsWell : Type 0) (most : ℕ) (old new : Violations) → old.list.items ≡ [] → old.most ≡ most → Adds Breaks IsWell old new
-    → AreBreaches most Breaks (found new)
-exact Breaks IsWell most old new none same adds = record {
-  no_others = λ b there. ⊎_elim (λ (was : Contains (found old) b). absurd (nothing b was)) (λ (breaks : Breaks b). breaks) (adds.no_others b there);
-  all = λ less b breaks. adds.all (let l = long in omega arith) b breaks;
+    (Breaks : Breach → Type 0) (IsWell : Type 0) (most : ℕ) (old new : Violations) (listed : List Breach) → old.list.items ≡ [] → old.most ≡ most
+    → Adds Breaks IsWell old new → IsPermutation (found new) listed → AreInTextOrder listed → AreBreaches most Breaks listed
+exact Breaks IsWell most old new listed none same adds permuted in_order = record {
+  no_others = λ b there.
+      ⊎_elim (λ (was : Contains (found old) b). absurd (nothing b was)) (λ (breaks : Breaks b). breaks)
+      (adds.no_others b (Contains-permutation listed (found new) b (IsPermutation-sym (found new) listed permuted) there));
+  all = λ less b breaks. Contains-permutation (found new) listed b permuted (adds.all (let l = long in omega arith) b breaks);
   few = let l = long in let few = adds.few (let z = zero_long in omega arith) in omega arith;
   distinct =
-      adds.distinct (λ b there. absurd (nothing b there))
-      (λ i j d less below. absurd (let l = length-map old.list.items as_breach in let z = zero_long in omega arith));
+      differ_permuted (found new) listed permuted
+      (adds.distinct (λ b there. absurd (nothing b there))
+      (λ i j d less below. absurd (let l = length-map old.list.items as_breach in let z = zero_long in omega arith)));
+  in_order = in_order;
 }
   where
     zero_long : count old ≡ 0
@@ -290,23 +298,28 @@ exact Breaks IsWell most old new none same adds = record {
     nothing : (b : Breach) → ¬ Contains (found old) b
     nothing b (k, below, is) = let l = length-map old.list.items as_breach in let z = zero_long in omega arith
 
-    long : length (found new) ≡ count new
-    long = length-map new.list.items as_breach
+    long : length listed ≡ count new
+    long = length_permutation (found new) listed permuted ∙ length-map new.list.items as_breach
 
 pub valid_if_none :
-    (Breaks : Breach → Type 0) (IsWell : Type 0) → (IsWell → (b : Breach) → ¬ Breaks b) → (most : ℕ) (old new : Violations) → old.list.items ≡ []
-    → old.most ≡ most → Adds Breaks IsWell old new → 0 < most → (new.list.items ≡ []) ↔ IsWell
-valid_if_none Breaks IsWell keeps most old new none same adds positive = (
-  (λ e. let n : count new ≡ 0 = ap length e in adds.well (omega arith) (omega arith)),
-  (λ well. no_items new.list.items (λ v there. no_breach well v there)),
+    (Breaks : Breach → Type 0) (IsWell : Type 0) → (IsWell → (b : Breach) → ¬ Breaks b) → (most : ℕ) (old new : Violations) (listed : List Violation)
+    → old.list.items ≡ [] → old.most ≡ most → Adds Breaks IsWell old new → IsPermutation (found new) (map as_breach listed) → 0 < most
+    → (listed ≡ []) ↔ IsWell
+valid_if_none Breaks IsWell keeps most old new listed none same adds permuted positive = (
+  (λ e. let n : count new ≡ 0 = long ∙ ap length e in adds.well (omega arith) (omega arith)),
+  (λ well. no_items listed (λ b there. no_breach well b there)),
 )
   where
-    no_breach : IsWell → (b : Breach) → ¬ Contains (found new) b
+    long : count new ≡ length listed
+    long = sym (length-map new.list.items as_breach) ∙ sym (length_permutation (found new) (map as_breach listed) permuted) ∙ length-map listed as_breach
+
+    no_breach : IsWell → (b : Breach) → ¬ Contains (map as_breach listed) b
     no_breach well b there =
         ⊎_elim
         (λ (was : Contains (found old) b). let (k, below, is) = was in let l = length-map old.list.items as_breach in let z = ap length none in omega arith)
         (λ (breaks : Breaks b). keeps well b breaks)
-        (adds.no_others b there)
+        (adds.no_others b
+        (Contains-permutation (map as_breach listed) (found new) b (IsPermutation-sym (found new) (map as_breach listed) permuted) there))
 
     no_items : (xs : List Violation) → ((b : Breach) → ¬ Contains (map as_breach xs) b) → xs ≡ []
     no_items [] empty = refl

@@ -12,6 +12,7 @@ use Rattle.definition_rules.specs.declared.violations.Rule.TheVariants.{UniqueUn
 use Rattle.definition_rules.specs.declared.violations.Rule.TheVariants.{UniqueOperationNames, UniqueVariableNames}
 use Rattle.definition_rules.specs.Parts.{parts_in}
 use Rattle.definition_rules.specs.Broken.{BreaksVariables, IsNotAlone, IsOnCycle, IsUndefinedSpread, IsUnusedFragment, Repeats}
+use Rattle.definition_rules.specs.TextOrder.{AreInTextOrder}
 use Rattle.definition_rules.specs.Violations.{AreDistinct, Breach, breach}
 use Rattle.apollo_validation.specs.declared.lists.DocumentKind.{DocumentKind}
 use Rattle.apollo_validation.specs.declared.lists.DocumentKind.TheVariants.{Executable, TypeSystem}
@@ -85,9 +86,11 @@ abbrev pub BreaksAs : DocumentKind → Place → Breach → Type 0
 BreaksAs Executable document b = Breaks document b
 BreaksAs TypeSystem document b = BreaksTypeSystem document b
 
--- All of these break a rule, and none is there twice. Unless there are as many as the bound allows, they are all that do.
+-- All of these break a rule, none is there twice, and they stand in the order of the text. Unless there are as many as the bound allows, they are all that
+-- do.
 pub record AreBreaches (most : ℕ) (Breaks : Breach → Type 0) (found : List Breach) : Type 0 where
   pub no_others : (b : Breach) → Contains found b → Breaks b
   pub all : length found < most → (b : Breach) → Breaks b → Contains found b
   pub few : length found ≤ most
   pub distinct : AreDistinct found
+  pub in_order : AreInTextOrder found

@@ -6,6 +6,7 @@
 //! `dumyroke_validation` call both.
 #![tactic(auto)]
 
+pub mod laws;
 mod lists;
 mod messages;
 mod names;

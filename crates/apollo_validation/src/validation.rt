@@ -80,8 +80,8 @@ fn add_all<'t>(
     Ok(())
 }
 
-/// The places at which a document of operations and fragments breaks a rule, no more than `most` of them and each once, by the root of its tree. If
-/// there are fewer than `most`, they are all; and there are none exactly if the document keeps all rules.
+/// The places at which a document of operations and fragments breaks a rule, by the root of its tree: no more than `most` of them, each once, in the
+/// order of the text. If there are fewer than `most`, they are all; and there are none exactly if the document keeps all rules.
 pub fn validate_executable<'t>(
     alloc: Global,
     document: &SyntaxNode<'t>,
@@ -102,8 +102,7 @@ pub fn validate_executable<'t>(
         &parts,
         &fragments,
     )?;
-    let Violations { list, most: _ } = violations;
-    Ok(list)
+    Ok(violations.into_text_order())
 }
 
 /// The same for a document of the type system: the names that are defined, mentioned or given twice in one list. Other rules of section 3 are not judged.
@@ -117,8 +116,7 @@ pub fn validate_type_system<'t>(
 {
     let mut violations = Violations::new(alloc, most);
     add_lists(alloc, &mut violations, document, DocumentKind::TypeSystem)?;
-    let Violations { list, most: _ } = violations;
-    Ok(list)
+    Ok(violations.into_text_order())
 }
 
 /// The same by the rules for documents of its kind, which `document_kind` says.

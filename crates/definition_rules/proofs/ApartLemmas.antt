@@ -45,7 +45,7 @@ mentions_apart kind p =
     (filter is_node_place (at_or_below p))
     (AllPairs-filter (λ (a b : Place). a.index < b.index) is_node_place (at_or_below p) (nodes_rise p))
 
-mention_below : (kind : MentionKind) (p : Place) (item : Named) → Contains (mentions kind p) item → Contains (at_or_below p) item.place
+pub mention_below : (kind : MentionKind) (p : Place) (item : Named) → Contains (mentions kind p) item → Contains (at_or_below p) item.place
 mention_below kind p item there =
     let (q, among, e) = in_filter_map (mentioned kind) (filter is_node_place (at_or_below p)) item there in
     rw (mention_place kind q item e) (in_filter is_node_place (at_or_below p) q among).0
@@ -57,7 +57,7 @@ chosen_place p first second is_first is_second true b d e = let same : first ≡
 chosen_place p first second is_first is_second false true d e = let same : second ≡ d = (cc) in rw same at is_second
 chosen_place p first second is_first is_second false false d e = absurd (cc)
 
-defined_place : (p : Place) (d : Defined) → defined_at p ≡ Some d → d.place ≡ p
+pub defined_place : (p : Place) (d : Defined) → defined_at p ≡ Some d → d.place ≡ p
 defined_place p d e = chosen_place p _ _ refl refl (is_kind OPERATION_DEFINITION (kind_at p)) (is_kind FRAGMENT_DEFINITION (kind_at p)) d e
 
 defined_apart : (document : Place) → AllPairs (λ (a b : Defined). IsBefore a.place b.place) (defined document)

@@ -38,7 +38,7 @@ is_spread_graph ds fragments graph are same = record {
       ∙ are_targets ds fragments (at ds number) are;
 }
 
-inside : (ds : List Parts) (name : Name) (to : ℕ) → fragment_named ds name ≡ Some to → to < length ds
+pub inside : (ds : List Parts) (name : Name) (to : ℕ) → fragment_named ds name ≡ Some to → to < length ds
 inside ds name to is =
     let names = fragment_names (definitions ds) in
     let below = (position-Some (has_name name) names to (Some name) is).0 in

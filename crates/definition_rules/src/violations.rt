@@ -44,6 +44,14 @@ pub enum Rule {
 impl Rule {
     ghost use Rattle.std.specs.Prelude.{◌≡◌};
     ghost use Rattle.definition_rules.specs.RuleNames.{rule_name};
+    ghost use Rattle.definition_rules.specs.RuleNumbers.{rule_number};
+
+    /// Its number, from 0 on, in the order in which the rules stand here. C has it too.
+    pub fn number(self) -> u32
+        ensures { result ≡ rule_number self }
+    {
+        self as u32
+    }
 
     /// Its name, without the `Rule` that graphql-js adds.
     pub fn name(self) -> &'static str
@@ -81,6 +89,23 @@ pub struct Violation<'t> {
     pub other: Option<SyntaxNode<'t>>,
 }
 
+impl<'t> Violation<'t> {
+    ghost use Rattle.std.specs.Prelude.{◌≡◌};
+    ghost use Rattle.definition_rules.specs.TextOrder.{text_key};
+    ghost use Rattle.definition_rules.specs.Violations.{as_breach};
+
+    // Where it stands in the order of the text.
+    fn text_key(&self) -> (usize, u32, Option<usize>)
+        ensures { result ≡ text_key (as_breach self.now) }
+    {
+        (
+            self.node.index(),
+            self.rule.number(),
+            self.other.map(|node| node.index()),
+        )
+    }
+}
+
 /// Violations, no more than a bound.
 #[derive(Drop)]
 pub struct Violations<'t> {
@@ -89,9 +114,11 @@ pub struct Violations<'t> {
 }
 
 impl<'t> Violations<'t> {
-    ghost use Rattle.std.specs.Prelude.{◌≡◌, [], OnOk, option_map, length, nat_le};
+    ghost use Rattle.std.specs.Prelude.{◌≡◌, [], OnOk, map, option_map, length, nat_le};
+    ghost use Rattle.std.specs.List.Sorted.{IsPermutation};
     ghost use Rattle.apollo_tree.specs.References.{node_place};
-    ghost use Rattle.definition_rules.specs.Violations.{Adds, breach};
+    ghost use Rattle.definition_rules.specs.TextOrder.{AreInTextOrder};
+    ghost use Rattle.definition_rules.specs.Violations.{Adds, as_breach, breach, found};
 
     /// None yet, and room for a number of them.
     pub fn new(alloc: Global, most: usize) -> Violations<'t>
@@ -124,5 +151,15 @@ impl<'t> Violations<'t> {
             self.list.push(Violation { rule, node, other })?;
         }
         Ok(())
+    }
+
+    /// The list in the order of the text: by the node, then by the rule's number, and then by the other party.
+    pub fn into_text_order(self) -> Vec<Violation<'t>>
+        ensures same { IsPermutation (found self.entry) (map as_breach result.items) }
+        ensures in_order { AreInTextOrder (map as_breach result.items) }
+    {
+        let Violations { mut list, most: _ } = self;
+        list.sort_unstable_by_key(|violation| violation.text_key());
+        list
     }
 }

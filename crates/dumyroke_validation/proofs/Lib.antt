@@ -2,5 +2,4 @@ pub mod Readings
 pub mod Reports
 pub mod Outcomes
 pub mod Again
-pub mod Distinct
 pub mod ViolationsAgain

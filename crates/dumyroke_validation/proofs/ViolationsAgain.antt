@@ -1,14 +1,12 @@
 -- A second validation, with the room that the first one counted.
-use Rattle.std.proofs.Common.{◌≡◌, ◌∙◌, ◌<◌, ◌≤◌, ◌+◌, ap, sym, ℕ, List, [], ◌∷◌, length, refl, subst, arith}
-use Rattle.std.proofs.lemmas.List.{length-append}
-use Rattle.std.specs.List.{Contains}
+use Rattle.std.proofs.Common.{◌≡◌, ◌∙◌, ◌<◌, ap, sym, ℕ, List, length, refl, subst, arith}
 use Rattle.apollo_parser.specs.Filled.{filled}
 use Rattle.apollo_parser.specs.Parsed.{Parsed}
 use Rattle.apollo_parser.proofs.OneParse.{one-parse}
 use Rattle.definition_rules.specs.Violations.{Breach}
 use Rattle.apollo_validation.specs.Breaches.{AreBreaches, BreaksAs}
 use Rattle.apollo_validation.specs.Lists.{document_kind}
-use Rattle.apollo_validation.specs.Messages.{message_of}
+use Rattle.apollo_validation.proofs.OneListLemmas.{one-list}
 use Rattle.dumyroke_flat.specs.Outcomes.{OK}
 use Rattle.dumyroke_flat.proofs.Again.{filled-whole}
 use Rattle.dumyroke_validation.specs.Again.{HoldViolations}
@@ -17,34 +15,7 @@ use Rattle.dumyroke_validation.specs.Outcomes.{violation_counts, violations_writ
 use Rattle.dumyroke_validation.specs.Rows.{messages, violation_rows}
 use Rattle.dumyroke_validation.specs.declared.rows.ViolationCounts.{ViolationCounts}
 use Rattle.dumyroke_validation.proofs.Again.{no-refusal}
-use Rattle.dumyroke_validation.proofs.Distinct.{no-more, same-total, total, total-one}
 use Rattle.dumyroke_validation.proofs.Reports.{length-rows}
-
-words : Breach → ℕ
-words b = length (message_of b)
-
-total-words : (bs : List Breach) → total words bs ≡ length (messages bs)
-unfolding words
-total-words [] = refl
-total-words (b ∷ bs) = omega (arith, length-append (message_of b) (messages bs), total-words bs)
-
--- two lists of all breaches have as many, and as long messages
-record AreAsMany (first second : List Breach) : Type 0 where
-  count : length second ≡ length first
-  bytes : length (messages second) ≡ length (messages first)
-
-as-many : {most : ℕ} {Breaks : Breach → Type 0} (first second : List Breach) → AreBreaches most Breaks first → AreBreaches most Breaks second
-    → length first < most → AreAsMany first second
-as-many {most = most} first second f s few =
-    let inside : (b : Breach) → Contains second b → Contains first b = λ b there. f.all few b (s.no_others b there) in
-    let less : length second ≤ length first =
-    omega (arith, no-more (λ (b : Breach). 1) second first s.distinct inside, total-one second, total-one first) in
-    let outside : (b : Breach) → Contains first b → Contains second b = λ b there. s.all (omega arith) b (f.no_others b there) in
-    let same = λ (weight : Breach → ℕ). same-total weight second first s.distinct f.distinct inside outside in
-    record {
-      count = sym (total-one second) ∙ same (λ (b : Breach). 1) ∙ total-one first;
-      bytes = sym (total-words second) ∙ same words ∙ total-words first;
-    }
 
 -- violations were written
 record Wrote (source : List ℕ) (r k most : ℕ) (before after : ViolationBuffers) (counts : ViolationCounts) : Type 0 where
@@ -73,11 +44,8 @@ violations-again source r k most before after room filled_room first second one 
     let exact : AreBreaches most (BreaksAs (document_kind (root f.parsed)) (root f.parsed)) s.breaches =
     subst (λ (p : Parsed). AreBreaches most (BreaksAs (document_kind (root p)) (root p)) s.breaches) same s.found.exact in
     let fewer : length f.breaches < most = omega (arith, few, ap (λ (c : ViolationCounts). c.violations) f.counted) in
-    let many : AreAsMany f.breaches s.breaches = as-many f.breaches s.breaches f.found.exact exact fewer in
-    let counts : violation_counts s.breaches ≡ violation_counts f.breaches =
-    ap (λ n. record { violations = n; message_bytes = length (messages s.breaches); status = OK }) many.count
-    ∙ ap (λ n. record { violations = length f.breaches; message_bytes = n; status = OK }) many.bytes in
-    let second_is_first : second ≡ first = s.counted ∙ counts ∙ sym f.counted in (
+    let list : s.breaches ≡ f.breaches = one-list (document_kind (root f.parsed)) (root f.parsed) most f.breaches s.breaches f.found.exact exact fewer in
+    let second_is_first : second ≡ first = s.counted ∙ ap violation_counts list ∙ sym f.counted in (
       second_is_first,
       λ rows said. record {
         parsed = s.parsed;

@@ -6,8 +6,7 @@ use Rattle.document_grammar.specs.declared.kind.SyntaxKind.TheVariants.{NAME}
 use Rattle.document_grammar.specs.Numbers.{is_kind}
 use Rattle.apollo_tree.specs.Order.{Place, range_at}
 use Rattle.apollo_cst_core.specs.Cast.{cast_children, first_of}
-use Rattle.definition_rules.specs.declared.violations.Rule.{Rule}
-use Rattle.definition_rules.specs.declared.violations.Rule.TheVariants as rule
+use Rattle.definition_rules.specs.RuleNumbers.{rule_number}
 use Rattle.definition_rules.specs.Violations.{Breach}
 use Rattle.apollo_validation.specs.Messages.{message_of}
 use Rattle.operation_limits.specs.Measures.{Measure}
@@ -20,26 +19,6 @@ range_of None = (0, 0)
 range_of (Some p) = range_at p
 
 -- ---- violations
-
--- the number of a rule for C
-abbrev pub rule_number : Rule → ℕ
-rule_number rule.ExecutableDefinitions = 0
-rule_number rule.UniqueOperationNames = 1
-rule_number rule.LoneAnonymousOperation = 2
-rule_number rule.UniqueArgumentNames = 3
-rule_number rule.UniqueFragmentNames = 4
-rule_number rule.NoUnusedFragments = 5
-rule_number rule.KnownFragmentNames = 6
-rule_number rule.NoFragmentCycles = 7
-rule_number rule.UniqueInputFieldNames = 8
-rule_number rule.UniqueVariableNames = 9
-rule_number rule.NoUndefinedVariables = 10
-rule_number rule.NoUnusedVariables = 11
-rule_number rule.UniqueFieldDefinitionNames = 12
-rule_number rule.UniqueArgumentDefinitionNames = 13
-rule_number rule.UniqueEnumValueNames = 14
-rule_number rule.UniqueUnionMemberTypes = 15
-rule_number rule.UniqueImplementedInterfaces = 16
 
 -- The messages of violations, one after another.
 abbrev pub messages : List Breach → List ℕ

@@ -2,14 +2,14 @@
 ghost use Rattle.std.specs.Prelude.{◌≡◌, IfOk, map, option_map};
 ghost use Rattle.apollo_tree.specs.References.{node_place};
 ghost use Rattle.definition_rules.specs.Violations.{as_breach};
-ghost use Rattle.dumyroke_validation.specs.Rows.{messages, range_of, rule_number, violation_row, violation_rows};
+ghost use Rattle.dumyroke_validation.specs.Rows.{messages, range_of, violation_row, violation_rows};
 ghost use Rattle.dumyroke_validation.specs.Outcomes.{IsReport, ValidationOutcome, no_violations};
 
 use crate::reading::read_document;
 use crate::rows::{ViolationCounts, ViolationRow, status};
 use crate::writing::write;
 use apollo_parser::{Limits, SyntaxNode};
-use apollo_validation::{Rule, Violation, message, validate};
+use apollo_validation::{Violation, message, validate};
 use std::alloc::{AllocError, Global};
 
 // The rows of violations, and their messages one after another.
@@ -17,13 +17,6 @@ use std::alloc::{AllocError, Global};
 struct Report {
     rows: Vec<ViolationRow>,
     messages: Vec<u8>,
-}
-
-// The number of a rule for C.
-fn rule_number(rule: Rule) -> u32
-    ensures { result ≡ rule_number rule }
-{
-    rule as u32
 }
 
 // Where a node begins and has ended; two zeros for none.
@@ -52,7 +45,7 @@ fn row_of(violation: &Violation<'_>, message: usize, words: &str) -> ViolationRo
         other_end,
         message,
         message_length: words.len(),
-        rule: rule_number(violation.rule),
+        rule: violation.rule.number(),
         has_other: u32::from(violation.other.is_some()),
     }
 }

@@ -1,5 +1,5 @@
 -- Remarks on a document: its syntax errors, or the rules of validation that it breaks.
-use Rattle.std.specs.Prelude.{◌≡◌, ℕ, Bool, not, ◌||◌, if◌then◌else◌, List, [], ◌∷◌, map, find, take, None, Option, unwrap_or}
+use Rattle.std.specs.Prelude.{◌≡◌, ◌<◌, ℕ, Bool, not, ◌||◌, if◌then◌else◌, List, [], ◌∷◌, length, map, find, take, None, Option, unwrap_or}
 use Rattle.std.specs.List.{filter}
 use Rattle.document_grammar.specs.declared.kind.SyntaxKind.TheVariants.{ENUM_VALUE, FRAGMENT_NAME, NAME, VARIABLE}
 use Rattle.document_grammar.specs.Numbers.{is_kind}
@@ -53,6 +53,12 @@ pub record AreRemarks (others : List Fragments) (document : Place) (remarks : Li
   pub breaches : List Breach
   pub exact : AreBreaches 10000 (BreaksAs (document_kind document) document) breaches
   pub are : remarks ≡ map remark_of (take 100 (filter (λ b. not (is_mended others b)) breaches))
+
+-- the document breaks fewer than ten thousand rules
+pub record BreaksFew (document : Place) : Type 0 where
+  pub breaches : List Breach
+  pub exact : AreBreaches 10000 (BreaksAs (document_kind document) document) breaches
+  pub few : length breaches < 10000
 
 -- ---- all remarks
 

@@ -7,6 +7,7 @@ mod all_remarks;
 mod braces;
 mod broken_rules;
 mod fragments;
+pub mod laws;
 mod mending;
 
 pub use all_remarks::remarks;

@@ -7,5 +7,6 @@ pub mod Dialogue
 pub mod Files
 pub mod Kept
 pub mod Parsing
+pub mod Same
 pub mod State
 pub mod Told

@@ -10,6 +10,7 @@ mod capabilities;
 mod completing;
 mod documents;
 mod formatting;
+pub mod laws;
 mod layout;
 mod naming;
 mod parameters;

@@ -28,12 +28,11 @@ add_all-requires-clause-fragments c =
 pub returns-clause-exact : goal.returns-clause-exact
 returns-clause-exact c =
     let d = node_place c.args.document.now in
-    exact (Breaks d) (IsValid d) c.args.most c.new-violations.result c.add_all.new.violations c.new-violations.ensures.none
-    c.new-violations.ensures.most
-    c.in_ok-add_all.ensures
+    exact (Breaks d) (IsValid d) c.args.most c.new-violations.result c.add_all.new.violations _ c.new-violations.ensures.none c.new-violations.ensures.most
+    c.in_ok-add_all.ensures c.into_text_order.ensures.same c.into_text_order.ensures.in_order
 
 pub returns-clause-valid : goal.returns-clause-valid
 returns-clause-valid c =
     let d = node_place c.args.document.now in
-    valid_if_none (Breaks d) (IsValid d) (valid_keeps d) c.args.most c.new-violations.result c.add_all.new.violations c.new-violations.ensures.none
-    c.new-violations.ensures.most c.in_ok-add_all.ensures
+    valid_if_none (Breaks d) (IsValid d) (valid_keeps d) c.args.most c.new-violations.result c.add_all.new.violations _ c.new-violations.ensures.none
+    c.new-violations.ensures.most c.in_ok-add_all.ensures c.into_text_order.ensures.same
