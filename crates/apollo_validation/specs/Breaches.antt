@@ -86,7 +86,7 @@ abbrev pub BreaksAs : DocumentKind → Place → Breach → Type 0
 BreaksAs Executable document b = Breaks document b
 BreaksAs TypeSystem document b = BreaksTypeSystem document b
 
--- All of these break a rule, none is there twice, and they stand in the order of the text. Unless there are as many as the bound allows, they are all that
+-- All of these break a rule, none is there twice, and they are in the order of the text. Unless there are as many as the bound allows, they are all that
 -- do.
 pub record AreBreaches (most : ℕ) (Breaks : Breach → Type 0) (found : List Breach) : Type 0 where
   pub no_others : (b : Breach) → Contains found b → Breaks b

@@ -46,7 +46,7 @@ impl Rule {
     ghost use Rattle.definition_rules.specs.RuleNames.{rule_name};
     ghost use Rattle.definition_rules.specs.RuleNumbers.{rule_number};
 
-    /// Its number, from 0 on, in the order in which the rules stand here. C has it too.
+    /// Its number, from 0 on, in the order of this list. C has it too.
     pub fn number(self) -> u32
         ensures { result ≡ rule_number self }
     {
@@ -94,7 +94,7 @@ impl<'t> Violation<'t> {
     ghost use Rattle.definition_rules.specs.TextOrder.{text_key};
     ghost use Rattle.definition_rules.specs.Violations.{as_breach};
 
-    // Where it stands in the order of the text.
+    // Its place in the order of the text.
     fn text_key(&self) -> (usize, u32, Option<usize>)
         ensures { result ≡ text_key (as_breach self.now) }
     {
