@@ -13,10 +13,11 @@ usage: ./do COMMAND
   check CRATE [..]   proves one crate over what earlier checks left (rt check); further words go to rt check
   try CRATE [..]     runs a program, or with --test a crate's tests, and proves nothing (rt try)
   edits [CRATE..]    tries the edits that must fail, those that the gate leaves out as well, of these crates (rt must-fail) or of all (rt ci)
+  bindings [..]      makes and tests the libraries for C, Rust and Python of the output of rt ci; build, test, pages, install and flags do a part
   quick-bindings     makes the library for C without a proof, in a minute, and runs its tests and those of Rust and Python
   gate               what a merge has to pass: quick, rt ci, and test
   fresh              the gate in a bare Debian that has the kit, Python, gcc and git alone, with a network and without one: before a commit that
-                     touches tools/, do or .ci/
+                     touches tools/, tests/, release/, do or .ci/
   test               the tests of the output of rt ci: formatted texts, figures, C and Python, the page, editors, README, the release
   release [trial]    makes build/release/ after the gate, or tries it in a bare Debian: programs, libraries, the page, packages for Debian,
                      Python, Rust, npm and VS Code
@@ -44,45 +45,45 @@ must() {
 
 quick() {
     failed=0
-    must "Run ./do generate." tools/generate --check
-    must "Change the generator or its input as it says." tools/generate --test
+    must "Run ./do generate." tools/generate/run --check
+    must "Change the generator or its input as it says." tools/generate/run --test
     must "Put the crates of crates.txt in order, or run ./do generate." tools/crates --check
     must "Give the function the name of its rule." tools/rule_names
-    must "Run ./do generate." tools/format_texts --check
-    must "Run ./do generate, or mend the page or the list that it names." tools/promises --check
+    must "Run ./do generate." tests/format/run --check
+    must "Run ./do generate, or mend the page or the list that it names." tools/evidence/run --check
     must "Write the sentence in other words." tools/words
     must "Mend the Python." tools/lint
     return $failed
 }
 
 generate() {
-    tools/generate
+    tools/generate/run
     tools/crates
-    tools/format_texts
-    tools/promises
+    tests/format/run
+    tools/evidence/run
 }
 
 tests() {
-    tools/format_texts --trial
-    tools/format_trial/trial.py crates/gqlfmt/out/gqlfmt 100
-    tools/file_tests
-    tools/gqlcheck_tests
-    tools/fault_tests
-    tools/bindings
-    tools/figures
-    tools/validation
-    tools/bindings pages
-    tools/editor_tests
-    tools/readme --check
-    tools/release
-    tools/release test
-    tools/release trial
+    tests/format/run --trial
+    tests/format/trial crates/gqlfmt/out/gqlfmt 100
+    tests/files
+    tests/gqlcheck
+    tests/faults/run
+    release/bindings/run
+    tests/figures
+    tests/validation
+    release/bindings/run pages
+    tests/editors/run
+    tests/readme --check
+    release/packages/run
+    release/packages/run test
+    release/packages/run trial
 }
 
 # Without a proof, so without what the programs of `rt ci` print.
 quick_bindings() {
-    tools/bindings quick
-    tools/bindings test-quick
+    release/bindings/run quick
+    release/bindings/run test-quick
 }
 
 # In a copy, where a crate's edits/ are in its must-fail/ with those of the gate. All of them are tried by rt ci, which takes what the gate has proved and tries
@@ -121,7 +122,8 @@ case $command in
     check) enter "$@"; shift; exec rt check "$@" ;;
     try) enter "$@"; shift; exec rt try "$@" ;;
     test) tests ;;
-    release) exec tools/release "$@" ;;
+    bindings) exec release/bindings/run "$@" ;;
+    release) exec release/packages/run "$@" ;;
     fresh) exec tools/fresh ;;
     gate)
         quick

@@ -17,10 +17,10 @@ from pathlib import Path
 
 from programs import HERE, TOP, arguments
 
-sys.path.insert(0, str(TOP / "tools"))
+sys.path.insert(0, str(TOP / "release"))
 
-from binder.quick import quick_archive  # noqa: E402
-from binder.shared import BUILD, INCLUDE, kit  # noqa: E402
+from bindings.quick import quick_archive  # noqa: E402
+from bindings.shared import BUILD, INCLUDE, kit  # noqa: E402
 
 FOLDER, CORPUS = HERE / "fuzz", HERE / "fuzz/corpus.jsonl"
 # Words of the grammar that a change of a few bytes would seldom make.

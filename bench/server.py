@@ -13,7 +13,7 @@ import time
 
 from programs import TOP, arguments, built
 
-sys.path.insert(0, str(TOP / "tools/editor"))
+sys.path.insert(0, str(TOP / "tests/editors"))
 from client import Client  # noqa: E402
 
 MOST_MILLISECONDS = 60

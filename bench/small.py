@@ -1,5 +1,5 @@
 #!/usr/bin/env python3
-"""Measures queries as a gateway gets them, each parsed many times through C, the Rust crate and Python, as tools/bindings has built them, and beside them by
+"""Measures queries as a gateway gets them, each parsed many times through C, the Rust crate and Python, as `./do bindings` has built them, and beside them by
 the original, if it is built (bench/original/README.md), and by graphql-core and graphql-js, where they are installed. Prints microseconds a parse, best and
 median of `--rounds` runs in turn, which make `--parses` parses each. The slow ones make fewer: Python a tenth, graphql-core and graphql-js a fiftieth. The
 last lines are walks over the typed tree.
@@ -75,7 +75,7 @@ def texts():
 
 def compiled(folder):
     """The program for C."""
-    flags = subprocess.run([TOP / "tools/bindings", "flags"], stdout=subprocess.PIPE, check=True, text=True).stdout.split()
+    flags = subprocess.run([TOP / "release/bindings/run", "flags"], stdout=subprocess.PIPE, check=True, text=True).stdout.split()
     subprocess.run(["gcc", "-O2", HERE / "small.c", *flags, "-o", folder / "small"], check=True)
     return folder / "small"
 

@@ -1,4 +1,4 @@
-"""Makes the wheel, without setuptools: what `pip install ./bindings/python` calls (PEP 517). The library has to be in the package: tools/bindings puts it there."""
+"""Makes the wheel, without setuptools: what `pip install ./bindings/python` calls (PEP 517). The library has to be in the package: `./do bindings` puts it there."""
 
 import base64
 import hashlib
@@ -61,7 +61,7 @@ def metadata():
 def files():
     """The files of the package and their bytes, by their names in the wheel."""
     if not (PACKAGE / "libdumyroke.so").exists():
-        raise SystemExit("bindings/python/dumyroke/libdumyroke.so is missing: tools/bindings makes it")
+        raise SystemExit("bindings/python/dumyroke/libdumyroke.so is missing: `./do bindings` makes it")
     wanted = (path for path in sorted(PACKAGE.iterdir()) if path.suffix in (".py", ".so", ".typed"))
     return {f"dumyroke/{path.name}": path.read_bytes() for path in wanted}
 

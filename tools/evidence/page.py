@@ -45,7 +45,7 @@ ACCESSORS = ("apollo_cst_executable", "apollo_cst_type_system")
 HEAD = """\
 # Evidence
 
-`tools/promises` writes this page from the contracts, the proofs and the edits. [PROMISES.md](PROMISES.md) says in words what the clauses mean.
+`tools/evidence/run` writes this page from the contracts, the proofs and the edits. [PROMISES.md](PROMISES.md) says in words what the clauses mean.
 """
 CALLS = """\
 ## From a clause to its proof

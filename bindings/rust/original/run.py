@@ -149,7 +149,7 @@ def printed(program, mode, text):
 def make_files(original):
     """The files that the tests in `READING` read."""
     programs = subprocess.run([TOP / "bench/original/build", original], check=True, stdout=subprocess.PIPE).stdout.decode().strip()
-    records = (TOP / "tools/format_trial/records").read_bytes().split(b"\x1e")
+    records = (TOP / "tests/format/records").read_bytes().split(b"\x1e")
     texts = sorted({record.split(b"\x1f")[1] for record in records if b"\x1f" in record})
     for name, (folder, mode) in READING.items():
         kept = 0

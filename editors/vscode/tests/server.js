@@ -17,7 +17,7 @@ const load = Module._load;
 Module._load = (name, ...rest) => (name === "vscode" ? vscode : load(name, ...rest));
 const { activate, deactivate } = require(process.argv[3] ?? "..");
 
-const data = (name) => readFileSync(join(__dirname, "../../../tools/editor/data", name), "utf8");
+const data = (name) => readFileSync(join(__dirname, "../../../tests/editors/data", name), "utf8");
 const query = new Document("/a b/query.graphql", data("query.graphql"));
 const schema = new Document("/schema.graphql", data("schema.graphql"));
 const notes = new Document("/notes.txt", "{", "plaintext");
