@@ -49,7 +49,7 @@ quick() {
     must "Change the generator or its input as it says." tools/generate/run --test
     must "Put the crates of crates.txt in order, or run ./do generate." tools/crates --check
     must "Give the function the name of its rule." tools/rule_names
-    must "Run ./do generate." tests/format/run --check
+    must "Give docs/FORMAT.md and tests/format/layout.py the same rule." tests/format/trial --layouts
     must "Run ./do generate, or mend the page or the list that it names." tools/evidence/run --check
     must "Write the sentence in other words." tools/words
     must "Mend the Python." tools/lint
@@ -59,12 +59,11 @@ quick() {
 generate() {
     tools/generate/run
     tools/crates
-    tests/format/run
     tools/evidence/run
 }
 
 tests() {
-    tests/format/run --trial
+    tests/format/run
     tests/format/trial crates/gqlfmt/out/gqlfmt 100
     tests/files
     tests/gqlcheck

@@ -7,6 +7,9 @@ import sys
 from pathlib import Path
 
 TOP = Path(__file__).resolve().parent.parent.parent
+sys.path.append(str(TOP / "tests/format"))
+import corpus  # noqa: E402
+
 BUILD = TOP / "build"
 C = TOP / "bindings/c"
 PYTHON = TOP / "bindings/python"
@@ -99,9 +102,8 @@ def static_library():
 
 
 def texts():
-    """The texts of the tests: those that gqlfmt is tried with. Those of crates/tests_parser are among them."""
-    records = (TOP / "tests/format/records").read_bytes().split(b"\x1e")
-    return [record.split(b"\x1f")[1] for record in records if b"\x1f" in record]
+    """The texts of the tests, as bytes: those that gqlfmt is tried with. Those of crates/tests_parser are among them."""
+    return [text.encode() for text in corpus.texts()]
 
 
 def words_of(mode, limits):

@@ -20,6 +20,8 @@ CRATE = HERE.parent
 TOP = CRATE.parent.parent
 MADE = CRATE / "target/original"
 GQLCST = TOP / "crates/gqlcst/out/gqlcst"
+sys.path.append(str(TOP / "tests/format"))
+import corpus  # noqa: E402
 
 # What the module of each file has in scope by `use super::*` in the original.
 SCOPE = """#[allow(unused_imports)]
@@ -149,8 +151,7 @@ def printed(program, mode, text):
 def make_files(original):
     """The files that the tests in `READING` read."""
     programs = subprocess.run([TOP / "bench/original/build", original], check=True, stdout=subprocess.PIPE).stdout.decode().strip()
-    records = (TOP / "tests/format/records").read_bytes().split(b"\x1e")
-    texts = sorted({record.split(b"\x1f")[1] for record in records if b"\x1f" in record})
+    texts = sorted({text.encode() for text in corpus.texts()})
     for name, (folder, mode) in READING.items():
         kept = 0
         for number, text in enumerate(texts):
