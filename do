@@ -9,6 +9,7 @@ usage: ./do COMMAND
 
   quick              the checks that need no proof, in some eight seconds: generated files, names of rules, texts, promises
   generate           writes all files that are generated
+  evidence           writes build/EVIDENCE.md: of each clause its lemmas, the edits that break it, and the definitions that one has to read
   affected [CRATE..] says which crates have to be proved again since the last commit, or after a change of these crates, and how long that takes
   check CRATE [..]   proves one crate over what earlier checks left (rt check); further words go to rt check
   try CRATE [..]     runs a program, or with --test a crate's tests, and proves nothing (rt try)
@@ -59,7 +60,7 @@ quick() {
 generate() {
     tools/generate/run
     tools/crates
-    tools/evidence/run
+    tools/evidence/run --table
 }
 
 tests() {
@@ -115,6 +116,7 @@ command=${1:-}
 case $command in
     quick) quick ;;
     generate) generate ;;
+    evidence) exec tools/evidence/run ;;
     affected) exec tools/affected "$@" ;;
     edits) all_edits "$@" ;;
     quick-bindings) quick_bindings ;;

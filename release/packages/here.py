@@ -102,7 +102,7 @@ def contents(file):
 def test_licences(_folder):
     """Each package has the notice and the texts of both licences. That of Debian has them in one file, and names Debian's own copy of the Apache License."""
     for file in RELEASE.iterdir():
-        if file.suffix not in (".txt", ".deb") and file.name != "SHA256SUMS":
+        if file.suffix not in (".txt", ".md", ".deb") and file.name != "SHA256SUMS":
             held = contents(file)
             for name in LICENCES:
                 if (TOP / name).read_bytes() not in (held.get(name), held.get(f"{name}.txt")):

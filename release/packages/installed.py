@@ -13,7 +13,8 @@ from .archives import File, read
 from .manuals import manuals
 
 PROGRAMS = ["gqlcheck", "gqlcst", "gqlfmt", "gqlls"]
-DOCUMENTS = ["README.md", *LICENCES, "CHANGELOG.md", "docs/BINDINGS.md", "docs/DIFFERENCES.md", "docs/EDITORS.md", "docs/FORMAT.md", "docs/GRAMMAR.md", "docs/PROMISES.md"]
+DOCUMENTS = ["README.md", *LICENCES, "CHANGELOG.md", "docs/BINDINGS.md", "docs/DIFFERENCES.md", "docs/EDITORS.md", "docs/FORMAT.md", "docs/GRAMMAR.md", "docs/PROMISES.md",
+             "docs/DEFINITIONS.md", "build/EVIDENCE.md"]
 
 
 def installed():

@@ -76,7 +76,7 @@ def proved():
 Programs: `run` of gqlcheck_run, gqlcst_run, gqlfmt_run and gqlls_files is proved, with the devices of byte_devices; the system below them is trusted.
 libdumyroke, and so the Rust crate and the Python package; the page's module, which is the npm package's: each exported call is proved. Headers, Rust,
 Python, JavaScript, the module's memory, and the extension for VS Code are tested only.
-docs/PROMISES.md says what is proved. The provers and compilers of the kit, LLVM and the C library are trusted.
+docs/PROMISES.md says what is proved, and EVIDENCE.md which lemmas prove it. The provers and compilers of the kit, LLVM and the C library are trusted.
 """
 
 
@@ -91,11 +91,12 @@ def release():
         stop(f"CHANGELOG.md has no entry `## {version()}`")
     if about()["homepage"].endswith(".example"):
         print("the addresses in about.json are placeholders: whoever publishes these packages puts real ones there")
+    run(TOP / "tools/evidence/run", stdout=subprocess.DEVNULL)
     makers = [archive, deb, wheel, npm, vsix, page]
     if shutil.which("cargo"):
         makers.append(crate)
     else:
         print("there is no cargo: the Rust crate is left out")
-    files = dict(make() for make in makers) | {"PROVED.txt": proved().encode()}
+    files = dict(make() for make in makers) | {"PROVED.txt": proved().encode(), "EVIDENCE.md": (BUILD / "EVIDENCE.md").read_bytes()}
     sums = "".join(f"{hashlib.sha256(content).hexdigest()}  {name}\n" for name, content in sorted(files.items()))
     return files | {"SHA256SUMS": sums.encode()}

@@ -1,4 +1,5 @@
-"""The page docs/EVIDENCE.md: from each clause to its lemmas and to the edits that break it, and what to read in order to believe a clause."""
+"""The page build/EVIDENCE.md: from each clause to its lemmas and to the edits that break it, and what to read in order to
+believe a clause; and docs/DEFINITIONS.md, the number of lines that are to be read."""
 
 import re
 import textwrap
@@ -45,7 +46,7 @@ ACCESSORS = ("apollo_cst_executable", "apollo_cst_type_system")
 HEAD = """\
 # Evidence
 
-`tools/evidence/run` writes this page from the contracts, the proofs and the edits. [PROMISES.md](PROMISES.md) says in words what the clauses mean.
+`./do evidence` writes this page from the contracts, the proofs and the edits. PROMISES.md says in words what the clauses mean.
 """
 CALLS = """\
 ## From a clause to its proof
@@ -59,10 +60,25 @@ edits that break a clause and that `./do gate` checks the prover to refuse: `CRA
 READING = """\
 ## What to read in order to believe it
 
-A clause is as good as the definitions that it uses. A definition that a clause names counts, and so does each that this one names, and no other of its file.
-Comments and blank lines do not count. "Of the kit" are the words for JSON and for headers, which are the kit's own. "Written by a program" are lists of the
-kinds of nodes.
+Below are the files of definitions, each after those that it uses, with the lines that are needed. A definition is in the first list that needs it.
+DEFINITIONS.md has the sum for each program.
+"""
+TABLE = """\
+# What to read in order to believe it
 
+A clause is as good as the definitions that it uses. This table counts their lines, for each program
+and each library. For example, whoever has read the lines of the first row knows what each clause of
+a parse means.
+
+- A definition counts if a clause names it, or if a definition that counts names it.
+- Comments and blank lines do not count.
+- "The kit's" are definitions of JSON and of headers, which come with the kit.
+- "Generated" are lists of the kinds of nodes, which a program writes.
+
+{rows}
+
+`./do generate` writes this page. `./do evidence` writes `build/EVIDENCE.md`, which lists the
+definitions file by file. It also has the lemmas of each clause, and the edits that break it.
 """
 # Files whose definitions a reader may take as they are, and why.
 SPARED = """lexical_grammar/specs/Reads.antt lexical_grammar/specs/NumberStates.antt apollo_parser/specs/ByRules.antt parser_rules/specs/State.antt
@@ -275,11 +291,16 @@ def counts(doors):
 
 def table():
     """The lines that each call and program needs."""
-    yield "| To believe | Read | of it of the kit | Written by a program |"
+    yield "| To believe | Lines to read | of these the kit's | Generated |"
     yield "|---|---|---|---|"
     for title, doors in COUNTED.items():
         by_hand, of_kit, generated = counts(doors.split())
         yield f"| {title} | {by_hand:,} | {of_kit or '–'} | {generated} |"
+
+
+def definitions():
+    """The page docs/DEFINITIONS.md."""
+    return TABLE.format(rows="\n".join(table()))
 
 
 def lists():
@@ -297,8 +318,7 @@ def lists():
 
 
 def reading():
-    made = ["\n".join(table())]
-    made.append("\nBelow are the files, each after those that it uses, with the lines that are needed. A definition is in the first list that needs it.")
+    made = []
     for title, found in lists():
         lines = lines_by_file(found)
         by_hand = sum(count for path, count in lines.items() if not is_generated(path))
