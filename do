@@ -48,6 +48,7 @@ quick() {
     failed=0
     must "Run ./do generate." tools/generate/run --check
     must "Change the generator or its input as it says." tools/generate/run --test
+    must "Give the new kind a number at the end, or the library another soname." tools/kinds --check
     must "Put the crates of crates.txt in order, or run ./do generate." tools/crates --check
     must "Give the function the name of its rule." tools/rule_names
     must "Give docs/FORMAT.md and tests/format/layout.py the same rule." tests/format/trial --layouts

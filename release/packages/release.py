@@ -8,7 +8,7 @@ import tempfile
 from pathlib import Path
 
 from bindings.library import pc_text
-from bindings.shared import BUILD, PACKAGE, PYTHON, RUST, SITE, TOP, UNPROVED, need, run, stop, version
+from bindings.shared import BUILD, C, PACKAGE, PYTHON, RUST, SITE, TOP, UNPROVED, need, run, stop, version
 
 from .about import LICENCES, about, licences
 from .archives import File, packed, read, tar, under
@@ -92,6 +92,8 @@ def release():
     if about()["homepage"].endswith(".example"):
         print("the addresses in about.json are placeholders: whoever publishes these packages puts real ones there")
     run(TOP / "tools/evidence/run", stdout=subprocess.DEVNULL)
+    if run(TOP / "tools/kinds", "--print", stdout=subprocess.PIPE).stdout != (C / "released_kinds.txt").read_bytes():
+        print("bindings/c/released_kinds.txt is of another release: run `tools/kinds` when these packages are published")
     makers = [archive, deb, wheel, npm, vsix, page]
     if shutil.which("cargo"):
         makers.append(crate)
