@@ -7,26 +7,39 @@ usage() {
     cat <<'LINES'
 usage: ./do COMMAND
 
-  quick              the checks that need no proof, in some eight seconds: generated files, names of rules, texts, promises
+While you change something:
+  quick              the checks that need no proof: generated files, names, pages, lists. Ten seconds
   generate           writes all files that are generated
-  evidence           writes build/EVIDENCE.md: of each clause its lemmas, the edits that break it, and the definitions that one has to read
-  affected [CRATE..] says which crates have to be proved again since the last commit, or after a change of these crates, and how long that takes
-  check CRATE [..]   proves one crate over what earlier checks left (rt check); further words go to rt check
+  affected [CRATE..] says which crates have to be proved again since the last commit, or after a
+                     change of these crates, and how long that takes
   try CRATE [..]     runs a program, or with --test a crate's tests, and proves nothing (rt try)
-  edits [CRATE..]    tries the edits that must fail, those that the gate leaves out as well, of these crates (rt must-fail) or of all (rt ci)
-  bindings [..]      makes and tests the libraries for C, Rust and Python of the output of rt ci; build, test, pages, install and flags do a part
-  quick-bindings     makes the library for C without a proof, in a minute, and runs its tests and those of Rust and Python
+  check CRATE [..]   proves one crate over what earlier checks left; further words go to rt check
+  edits [CRATE..]    tries the edits that must fail, those that the gate leaves out as well: of these
+                     crates (rt must-fail), or of all (rt ci)
+  quick-bindings     makes the library for C without a proof, and passes its tests and those of Rust
+                     and Python. Two to three minutes
+  evidence           writes build/EVIDENCE.md: of each clause its lemmas, the edits that break it, and
+                     the definitions that one has to read
+
+Before a merge, and after it:
   gate               what a merge has to pass: quick, rt ci, and test
-  fresh              the gate in a bare Debian that has the kit, Python, gcc and git alone, with a network and without one: before a commit that
-                     touches tools/, tests/, release/, do or .ci/
-  test               the tests of the output of rt ci: formatted texts, figures, C and Python, the page, editors, README, the release
-  release [trial]    makes build/release/ after the gate, or tries it in a bare Debian: programs, libraries, the page, packages for Debian,
-                     Python, Rust, npm and VS Code
-  bench [NAME [..]]  measures the programs of `rt ci`: small, parse, hostile, stack, format, server, walks, c or python, or else all of them
+  test               the tests, once rt ci has built the programs: formatted texts, files, faults,
+                     validation, libraries, the page, editors, README, the release
+  fresh              the gate in a bare Debian that has the kit, Python, gcc and git alone, with a
+                     network and without one: before a commit that touches tools/, tests/, release/,
+                     do or .ci/
+  bindings [..]      makes the libraries for C, Rust and Python after rt ci, and tests them; a word
+                     says a part: build, test, pages, install, flags
+  release [trial]    makes build/release/, or tries it in a bare Debian: programs, libraries, the
+                     page, packages for Debian, Python, Rust, npm and VS Code
+  bench [NAME [..]]  measures the programs of rt ci: small, parse, hostile, stack, format, server,
+                     walks, c, python, crowded and threads. Without a name it measures all of these.
+                     query_log and fuzz want their names
 LINES
 }
 
-# As many checks at a time as there are processors, but no more than four and no more than memory holds at 3.5 GB each. RT_JOBS says another number.
+# As many checks at a time as there are processors, but no more than four and no more than memory holds at 3.5 GB each.
+# RT_JOBS says another number.
 jobs_here() {
     local jobs room
     jobs=$(nproc)
@@ -56,7 +69,7 @@ quick() {
     must "Show in the page what the file has." tests/readme --text
     must "Say in README what docs/SPEED.md has, or change the phrases of tools/speed." tools/speed
     must "Write the sentence in other words." tools/words
-    must "Mend the Python." tools/lint
+    must "Mend the line." tools/lint
     return $failed
 }
 
@@ -89,8 +102,8 @@ quick_bindings() {
     release/bindings/run test-quick
 }
 
-# In a copy, where a crate's edits/ are in its must-fail/ with those of the gate. All of them are tried by rt ci, which takes what the gate has proved and tries
-# as many at a time as there are processors.
+# In a copy, where a crate's edits/ are in its must-fail/ with those of the gate. All of them are tried by rt ci, which
+# takes what the gate has proved and tries as many at a time as there are processors.
 all_edits() {
     copy=$(mktemp -d)
     trap 'rm -rf "$copy"' EXIT
@@ -135,17 +148,18 @@ case $command in
         tests
         ;;
     bench)
-        [ $# -gt 0 ] || set -- all
+        measured="small parse hostile stack format server walks c python crowded threads"
+        if [ $# -eq 0 ]; then
+            for each in $measured; do "bench/$each.py"; done
+            exit
+        fi
+        case " $measured query_log fuzz " in
+            *" $1 "*) ;;
+            *) usage >&2; exit 2 ;;
+        esac
         name=$1
         shift
-        if [ "$name" = all ]; then
-            for each in small parse hostile stack format server walks c python; do "bench/$each.py"; done
-        elif [ -x "bench/$name.py" ]; then
-            exec "bench/$name.py" "$@"
-        else
-            usage >&2
-            exit 2
-        fi
+        exec "bench/$name.py" "$@"
         ;;
     --help | -h) usage ;;
     *) usage >&2; exit 2 ;;
