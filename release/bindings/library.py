@@ -7,13 +7,16 @@ from pathlib import Path
 
 from .shared import BUILD, C, INCLUDE, PACKAGE, TOP, kit, need, rattle, run, static_library, stop, version
 
-CALLS = ["dumyroke_format", "dumyroke_lex", "dumyroke_measure", "dumyroke_parse", "dumyroke_parse_selection_set", "dumyroke_parse_type"]
+CALLS = [
+    "dumyroke_format", "dumyroke_lex", "dumyroke_measure", "dumyroke_parse", "dumyroke_parse_selection_set",
+    "dumyroke_parse_type",
+]
 CALLS += ["dumyroke_string_value", "dumyroke_validate"]
 
 
 def make_archive(archive):
-    """Has rattle prove dumyroke_c once more, over the libraries that `rt ci` proved, and make the static library. `rt ci` itself makes none, and `rt lib`
-    would prove all libraries again, since it takes nothing from `rt ci`."""
+    """Has rattle prove dumyroke_c once more, over the libraries that `rt ci` proved, and make the static library.
+    `rt ci` itself makes none, and `rt lib` would prove all libraries again, since it takes nothing from `rt ci`."""
     return rattle("dumyroke_c", TOP / "crates/dumyroke_c", archive, *static_library())
 
 
@@ -37,7 +40,8 @@ def soname():
 
 
 def cmake_files(include):
-    """What find_package(dumyroke) of CMake reads, for a library from whose folder the headers lie at `include`, by the names of the files."""
+    """What find_package(dumyroke) of CMake reads, for a library from whose folder the headers lie at `include`, by the
+    names of the files."""
     major, minor, _ = version().split(".")
     same = f"^{major}[.]" if int(major) else f"^{major}[.]{minor}[.]"
     put = {"@VERSION@": version(), "@SONAME@": soname(), "@INCLUDE@": include, "@SAME@": same}
@@ -51,8 +55,8 @@ def cmake_files(include):
 
 
 def join(archive, *members):
-    """Makes one object of an archive and of objects, which has the calls alone as symbols: two libraries of the kit in one program would have the others
-    twice."""
+    """Makes one object of an archive and of objects, which has the calls alone as symbols: two libraries of the kit in
+    one program would have the others twice."""
     joined = archive.with_suffix(".o")
     run("ld", "-r", "-o", joined, "--whole-archive", archive, "--no-whole-archive", *members)
     run("objcopy", *(f"--keep-global-symbol={call}" for call in CALLS), joined)
@@ -62,7 +66,8 @@ def join(archive, *members):
 
 
 def build(given=None):
-    """Makes both libraries and the file for pkg-config in build/, and puts the shared library into the Python package."""
+    """Makes both libraries and the file for pkg-config in build/, and puts the shared library into the Python
+    package."""
     need("gcc", "ar", "ld", "objcopy")
     with tempfile.TemporaryDirectory() as folder:
         made = given or make_archive(Path(folder) / "libdumyroke_c.a")
@@ -76,7 +81,10 @@ def build(given=None):
     heap.unlink()
     shared, exports = BUILD / f"libdumyroke.so.{version()}", BUILD / "exports.map"
     exports.write_text(f"{{ global: {' '.join(f'{call};' for call in CALLS)} local: *; }};\n")
-    words = ["-Wl,--whole-archive", archive, "-Wl,--no-whole-archive", f"-Wl,--version-script={exports}", f"-Wl,-soname,{soname()}", "-Wl,-z,defs,-z,relro,-z,now"]
+    words = [
+        "-Wl,--whole-archive", archive, "-Wl,--no-whole-archive", f"-Wl,--version-script={exports}",
+        f"-Wl,-soname,{soname()}", "-Wl,-z,defs,-z,relro,-z,now",
+    ]
     run("gcc", "-shared", "-s", "-o", shared, *words)
     exports.unlink()
     # copies, since `rt ci` takes no link within the repository
@@ -88,7 +96,11 @@ def build(given=None):
 
 def install(settings):
     """Copies what was built to DESTDIR/PREFIX."""
-    given = {"PREFIX": "/usr/local", "DESTDIR": "", **{name: os.environ[name] for name in ("PREFIX", "DESTDIR") if name in os.environ}}
+    given = {
+        "PREFIX": "/usr/local",
+        "DESTDIR": "",
+        **{name: os.environ[name] for name in ("PREFIX", "DESTDIR") if name in os.environ},
+    }
     for setting in settings:
         name, found, value = setting.partition("=")
         if not found or name not in given:

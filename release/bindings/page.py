@@ -10,8 +10,9 @@ from .shared import LIMITS, SITE, WEB, gqlcst, kit, rattle, run, static_library,
 
 
 def unpacked(folder):
-    """The sources of the page's crates in a folder, under the names that rattle wants. In the repository each file has `.in` after its name: `rt ci` refuses
-    sources of crates that crates.txt does not list, and those that crates.txt lists for wasm64."""
+    """The sources of the page's crates in a folder, under the names that rattle wants. In the repository each file has
+    `.in` after its name: `rt ci` refuses sources of crates that crates.txt does not list, and those that crates.txt
+    lists for wasm64."""
     for path in (WEB / "crates").rglob("*.in"):
         to = folder / path.relative_to(WEB / "crates").with_suffix("")
         to.parent.mkdir(parents=True, exist_ok=True)
@@ -25,7 +26,9 @@ def make_module(module):
     with tempfile.TemporaryDirectory() as name:
         folder = unpacked(Path(name))
         rattle("web_heap", folder / "web_heap", folder / "web_heap.rlib")
-        archive = rattle("dumyroke_web", folder / "dumyroke_web", folder / "libdumyroke_web.a", *static_library(), *wasm, made=folder)
+        archive = rattle(
+            "dumyroke_web", folder / "dumyroke_web", folder / "libdumyroke_web.a", *static_library(), *wasm, made=folder
+        )
         run(kit() / "bin/rattle-link", *wasm, "--toolchain", kit() / "toolchain", "-o", module, archive)
 
 
@@ -51,7 +54,13 @@ def node_words():
 def test_module(node):
     """What the module answers in node is what gqlcst prints, for each text and each pair of limits."""
     cases = [(text, limits) for text in texts() for limits in LIMITS]
-    given = [{"text": text.decode(), "limits": {"recursion": int((*limits, 500)[0]), "tokens": int(limits[1]) if limits[1:] else None}} for text, limits in cases]
+    given = [
+        {
+            "text": text.decode(),
+            "limits": {"recursion": int((*limits, 500)[0]), "tokens": int(limits[1]) if limits[1:] else None},
+        }
+        for text, limits in cases
+    ]
     test = [*node, WEB / "tests/parser_test.mjs", SITE / "dumyroke.wasm"]
     printed = run(*test, input=json.dumps(given).encode(), stdout=subprocess.PIPE, timeout=300).stdout.splitlines()
     for (text, limits), line in zip(cases, printed, strict=True):

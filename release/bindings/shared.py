@@ -1,4 +1,5 @@
-"""Where the files of the bindings are, how a crate is proved over what `rt ci` left, and what the tests compare with."""
+"""Where the files of the bindings are, how a crate is proved over what `rt ci` left, and what the tests compare
+with."""
 
 import functools
 import shutil
@@ -75,23 +76,36 @@ def below(name, crates):
 
 
 def library_words(name, crates, made):
-    """What tells rattle where the libraries of a crate are: those of the page in the folder `made`, the others of the repository as `rt ci` left them, and
-    those of the kit."""
+    """What tells rattle where the libraries of a crate are: those of the page in the folder `made`, the others of the
+    repository as `rt ci` left them, and those of the kit."""
     libraries, pages = kit() / "rlibs", uses(PAGES)
     words = ["--extern", f"std={libraries}/std.rlib", "-L", f"dependency={libraries}"]
     for library in sorted(below(name, crates) | set(crates[name])):
         folder = made if library in pages else TOP / f"crates/{library}/out/rlib" if library in crates else libraries
         if not (folder / f"{library}.rlib").exists():
-            stop(f"there is no {folder / library}.rlib: run `rt ci` first; for C this also takes the archive that `rt lib` makes in crates/dumyroke_c")
-        words += ["--extern", f"{library}={folder}/{library}.rlib"] if library in crates[name] else ["-L", f"dependency={folder}"]
+            stop(
+                f"there is no {folder / library}.rlib: run `rt ci` first; for C this also takes the archive that `rt"
+                " lib` makes in crates/dumyroke_c"
+            )
+        words += (
+            ["--extern", f"{library}={folder}/{library}.rlib"]
+            if library in crates[name]
+            else ["-L", f"dependency={folder}"]
+        )
     return words
 
 
 def rattle(name, source, output, *words, made=None):
-    """Has rattle prove a crate, whose folder is `source`, over the libraries that are proved, and write what it builds."""
+    """Has rattle prove a crate, whose folder is `source`, over the libraries that are proved, and write what it
+    builds."""
     folder, crates = kit(), {**uses(), **uses(PAGES)}
-    command = [folder / "bin/rattle", "build", "--crate-name", name, "src/lib.rt", *library_words(name, crates, made), *words]
-    command += ["--antt-project", folder / "rattle/logic/antt-project.json", "--logic-built", folder / "logic_built", "--jobs", "1", "-o", output]
+    command = [
+        folder / "bin/rattle", "build", "--crate-name", name, "src/lib.rt", *library_words(name, crates, made), *words,
+    ]
+    command += [
+        "--antt-project", folder / "rattle/logic/antt-project.json", "--logic-built", folder / "logic_built", "--jobs",
+        "1", "-o", output,
+    ]
     run(*command, cwd=source)
     return output
 
@@ -102,7 +116,8 @@ def static_library():
 
 
 def texts():
-    """The texts of the tests, as bytes: those that gqlfmt is tried with. Those of crates/tests_parser are among them."""
+    """The texts of the tests, as bytes: those that gqlfmt is tried with. Those of crates/tests_parser are among
+    them."""
     return [text.encode() for text in corpus.texts()]
 
 

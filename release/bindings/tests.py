@@ -1,4 +1,5 @@
-"""Tests the libraries for C, the headers, the Rust crate and the Python package, as they are and as they are installed."""
+"""Tests the libraries for C, the headers, the Rust crate and the Python package, as they are and as they are
+installed."""
 
 import json
 import os
@@ -20,16 +21,25 @@ def compiled(source, folder, *flags, library=("-ldumyroke",)):
     """A program, compiled with all warnings as errors."""
     program = folder / Path(source).stem
     compiler = ["g++", "-std=c++11"] if source.endswith(".cpp") else ["gcc", "-std=c11"]
-    run(*compiler, "-O2", *WARNINGS, *flags, f"-I{INCLUDE}", "-o", program, C / source, f"-L{BUILD}", *library, "-lpthread")
+    run(
+        *compiler, "-O2", *WARNINGS, *flags, f"-I{INCLUDE}", "-o", program, C / source, f"-L{BUILD}", *library,
+        "-lpthread",
+    )
     return program
 
 
 def test_c(folder):
-    """The calls at their edges, with both libraries and with the sanitizers of gcc; where memory is refused; two threads at once; C++."""
+    """The calls at their edges, with both libraries and with the sanitizers of gcc; where memory is refused; two
+    threads at once; C++."""
     there = {**os.environ, "LD_LIBRARY_PATH": str(BUILD)}
     run(compiled("tests/edges.c", folder), env=there)
     run(compiled("tests/edges.c", folder, library=("-l:libdumyroke.a",)))
-    run(compiled("tests/edges.c", folder, "-g", "-fsanitize=address,undefined", "-fno-sanitize-recover=all", library=("-l:libdumyroke.a",)))
+    run(
+        compiled(
+            "tests/edges.c", folder, "-g", "-fsanitize=address,undefined", "-fno-sanitize-recover=all",
+            library=("-l:libdumyroke.a",),
+        )
+    )
     run(compiled("tests/no_memory.c", folder), env=there)
     run(compiled("tests/threads.c", folder), env=there)
     if shutil.which("g++"):
@@ -51,7 +61,8 @@ def test_symbols():
 
 
 def test_printed(name, modes, command):
-    """What a program prints is what gqlcst prints, in each mode, for each text and each pair of limits. `command` gives the words for a mode and limits."""
+    """What a program prints is what gqlcst prints, in each mode, for each text and each pair of limits. `command` gives
+    the words for a mode and limits."""
     cases = [(text, mode, limits) for text in texts() for mode in modes for limits in LIMITS]
     if not cases:
         stop("there are no texts to compare")
@@ -100,8 +111,12 @@ def test_rust_platforms(_folder):
     if not shutil.which("cargo"):
         return
     there = {name: value for name, value in os.environ.items() if name != "DUMYROKE_LIB_DIR"}
-    for target in ("aarch64-apple-darwin", "x86_64-pc-windows-msvc", "wasm32-unknown-unknown", "x86_64-unknown-linux-musl"):
-        built = subprocess.run(["cargo", "check", "--offline", "--target", target], cwd=RUST, env=there, capture_output=True, text=True)
+    for target in (
+        "aarch64-apple-darwin", "x86_64-pc-windows-msvc", "wasm32-unknown-unknown", "x86_64-unknown-linux-musl",
+    ):
+        built = subprocess.run(
+            ["cargo", "check", "--offline", "--target", target], cwd=RUST, env=there, capture_output=True, text=True
+        )
         if f"made for x86_64-unknown-linux-gnu alone, and this is a build for {target}" not in built.stderr:
             stop(f"a build of the Rust crate for {target} says\n{built.stderr}")
 
@@ -123,10 +138,15 @@ def test_python(folder):
         wheel.extractall(unpacked)
     shutil.copy(tests, folder)
     run(sys.executable, folder / tests.name, "-q", env={**os.environ, "PYTHONPATH": str(unpacked)})
-    if subprocess.run([sys.executable, "-m", "pip", "--version"], stdout=subprocess.DEVNULL, stderr=subprocess.DEVNULL).returncode:
+    if subprocess.run(
+        [sys.executable, "-m", "pip", "--version"], stdout=subprocess.DEVNULL, stderr=subprocess.DEVNULL
+    ).returncode:
         print("there is no pip: `pip install ./bindings/python` was not tried")
         return
-    pip = [sys.executable, "-m", "pip", "install", "--quiet", "--no-index", "--disable-pip-version-check", "--root-user-action=ignore"]
+    pip = [
+        sys.executable, "-m", "pip", "install", "--quiet", "--no-index", "--disable-pip-version-check",
+        "--root-user-action=ignore",
+    ]
     run(*pip, "--target", folder / "installed", PYTHON)
     run(sys.executable, folder / tests.name, "-q", env={**os.environ, "PYTHONPATH": str(folder / "installed")})
 
@@ -136,12 +156,15 @@ def test_python_readme(_folder):
     text = (PYTHON / "README.md").read_text()
     program = re.search(r"```python\n(.*?)```", text, re.DOTALL)[1]
     shown = re.sub(r"^    ", "", re.search(r"It prints\n\n((?:    .*\n)+)", text)[1], flags=re.MULTILINE)
-    printed = run(sys.executable, "-c", program, stdout=subprocess.PIPE, env={**os.environ, "PYTHONPATH": str(PYTHON)}).stdout.decode()
+    printed = run(
+        sys.executable, "-c", program, stdout=subprocess.PIPE, env={**os.environ, "PYTHONPATH": str(PYTHON)}
+    ).stdout.decode()
     if printed != shown:
         stop(f"the program of bindings/python/README.md prints\n{printed}")
 
 
-# Prints how many texts on standard input, which a zero ends, are parsed twice, as they are or without what a document may lack.
+# Prints how many texts on standard input, which a zero ends, are parsed twice, as they are or without what a document
+# may lack.
 COUNTING = r"""
 import re, sys
 from dumyroke import lex, library, parse
@@ -170,7 +193,14 @@ print(calls - 2 * len(texts), len(texts))
 def test_room(_folder):
     """None of the texts is parsed twice for want of room. Python and dumyroke_tree.h guess the same."""
     joined = b"".join(text + b"\0" for text in texts() if b"\0" not in text)
-    ended = run(sys.executable, "-c", COUNTING, input=joined, stdout=subprocess.PIPE, env={**os.environ, "PYTHONPATH": str(PYTHON)})
+    ended = run(
+        sys.executable,
+        "-c",
+        COUNTING,
+        input=joined,
+        stdout=subprocess.PIPE,
+        env={**os.environ, "PYTHONPATH": str(PYTHON)},
+    )
     twice, count = map(int, ended.stdout.split())
     if twice or not count:
         stop(f"of {count} texts, {twice} are parsed twice")
@@ -204,13 +234,22 @@ def test_install(folder):
     wanted = [flag.format(prefix) for flag in flags]
     if shutil.which("pkg-config"):
         there = {**os.environ, "PKG_CONFIG_PATH": f"{prefix}/lib/pkgconfig"}
-        said = run("pkg-config", "--cflags", "--libs", "dumyroke", env=there, stdout=subprocess.PIPE).stdout.decode().split()
+        said = (
+            run("pkg-config", "--cflags", "--libs", "dumyroke", env=there, stdout=subprocess.PIPE)
+            .stdout.decode()
+            .split()
+        )
         if said != wanted:
             stop(f"pkg-config gives the flags {' '.join(said)}")
     else:
         print("there is no pkg-config: dumyroke.pc was not tried")
     run("gcc", *WARNINGS, "-o", folder / "fields", C / "examples/fields.c", *wanted)
-    ended = run(folder / "fields", input=b"type A { b: C }", stdout=subprocess.PIPE, env={**os.environ, "LD_LIBRARY_PATH": f"{prefix}/lib"})
+    ended = run(
+        folder / "fields",
+        input=b"type A { b: C }",
+        stdout=subprocess.PIPE,
+        env={**os.environ, "LD_LIBRARY_PATH": f"{prefix}/lib"},
+    )
     if ended.stdout != b"A.b\n":
         stop(f"fields.c writes {ended.stdout.decode()}")
 
@@ -234,12 +273,17 @@ def test_cmake(folder):
     install([f"PREFIX={folder}/usr", "DESTDIR="])
     there = {**os.environ, "CMAKE_PREFIX_PATH": f"{folder}/usr"}
     major, minor, patch = map(int, version().split("."))
-    versions = {"": True, version(): True, f"{major}.{minor}": True, f"{major}.{minor}.{patch + 1}": False, f"{major}.{minor + 1}": False, f"{major + 1}": False}
+    versions = {
+        "": True, version(): True, f"{major}.{minor}": True, f"{major}.{minor}.{patch + 1}": False,
+        f"{major}.{minor + 1}": False, f"{major + 1}": False,
+    }
     for number, is_there in versions.items():
         project = folder / f"project{number}"
         project.mkdir()
         (project / "CMakeLists.txt").write_text(CMAKE.format(version=number, source=C / "examples/fields.c"))
-        made = subprocess.run(["cmake", "-S", project, "-B", project / "build"], env=there, capture_output=True, text=True)
+        made = subprocess.run(
+            ["cmake", "-S", project, "-B", project / "build"], env=there, capture_output=True, text=True
+        )
         if (made.returncode == 0) != is_there:
             stop(f"find_package(dumyroke {number}) ends with status {made.returncode}:\n{made.stderr}")
     run("cmake", "--build", folder / "project/build", stdout=subprocess.DEVNULL)

@@ -1,4 +1,5 @@
-"""What all packages say of the project: about.json, which tools/generate writes into their manifests too, and the texts of the licences."""
+"""What all packages say of the project: about.json, which tools/generate writes into their manifests too, and the texts
+of the licences."""
 
 import json
 

@@ -1,4 +1,5 @@
-"""Archives that are the same bytes for the same files: names in order, one time, one owner, and no name of the machine."""
+"""Archives that are the same bytes for the same files: names in order, one time, one owner, and no name of the
+machine."""
 
 import gzip
 import io
@@ -75,5 +76,9 @@ def ar(parts):
     """An archive of ar(1), in this order: the form of a Debian package."""
     head = b"!<arch>\n"
     for name, content in parts:
-        head += f"{name:<16}{TIME:<12}{0:<6}{0:<6}{'100644':<8}{len(content):<10}`\n".encode() + content + b"\n" * (len(content) % 2)
+        head += (
+            f"{name:<16}{TIME:<12}{0:<6}{0:<6}{'100644':<8}{len(content):<10}`\n".encode()
+            + content
+            + b"\n" * (len(content) % 2)
+        )
     return head

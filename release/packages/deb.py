@@ -37,7 +37,8 @@ Description: GraphQL parser with a proof, formatter, checker and language server
 
 
 def debian_copyright():
-    """The licences of a Debian package (Machine-readable debian/copyright file, version 1.0). Debian itself has the text of the Apache License."""
+    """The licences of a Debian package (Machine-readable debian/copyright file, version 1.0). Debian itself has the
+    text of the Apache License."""
     held, _, permission = read(TOP / "LICENSE-MIT").content.decode().partition("\n\n")[2].partition("\n\n")
     holders = held.replace("Copyright (c) ", "").replace("\n", "\n           ")
     mit = "".join(f" {line}\n" if line else " .\n" for line in permission.splitlines())
@@ -63,7 +64,10 @@ License: Apache-2.0
 def debian_changelog():
     """The changes in the form that Debian reads (deb-changelog(5)): CHANGELOG.md has them in words."""
     time = email.utils.formatdate(TIME)
-    return f"dumyroke ({version()}) unstable; urgency=medium\n\n  * Version {version()}: CHANGELOG.md.gz has its changes.\n\n -- {maintainer()}  {time}\n"
+    return (
+        f"dumyroke ({version()}) unstable; urgency=medium\n\n  * Version {version()}: CHANGELOG.md.gz has its"
+        f" changes.\n\n -- {maintainer()}  {time}\n"
+    )
 
 
 def in_debian(name):
@@ -81,11 +85,16 @@ def stripped(file):
 
 
 def debian_files():
-    """The files as Debian has them: programs without symbols, manual pages and changes packed, the licences in one file."""
+    """The files as Debian has them: programs without symbols, manual pages and changes packed, the licences in one
+    file."""
     files = {in_debian(name): file for name, file in installed().items() if Path(name).name not in LICENCES}
     files |= {name: stripped(file) for name, file in files.items() if file.is_program}
-    files[f"{LIBRARIES}/pkgconfig/dumyroke.pc"] = File(pc_text("/usr", "${prefix}/include", "${prefix}/lib/x86_64-linux-gnu").encode())
-    files |= {f"{LIBRARIES}/cmake/dumyroke/{name}": File(text.encode()) for name, text in cmake_files("../../include").items()}
+    files[f"{LIBRARIES}/pkgconfig/dumyroke.pc"] = File(
+        pc_text("/usr", "${prefix}/include", "${prefix}/lib/x86_64-linux-gnu").encode()
+    )
+    files |= {
+        f"{LIBRARIES}/cmake/dumyroke/{name}": File(text.encode()) for name, text in cmake_files("../../include").items()
+    }
     files["usr/share/doc/dumyroke/copyright"] = File(debian_copyright().encode())
     files["usr/share/doc/dumyroke/changelog"] = File(debian_changelog().encode())
     for name in [name for name in files if "/man/" in name or Path(name).name.lower().startswith("changelog")]:
@@ -98,9 +107,15 @@ def deb():
     files = debian_files()
     programs = [TOP / f"crates/{name}/out/{name}" for name in PROGRAMS]
     text = control(files, glibc(*programs, PACKAGE / "libdumyroke.so"))
-    sums = "".join(f"{hashlib.md5(file.content).hexdigest()}  {name}\n" for name, file in sorted(files.items()) if not file.link)
+    sums = "".join(
+        f"{hashlib.md5(file.content).hexdigest()}  {name}\n" for name, file in sorted(files.items()) if not file.link
+    )
     shared = f"libdumyroke {version().partition('.')[0]} dumyroke (>= {version()})\n"
     parts = {"control": text, "md5sums": sums, "shlibs": shared, "triggers": "activate-noawait ldconfig\n"}
     described = {name: File(content.encode()) for name, content in parts.items()}
-    members = [("debian-binary", b"2.0\n"), ("control.tar.gz", packed(tar(described))), ("data.tar.gz", packed(tar(files)))]
+    members = [
+        ("debian-binary", b"2.0\n"),
+        ("control.tar.gz", packed(tar(described))),
+        ("data.tar.gz", packed(tar(files))),
+    ]
     return f"dumyroke_{version()}_amd64.deb", ar(members)

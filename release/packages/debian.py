@@ -17,7 +17,9 @@ def mirror():
         return os.environ[VARIABLE]
     if not shutil.which("apt-get"):
         return None
-    command = ["apt-get", "indextargets", "--format", "$(REPO_URI)", "Created-By: Packages", "Origin: Debian", "Label: Debian"]
+    command = [
+        "apt-get", "indextargets", "--format", "$(REPO_URI)", "Created-By: Packages", "Origin: Debian", "Label: Debian",
+    ]
     found = subprocess.run(command, capture_output=True, text=True).stdout.split()
     return found[0] if found else None
 

@@ -49,17 +49,25 @@ def test_same():
 def test_manuals(_folder):
     """Each manual page names the options, and their letters, that the program names when it gets `--help`."""
     for program in PROGRAMS:
-        said = subprocess.run([TOP / f"crates/{program}/out/{program}", "--help"], stdin=subprocess.DEVNULL, capture_output=True, text=True)
+        said = subprocess.run(
+            [TOP / f"crates/{program}/out/{program}", "--help"],
+            stdin=subprocess.DEVNULL,
+            capture_output=True,
+            text=True,
+        )
         named = set(re.findall(r"--[a-z]+(?:-[a-z]+)*", said.stdout + said.stderr))
         listed = {word.name for word in words(program) if word.is_option}
         if named != listed:
-            stop(f"the manual page of {program} and what it says of itself differ in {' '.join(sorted(named ^ listed))}")
+            stop(
+                f"the manual page of {program} and what it says of itself differ in {' '.join(sorted(named ^ listed))}"
+            )
         letters = set(re.findall(r"^  (-\w), (--[a-z]+)", said.stdout, re.MULTILINE))
         if letters != {tuple(word.spellings) for word in words(program) if word.letter}:
             stop(f"the manual page of {program} and what it says of itself differ in the letters of options")
 
 
-# How a shell says what may come after a word that is begun. Zsh has no call for that: its file is run over a stand-in for its function.
+# How a shell says what may come after a word that is begun. Zsh has no call for that: its file is run over a stand-in
+# for its function.
 COMPLETED = {
     "bash": (bash, '_{program} "" "{typed}" {program}; printf "%s\\n" "${{COMPREPLY[@]}}"'),
     "fish": (fish, 'complete -C "{program} {typed}"'),
@@ -83,7 +91,9 @@ def test_completions(_folder):
         if without(shell, "its completion"):
             continue
         # zsh itself chooses those that begin so, and it is not run here
-        options = {name for word in words("gqlfmt") for name in word.spellings if name.startswith("--") or shell == "zsh"}
+        options = {
+            name for word in words("gqlfmt") for name in word.spellings if name.startswith("--") or shell == "zsh"
+        }
         if completed(shell, "gqlfmt", "--") - {"*:file:_files"} != options:
             stop(f"{shell} does not offer the options of gqlfmt")
         if shell != "zsh" and completed(shell, "gqlcst", "t") != {"tokens", "tree"}:
@@ -100,7 +110,8 @@ def contents(file):
 
 
 def test_licences(_folder):
-    """Each package has the notice and the texts of both licences. That of Debian has them in one file, and names Debian's own copy of the Apache License."""
+    """Each package has the notice and the texts of both licences. That of Debian has them in one file, and names
+    Debian's own copy of the Apache License."""
     for file in RELEASE.iterdir():
         if file.suffix not in (".txt", ".md", ".deb") and file.name != "SHA256SUMS":
             held = contents(file)
@@ -118,7 +129,11 @@ def test_debian(folder):
     unpacked = run("dpkg-deb", "--fsys-tarfile", *folder.glob("*.deb"), stdout=subprocess.PIPE).stdout
     (folder / "files.tar").write_bytes(unpacked)
     said = " ".join(contents(folder / "files.tar")["copyright"].decode().split())
-    for part in ("Permission is hereby granted, free of charge", "/usr/share/common-licenses/Apache-2.0", "port of the Rust crate apollo-parser"):
+    for part in (
+        "Permission is hereby granted, free of charge",
+        "/usr/share/common-licenses/Apache-2.0",
+        "port of the Rust crate apollo-parser",
+    ):
         if part not in said:
             stop(f"the copyright file of the package for Debian lacks: {part}")
 
@@ -146,7 +161,10 @@ def test_npm(folder):
     (folder / "example.mjs").write_text(program)
     for test in (NPM / "tests").iterdir():
         shutil.copy(test, folder)
-    packed = run("npm", "pack", "--dry-run", "--offline", package(".tgz"), cwd=folder, stdout=subprocess.DEVNULL, stderr=subprocess.PIPE).stderr.decode()
+    packed = run(
+        "npm", "pack", "--dry-run", "--offline", package(".tgz"), cwd=folder, stdout=subprocess.DEVNULL,
+        stderr=subprocess.PIPE,
+    ).stderr.decode()
     if "warn" in packed.lower():
         stop(f"npm warns of the package:\n{packed}")
     run("npm", "install", "--offline", "--no-audit", "--no-fund", "--silent", package(".tgz"), cwd=folder)
@@ -155,7 +173,10 @@ def test_npm(folder):
     if run("node", "example.mjs", cwd=folder, stdout=subprocess.PIPE).stdout.decode() != shown:
         stop("the example of bindings/npm/README.md prints something else")
     if not without("tsc", "the types of the npm package"):
-        run("tsc", "--strict", "--noEmit", "--module", "nodenext", "--target", "es2022", "--lib", "es2022,dom", "types.mts", cwd=folder)
+        run(
+            "tsc", "--strict", "--noEmit", "--module", "nodenext", "--target", "es2022", "--lib", "es2022,dom",
+            "types.mts", cwd=folder,
+        )
 
 
 def test_vsix(folder):
@@ -163,10 +184,18 @@ def test_vsix(folder):
     with zipfile.ZipFile(package(".vsix")) as archive:
         archive.extractall(folder)
     ElementTree.parse(folder / "[Content_Types].xml")
-    assets = [asset.get("Path") for asset in ElementTree.parse(folder / "extension.vsixmanifest").iter() if asset.tag.endswith("}Asset")]
+    assets = [
+        asset.get("Path")
+        for asset in ElementTree.parse(folder / "extension.vsixmanifest").iter()
+        if asset.tag.endswith("}Asset")
+    ]
     about = json.loads((folder / "extension/package.json").read_text())
     added = about["contributes"]
-    named = [about["main"], *(it["configuration"] for it in added["languages"]), *(it["path"] for it in added["grammars"])]
+    named = [
+        about["main"],
+        *(it["configuration"] for it in added["languages"]),
+        *(it["path"] for it in added["grammars"]),
+    ]
     for name in [*assets, *(f"extension/{name}" for name in named)]:
         if not (folder / name).exists():
             stop(f"the extension's package has no {name}")

@@ -13,12 +13,15 @@ from .archives import File, read
 from .manuals import manuals
 
 PROGRAMS = ["gqlcheck", "gqlcst", "gqlfmt", "gqlls"]
-DOCUMENTS = ["README.md", *LICENCES, "CHANGELOG.md", "docs/BINDINGS.md", "docs/DIFFERENCES.md", "docs/EDITORS.md", "docs/FORMAT.md", "docs/GRAMMAR.md", "docs/PROMISES.md",
-             "docs/DEFINITIONS.md", "build/EVIDENCE.md"]
+DOCUMENTS = [
+    "README.md", *LICENCES, "CHANGELOG.md", "docs/BINDINGS.md", "docs/DIFFERENCES.md", "docs/EDITORS.md",
+    "docs/FORMAT.md", "docs/GRAMMAR.md", "docs/PROMISES.md", "docs/DEFINITIONS.md", "build/EVIDENCE.md",
+]
 
 
 def installed():
-    """Programs, manual pages, completions, libraries, headers, dumyroke.pc and documents, as they lie below /usr/local or /usr."""
+    """Programs, manual pages, completions, libraries, headers, dumyroke.pc and documents, as they lie below /usr/local
+    or /usr."""
     files = manuals(PROGRAMS) | {f"bin/{name}": read(TOP / f"crates/{name}/out/{name}", True) for name in PROGRAMS}
     with tempfile.TemporaryDirectory() as name:
         install([f"DESTDIR={name}", "PREFIX=/usr"])

@@ -9,7 +9,8 @@ from bindings.shared import version
 from .archives import File
 
 FOLDER = Path(__file__).resolve().parent / "manuals"
-# A word in a list of a page: `.It Fl -NAME`, maybe with a letter before it, or `.It Cm NAME`; maybe with an argument; and the sentence about it.
+# A word in a list of a page: `.It Fl -NAME`, maybe with a letter before it, or `.It Cm NAME`; maybe with an argument;
+# and the sentence about it.
 LISTED = re.compile(r"^\.It (?:Fl (\w) , )?(Fl -|Cm )(\S+)( Ar \S+)?\n(.*)\.$", re.MULTILINE)
 
 
@@ -36,7 +37,10 @@ def page(program):
 
 def words(program):
     """The words that a program's page lists, in its order."""
-    return [Word("--" * (sort != "Cm ") + name, about, bool(argument), letter) for letter, sort, name, argument, about in LISTED.findall(page(program))]
+    return [
+        Word("--" * (sort != "Cm ") + name, about, bool(argument), letter)
+        for letter, sort, name, argument, about in LISTED.findall(page(program))
+    ]
 
 
 def takes_files(program):
@@ -59,7 +63,12 @@ complete {"-o default " if files else ""}-F _{program} {program}
 
 def zsh(program):
     listed = words(program)
-    lines = [f"'{name}[{word.about}]{':N: ' if word.has_argument else ''}'" for word in listed if word.is_option for name in word.spellings]
+    lines = [
+        f"'{name}[{word.about}]{':N: ' if word.has_argument else ''}'"
+        for word in listed
+        if word.is_option
+        for name in word.spellings
+    ]
     modes = " ".join(f'{word.name}\\:"{word.about}"' for word in listed if not word.is_option)
     lines += [f"'1:mode:(({modes}))'"] if modes else []
     lines += ["'*:file:_files'"] if takes_files(program) else []
@@ -73,9 +82,14 @@ def fish(program):
     for word in listed:
         if word.is_option:
             letter = f"-s {word.letter} " if word.letter else ""
-            lines.append(f"complete -c {program} {letter}-l {word.name[2:]} {'-x ' if word.has_argument else ''}-d '{word.about}'")
+            lines.append(
+                f"complete -c {program} {letter}-l {word.name[2:]} {'-x ' if word.has_argument else ''}-d"
+                f" '{word.about}'"
+            )
         else:
-            lines.append(f"complete -c {program} -n 'not __fish_seen_subcommand_from {modes}' -a {word.name} -d '{word.about}'")
+            lines.append(
+                f"complete -c {program} -n 'not __fish_seen_subcommand_from {modes}' -a {word.name} -d '{word.about}'"
+            )
     return "".join(f"{line}\n" for line in lines)
 
 

@@ -23,5 +23,8 @@ def npm():
     """For node and browsers, as npm packs it."""
     files = {name: read(NPM / name) for name in OWN} | {name: read(WEB / name) for name in READER}
     files |= licences() | {"CHANGELOG.md": read(TOP / "CHANGELOG.md")}
-    files |= {"kinds.d.ts": File(kinds().encode()), "dumyroke.wasm": read(SITE / "dumyroke.wasm", made_by="./do bindings pages")}
+    files |= {
+        "kinds.d.ts": File(kinds().encode()),
+        "dumyroke.wasm": read(SITE / "dumyroke.wasm", made_by="./do bindings pages"),
+    }
     return f"dumyroke-{version()}.tgz", packed(tar(under("package", files), has_folders=False))

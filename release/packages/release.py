@@ -48,7 +48,9 @@ def crate():
         library = folder / "lib/x86_64-unknown-linux-gnu"
         library.mkdir(parents=True)
         shutil.copy(BUILD / "libdumyroke.a", library)
-        said = run("cargo", "package", "--offline", "--no-verify", "--allow-dirty", cwd=folder, stderr=subprocess.PIPE).stderr.decode()
+        said = run(
+            "cargo", "package", "--offline", "--no-verify", "--allow-dirty", cwd=folder, stderr=subprocess.PIPE
+        ).stderr.decode()
         if "warning" in said:
             stop(f"cargo warns of the crate:\n{said}")
         file = folder / f"target/package/dumyroke-{version()}.crate"
@@ -93,12 +95,17 @@ def release():
         print("the addresses in about.json are placeholders: whoever publishes these packages puts real ones there")
     run(TOP / "tools/evidence/run", stdout=subprocess.DEVNULL)
     if run(TOP / "tools/kinds", "--print", stdout=subprocess.PIPE).stdout != (C / "released_kinds.txt").read_bytes():
-        print("bindings/c/released_kinds.txt is of another release: run `tools/kinds` when these packages are published")
+        print(
+            "bindings/c/released_kinds.txt is of another release: run `tools/kinds` when these packages are published"
+        )
     makers = [archive, deb, wheel, npm, vsix, page]
     if shutil.which("cargo"):
         makers.append(crate)
     else:
         print("there is no cargo: the Rust crate is left out")
-    files = dict(make() for make in makers) | {"PROVED.txt": proved().encode(), "EVIDENCE.md": (BUILD / "EVIDENCE.md").read_bytes()}
+    files = dict(make() for make in makers) | {
+        "PROVED.txt": proved().encode(),
+        "EVIDENCE.md": (BUILD / "EVIDENCE.md").read_bytes(),
+    }
     sums = "".join(f"{hashlib.sha256(content).hexdigest()}  {name}\n" for name, content in sorted(files.items()))
     return files | {"SHA256SUMS": sums.encode()}

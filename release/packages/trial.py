@@ -13,7 +13,8 @@ from . import debian
 from .here import NPM, npm_example, package
 from .installed import PROGRAMS
 
-# What the packages need beside themselves: a C compiler and pkg-config, pip, cargo, node. npm would bring four hundred packages more.
+# What the packages need beside themselves: a C compiler and pkg-config, pip, cargo, node. npm would bring four hundred
+# packages more.
 NEEDED = ["gcc", "libc6-dev", "pkgconf", "python3-pip", "cargo", "nodejs"]
 # The folder of a package's trial in the bare system.
 PLACE = "trial"
@@ -22,7 +23,8 @@ readme = SourceFileLoader("readme", str(TOP / "tests/readme")).load_module()
 
 
 def examples(page, *programs):
-    """The commands that a page shows with these programs: each with its folder, and the text that it writes. `rt try` in a program's folder is that program."""
+    """The commands that a page shows with these programs: each with its folder, and the text that it writes. `rt try`
+    in a program's folder is that program."""
     for block in readme.blocks((TOP / page).read_text()):
         folder = "."
         for command, written in readme.commands(block):
@@ -61,7 +63,8 @@ class Bare:
         return self.run(f"find / -xdev \\( {names} \\) -not -path '/{PLACE}/*'")
 
     def try_one(self, trial, ending):
-        """One package's trial, in a folder that has the package and the examples over the libraries. Afterwards nothing is left of it."""
+        """One package's trial, in a folder that has the package and the examples over the libraries. Afterwards nothing
+        is left of it."""
         file = package(ending)
         self.place.mkdir()
         shutil.copy(file, self.place)
@@ -112,7 +115,10 @@ def try_crate(bare, name):
     """The example gqlcst.rs over the crate, built by cargo without a network, does what README shows of gqlcst."""
     bare.run(f"tar -xf {name} && mkdir -p src && mv {name.removesuffix('.crate')} dumyroke")
     shutil.copy(RUST / "examples/gqlcst.rs", bare.place / "src/main.rs")
-    manifest = '[package]\nname = "gqlcst"\nversion = "1.0.0"\nedition = "2021"\n[dependencies]\ndumyroke = { path = "dumyroke" }\n'
+    manifest = (
+        '[package]\nname = "gqlcst"\nversion = "1.0.0"\nedition = "2021"\n[dependencies]\ndumyroke = { path ='
+        ' "dumyroke" }\n'
+    )
     (bare.place / "Cargo.toml").write_text(manifest)
     bare.run("cargo build --offline --quiet")
     bare.show("README.md", "gqlcst", before=f"PATH=/{PLACE}/target/debug:$PATH; ")
@@ -121,7 +127,9 @@ def try_crate(bare, name):
 
 def try_npm(bare, name):
     """The package as npm unpacks it: the example of its README, and its tests."""
-    bare.run(f"mkdir -p node_modules && tar -C node_modules -xf {name} && mv node_modules/package node_modules/dumyroke")
+    bare.run(
+        f"mkdir -p node_modules && tar -C node_modules -xf {name} && mv node_modules/package node_modules/dumyroke"
+    )
     program, shown = npm_example()
     (bare.place / "example.mjs").write_text(program)
     shutil.copy(NPM / "tests/package_test.mjs", bare.place)

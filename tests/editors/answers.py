@@ -1,4 +1,5 @@
-"""What the Language Server Protocol wants of any answer about a document, whatever its text is. Each function asks about a `View` and says whether the answer is right."""
+"""What the Language Server Protocol wants of any answer about a document, whatever its text is. Each function asks
+about a `View` and says whether the answer is right."""
 import re
 
 from client import errors_of
@@ -58,12 +59,15 @@ def selections(view):
 
 
 def parts_of_tokens(text, data):
-    """The parts of the text that the tokens take, or None where they overlap, go backward or go over the end of a line."""
+    """The parts of the text that the tokens take, or None where they overlap, go backward or go over the end of a
+    line."""
     found, line, column = [], 0, 0
     for at in range(0, len(data), 5):
         lines, columns, length, kind, modifiers = data[at:at + 5]
         line, column = line + lines, columns if lines else column + columns
-        part = text.part({"start": {"line": line, "character": column}, "end": {"line": line, "character": column + length}})
+        part = text.part(
+            {"start": {"line": line, "character": column}, "end": {"line": line, "character": column + length}}
+        )
         if not part or length == 0 or not 0 <= kind < 12 or modifiers or found and part[0] < found[-1][1]:
             return None
         found.append(part)
@@ -81,10 +85,18 @@ def tokens(view):
 
 
 def names(view):
-    """What is found of a name in the document has that name. The uses are among the uses and definitions, and one of these is at the offset."""
+    """What is found of a name in the document has that name. The uses are among the uses and definitions, and one of
+    these is at the offset."""
     at = view.position()
     definition, hover = view.ask("definition", position=at), view.ask("hover", position=at)
-    uses, found = ([it["range"] for it in view.ask("references", position=at, context={"includeDeclaration": wanted}) if it["uri"] == view.uri] for wanted in (False, True))
+    uses, found = (
+        [
+            it["range"]
+            for it in view.ask("references", position=at, context={"includeDeclaration": wanted})
+            if it["uri"] == view.uri
+        ]
+        for wanted in (False, True)
+    )
     parts = [view.text.part(it) for it in found]
     if None in parts or parts and not any(start <= view.offset <= end for start, end in parts):
         return False
@@ -94,13 +106,19 @@ def names(view):
 
 
 def completions(view):
-    """No label is blank, and what each replaces is the end of the line's text before the offset. In code there are none."""
+    """No label is blank, and what each replaces is the end of the line's text before the offset. In code there are
+    none."""
     found = view.ask("completion", position=view.position())
     if found is None:
         return view.language != "graphql"
     for item in found:
         part = view.text.part(item["textEdit"]["range"])
-        if not item["label"].strip() or not part or part[1] != view.offset or view.text.position(part[0])["line"] != view.position()["line"]:
+        if (
+            not item["label"].strip()
+            or not part
+            or part[1] != view.offset
+            or view.text.position(part[0])["line"] != view.position()["line"]
+        ):
             return False
     return True
 
@@ -111,7 +129,8 @@ def has_no_definitions(text):
 
 
 def layout(view):
-    """A text in GraphQL gets a layout exactly where it has definitions and no errors; then it still has none, and keeps its layout."""
+    """A text in GraphQL gets a layout exactly where it has definitions and no errors; then it still has none, and keeps
+    its layout."""
     if view.language != "graphql":
         return view.ask("formatting", options=OPTIONS) is None
     has_errors = errors_of(view.client.open("file:///anew", view.text.text)) != []

@@ -7,7 +7,8 @@ import subprocess
 
 
 def errors_of(notice):
-    """The syntax errors in a notice of diagnostics: a violation of a rule of validation has the rule's name as its code."""
+    """The syntax errors in a notice of diagnostics: a violation of a rule of validation has the rule's name as its
+    code."""
     return [it for it in notice["diagnostics"] if it["code"] == "syntax"]
 
 
@@ -64,9 +65,13 @@ class Client:
         return self.ask(f"textDocument/{feature}", textDocument={"uri": uri}, **params)["result"]
 
     def initialize(self, *encodings, related=False):
-        """Offers these encodings of positions, takes related information or doesn't, and gives the server's capabilities."""
+        """Offers these encodings of positions, takes related information or doesn't, and gives the server's
+        capabilities."""
         general = {"positionEncodings": list(encodings)} if encodings else {}
-        answer = self.ask("initialize", capabilities={"general": general, "textDocument": {"publishDiagnostics": {"relatedInformation": related}}})
+        answer = self.ask(
+            "initialize",
+            capabilities={"general": general, "textDocument": {"publishDiagnostics": {"relatedInformation": related}}},
+        )
         self.notify("initialized")
         return answer["result"]["capabilities"]
 
@@ -97,7 +102,8 @@ def width(text, encoding):
 
 
 class Text:
-    """A text as a client has it: LF, CR LF and CR end its lines, and columns count units of an encoding. Offsets count characters."""
+    """A text as a client has it: LF, CR LF and CR end its lines, and columns count units of an encoding. Offsets count
+    characters."""
 
     def __init__(self, text, encoding):
         self.text = text

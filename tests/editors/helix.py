@@ -1,6 +1,7 @@
 #!/usr/bin/env python3
-"""Tests gqlls in Helix 25 in a terminal of tmux, on a folder with a schema and a query: helix.py PROGRAM. Helix is set up by the words of docs/EDITORS.md,
-and gets the keys that a user presses. What is on the screen after them is what the texts say."""
+"""Tests gqlls in Helix 25 in a terminal of tmux, on a folder with a schema and a query: helix.py PROGRAM. Helix is set
+up by the words of docs/EDITORS.md, and gets the keys that a user presses. What is on the screen after them is what the
+texts say."""
 import os
 import re
 import shutil
@@ -21,14 +22,16 @@ class Helix:
 
     def __init__(self, folder):
         self.tmux = ["tmux", "-u", "-f", "/dev/null", "-S", str(folder / "tmux")]
-        self.run("new-session", "-d", "-x", "140", "-y", "30", "-c", str(folder), "hx", "query.graphql", "schema.graphql")
+        self.run(
+            "new-session", "-d", "-x", "140", "-y", "30", "-c", str(folder), "hx", "query.graphql", "schema.graphql"
+        )
 
     def run(self, *words):
         return subprocess.run([*self.tmux, *words], check=True, capture_output=True, text=True).stdout
 
     def press(self, *keys):
-        """Presses keys by tmux's names, and types what has no such name, at the speed of a fast typist: Helix drops completions that keys overtake. Escape
-        with a key behind it at once is another key to Helix."""
+        """Presses keys by tmux's names, and types what has no such name, at the speed of a fast typist: Helix drops
+        completions that keys overtake. Escape with a key behind it at once is another key to Helix."""
         for key in keys:
             for each in [key] if key in NAMED or len(key) == 1 else key:
                 self.run("send-keys", *(["-l"] if len(each) == 1 else []), each)
@@ -54,7 +57,11 @@ def set_up(folder):
     settings.parent.mkdir(parents=True)
     settings.write_text(re.search("```toml\n(.*?)```", (TOP / "docs/EDITORS.md").read_text(), re.S)[1])
     shutil.copy(sys.argv[1], folder / "gqlls")
-    os.environ.update(XDG_CONFIG_HOME=str(folder / "settings"), XDG_CACHE_HOME=str(folder / "cache"), PATH=f"{folder}:{os.environ['PATH']}")
+    os.environ.update(
+        XDG_CONFIG_HOME=str(folder / "settings"),
+        XDG_CACHE_HOME=str(folder / "cache"),
+        PATH=f"{folder}:{os.environ['PATH']}",
+    )
 
 
 def test(helix):

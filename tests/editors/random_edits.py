@@ -1,8 +1,11 @@
 #!/usr/bin/env python3
-"""Makes random edits in many documents, and checks the server's messages after each: random_edits.py PROGRAM [EDITS] [SEED].
+"""Makes random edits in many documents, and checks the server's messages after each: random_edits.py PROGRAM [EDITS]
+[SEED].
 
-The texts and positions are the client's own. The errors that are published have to be those of the same text opened anew in another server, which knows no
-other document, and, where gqlcst is built, be at the offsets that it gives; a text without definitions has none. Then it requests one of the other features, and its answer has to be as the protocol wants it (answers.py)."""
+The texts and positions are the client's own. The errors that are published have to be those of the same text opened
+anew in another server, which knows no other document, and, where gqlcst is built, be at the offsets that it gives; a
+text without definitions has none. Then it requests one of the other features, and its answer has to be as the protocol
+wants it (answers.py)."""
 import bisect
 import random
 import re
@@ -15,13 +18,20 @@ from client import Client, Text, errors_of
 
 GQLCST = Path(__file__).resolve().parent.parent.parent / "crates/gqlcst/out/gqlcst"
 TEMPLATES = Path(__file__).resolve().parent / "templates"
-PIECES = ["`", "gql`", "${", "\\", "😀", "é", "a", " ", "\n", "{", "}", '"', '"""', "# x", "1 ", "type T { a: B }\n", "\r", "漢", "\r\n", "query ($a: [Int!] = [1]) { b }", "@d", "...", "fragment on A { b }"]
+PIECES = [
+    "`", "gql`", "${", "\\", "😀", "é", "a", " ", "\n", "{", "}", '"', '"""', "# x", "1 ", "type T { a: B }\n", "\r",
+    "漢", "\r\n", "query ($a: [Int!] = [1]) { b }", "@d", "...", "fragment on A { b }",
+]
 LANGUAGES = ["graphql", "graphql", "typescript", "python"]
-TEXTS = {"graphql": [
-    'type A {\n  "😀 é" a(x: Int): B! \n  b: A }\r\n"""\n漢 \\"""\r"""\renum E { A B }\n',
-    'query Q($id: ID = "😀") @d {\r\n  a(id: $id, o: {x: [1, 2.5]}) { ...F }\r\n}\rfragment F on A { b c: d }\n',
-    "",
-], "typescript": [(TEMPLATES / "pets.ts").read_text(), "const a = <p>{gql`{ a }`}</p>\r\n"], "python": [(TEMPLATES / "pets.py").read_text()]}
+TEXTS = {
+    "graphql": [
+        'type A {\n  "😀 é" a(x: Int): B! \n  b: A }\r\n"""\n漢 \\"""\r"""\renum E { A B }\n',
+        'query Q($id: ID = "😀") @d {\r\n  a(id: $id, o: {x: [1, 2.5]}) { ...F }\r\n}\rfragment F on A { b c: d }\n',
+        "",
+    ],
+    "typescript": [(TEMPLATES / "pets.ts").read_text(), "const a = <p>{gql`{ a }`}</p>\r\n"],
+    "python": [(TEMPLATES / "pets.py").read_text()],
+}
 # One line of 1 MB takes a while, so it gets few of the edits, and no other request.
 LONG = "type L { " + "a: B " * 210_000 + "}"
 SHORT = 10_000
@@ -87,9 +97,9 @@ class Run:
 
 
 def at_their_offsets(text, errors):
-    """Whether the errors are the first that gqlcst finds in each definition, up to the ends of their lines: a hundred at most, and then how many more there are.
-    An error belongs to the last definition that begins before it.
-    A text without definitions, of white space, commas and comments alone, has none."""
+    """Whether the errors are the first that gqlcst finds in each definition, up to the ends of their lines: a hundred
+    at most, and then how many more there are. An error belongs to the last definition that begins before it. A text
+    without definitions, of white space, commas and comments alone, has none."""
     if answers.has_no_definitions(text.text):
         return not errors
     data = text.text.encode()
@@ -97,12 +107,20 @@ def at_their_offsets(text, errors):
     starts = [int(start) for start in re.findall(rb"^    - \w+@(\d+)\.\.\d+$", report, re.MULTILINE)]
     first = {}
     for start, end in re.findall(rb'^- ERROR@(\d+):(\d+) "', report, re.MULTILINE):
-        first.setdefault(bisect.bisect_left(starts, int(start)), (int(start), int(start) + len(re.split(rb"[\r\n]", data[int(start):int(end)])[0])))
-    wanted = [text.range(*(text.boundary(len(data[:offset].decode())) for offset in part)) for part in list(first.values())[:100]]
+        first.setdefault(
+            bisect.bisect_left(starts, int(start)),
+            (int(start), int(start) + len(re.split(rb"[\r\n]", data[int(start) : int(end)])[0])),
+        )
+    wanted = [
+        text.range(*(text.boundary(len(data[:offset].decode())) for offset in part))
+        for part in list(first.values())[:100]
+    ]
     more = len(first) - 100
     if more > 0:
         wanted.append(text.range(0, 0))
-    return [it["range"] for it in errors] == wanted and (more <= 0 or errors[100]["message"] == f"{more} more error{'s' if more > 1 else ''}")
+    return [it["range"] for it in errors] == wanted and (
+        more <= 0 or errors[100]["message"] == f"{more} more error{'s' if more > 1 else ''}"
+    )
 
 
 def main():
@@ -113,7 +131,9 @@ def main():
         run.document(LONG, max(edits // 200, 1))
         while run.edits < edits // 2:
             language = run.random.choice(LANGUAGES)
-            run.document(run.random.choice(TEXTS[language]) * run.random.randint(1, 3), min(25, edits // 2 - run.edits), language)
+            run.document(
+                run.random.choice(TEXTS[language]) * run.random.randint(1, 3), min(25, edits // 2 - run.edits), language
+            )
         assert run.client.end() == run.other.end() == 0
     edits, documents, wrong = (sum(getattr(run, what) for run in runs) for what in ["edits", "documents", "wrong"])
     if not GQLCST.exists():

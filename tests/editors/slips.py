@@ -1,8 +1,10 @@
 #!/usr/bin/env python3
-"""Deletes one punctuator at each of 500 places of schemas and queries, and counts the errors that the server shows: slips.py PROGRAM [SEED].
+"""Deletes one punctuator at each of 500 places of schemas and queries, and counts the errors that the server shows:
+slips.py PROGRAM [SEED].
 
-In the median it has to be one, in nine of ten cases at most three, and the first has to be the first of gqlcst where that is built. Without a `}` and with a
-definition before the first error, that error has to name a brace of the definition that lacks it."""
+In the median it has to be one, in nine of ten cases at most three, and the first has to be the first of gqlcst where
+that is built. Without a `}` and with a definition before the first error, that error has to name a brace of the
+definition that lacks it."""
 import random
 import re
 import subprocess
@@ -13,15 +15,23 @@ from client import Client, Text, errors_of
 
 ROOT = Path(__file__).resolve().parent.parent.parent
 GQLCST = ROOT / "crates/gqlcst/out/gqlcst"
-TOKEN = re.compile(r'"""(?:\\"""|(?!""").)*"""|"(?:\\.|[^"\\\n])*"|#[^\n]*|\.\.\.|[{}()\[\]:!|&=@$]|[^"#{}()\[\]:!|&=@$.]+|.', re.DOTALL)
+TOKEN = re.compile(
+    r'"""(?:\\"""|(?!""").)*"""|"(?:\\.|[^"\\\n])*"|#[^\n]*|\.\.\.|[{}()\[\]:!|&=@$]|[^"#{}()\[\]:!|&=@$.]+|.',
+    re.DOTALL,
+)
 
 
-DEFINITION = re.compile(r"^(?:query|mutation|subscription|fragment|schema|scalar|type|interface|union|enum|input|directive|extend)\b", re.MULTILINE)
+DEFINITION = re.compile(
+    r"^(?:query|mutation|subscription|fragment|schema|scalar|type|interface|union|enum|input|directive|extend)\b",
+    re.MULTILINE,
+)
 
 
 def texts():
     for kind in ["queries", "orders", "schema", "described"]:
-        yield subprocess.run([sys.executable, ROOT / "bench/text.py", kind, "6000"], stdout=subprocess.PIPE, text=True, check=True).stdout
+        yield subprocess.run(
+            [sys.executable, ROOT / "bench/text.py", kind, "6000"], stdout=subprocess.PIPE, text=True, check=True
+        ).stdout
 
 
 def slip(chance, text):
@@ -37,7 +47,8 @@ def first_offset(text):
 
 
 def lacks_its_brace(text, place, error):
-    """Whether an error that a `}` missing at an offset makes behind the next definition names no brace of the definition without it; None without such an error."""
+    """Whether an error that a `}` missing at an offset makes behind the next definition names no brace of the
+    definition without it; None without such an error."""
     shown, begins = Text(text, "utf-16"), [it.start() for it in DEFINITION.finditer(text)]
     if not any(place <= begin <= shown.offset(error["range"]["start"]) for begin in begins):
         return None
@@ -46,7 +57,12 @@ def lacks_its_brace(text, place, error):
 
 
 def main():
-    chance, client, counts, wrong = random.Random(int(sys.argv[2]) if len(sys.argv) > 2 else 54), Client(sys.argv[1]), [], 0
+    chance, client, counts, wrong = (
+        random.Random(int(sys.argv[2]) if len(sys.argv) > 2 else 54),
+        Client(sys.argv[1]),
+        [],
+        0,
+    )
     lacking = []
     client.initialize(related=True)
     documents = list(texts())
@@ -61,9 +77,14 @@ def main():
                 wrong += errors[0]["range"]["start"] != Text(text, "utf-16").position(offset)
     counts.sort()
     median, ninth = counts[len(counts) // 2], counts[len(counts) * 9 // 10]
-    print(f"slips: {len(counts)} of 500 texts have errors; shown in the median {median}, in nine of ten at most {ninth}, at most {counts[-1]}; {wrong} with another first error; "
-          f"{lacking.count(True)} of {len(lacking) - lacking.count(None)} without the brace that is never closed")
-    sys.exit(0 if median == 1 and ninth <= 3 and wrong == 0 and lacking.count(True) == 0 and lacking.count(False) > 0 else 1)
+    print(
+        f"slips: {len(counts)} of 500 texts have errors; shown in the median {median}, in nine of ten at most {ninth},"
+        f" at most {counts[-1]}; {wrong} with another first error; {lacking.count(True)} of"
+        f" {len(lacking) - lacking.count(None)} without the brace that is never closed"
+    )
+    sys.exit(
+        0 if median == 1 and ninth <= 3 and wrong == 0 and lacking.count(True) == 0 and lacking.count(False) > 0 else 1
+    )
 
 
 main()

@@ -1,6 +1,7 @@
 #!/usr/bin/env python3
-"""Tests how a server takes its messages from a pipe, and what ends it: transport.py PROGRAM. A piece is written when the one in front of it was
-read, so no read has bytes of two. The expected values are those of JSON-RPC 2.0 and of the Language Server Protocol 3.17."""
+"""Tests how a server takes its messages from a pipe, and what ends it: transport.py PROGRAM. A piece is written when
+the one in front of it was read, so no read has bytes of two. The expected values are those of JSON-RPC 2.0 and of the
+Language Server Protocol 3.17."""
 import array
 import fcntl
 import os
@@ -68,8 +69,12 @@ def cuts():
 
 
 def heads():
-    """What begins no frame is passed over: a head without a length, one without an end, and a length beyond a gigabyte."""
-    for head in [b"Content-Type: x\r\n\r\n", b"Content-Length: +1\r\n\r\n", b"Content-Length\r\n\r\n", b"Content-Length: 1073741825\r\n\r\n", b"X: " + b"x" * 4093 + b"\r\n\r\n"]:
+    """What begins no frame is passed over: a head without a length, one without an end, and a length beyond a
+    gigabyte."""
+    for head in [
+        b"Content-Type: x\r\n\r\n", b"Content-Length: +1\r\n\r\n", b"Content-Length\r\n\r\n",
+        b"Content-Length: 1073741825\r\n\r\n", b"X: " + b"x" * 4093 + b"\r\n\r\n",
+    ]:
         expect(f"the message after {head[:40]}", served(head, frame(request(3))), (1, refusal(3)))
 
 
@@ -77,8 +82,10 @@ def ends():
     expect("a message after exit", served(frame(request(1)) + EXIT + frame(request(2))), (1, refusal(1)))
     expect("bytes that begin no frame", served(frame(request(1)), b"no frame\r\n\r\n", EXIT), (1, refusal(1)))
     expect("a message without its end", served(frame(request(1))[:-1]), (1, b""))
-    for what, standard_input, standard_output, wanted in [("an input that fails", "/", os.devnull, b"gqlls: cannot read\n"),
-                                                          ("an output that fails", None, "/dev/full", b"gqlls: cannot write\n")]:
+    for what, standard_input, standard_output, wanted in [
+        ("an input that fails", "/", os.devnull, b"gqlls: cannot read\n"),
+        ("an output that fails", None, "/dev/full", b"gqlls: cannot write\n"),
+    ]:
         with open(standard_output, "wb") as output:
             given = {"stdin": os.open(standard_input, os.O_RDONLY)} if standard_input else {"input": frame(request(1))}
             ended = subprocess.run([PROGRAM], stdout=output, stderr=subprocess.PIPE, timeout=10, **given)

@@ -1,5 +1,6 @@
 """Texts that gqlfmt and the libraries are tried with: the examples of docs/FORMAT.md, in which a text and its layout
-follow one another; the documents below, each with its layout; and the texts of crates/tests_parser, without a layout."""
+follow one another; the documents below, each with its layout; and the texts of crates/tests_parser, without a
+layout."""
 
 import re
 import sys

@@ -1,19 +1,51 @@
 """Documents at random."""
 
-KEYWORDS = ["type", "query", "mutation", "subscription", "fragment", "on", "input", "enum", "union", "scalar", "schema", "extend", "interface", "implements",
-            "directive", "repeatable", "true", "false", "null"]
+KEYWORDS = [
+    "type", "query", "mutation", "subscription", "fragment", "on", "input", "enum", "union", "scalar", "schema",
+    "extend", "interface", "implements", "directive", "repeatable", "true", "false", "null",
+]
 NAMES = ["a", "bb", "x_1", "name", "someLongerName", "aQuiteLongNameOfAFieldOrArgument", "_", "on1", *KEYWORDS]
-STRINGS = ['""', '"text"', '"a b c"', '"é, 語"', '"\\n x"', '"\\""', '"# no comment"', '"a text that is longer than the others, so that lines get too long"',
-           '"\\u0041 \\/"', '"😀"', '"\ttab"']
-LINES = ["", "text", "  indented", 'with "quotes"', 'x \\""" y', "back\\ slash", "    deep", "é", 'a "', "b \\", "# no comment", '\\"""', "   ", "\ttab", "a, b",
-         "a line that is longer than seventy characters, and than the seventy-five of others"]
-LOCATIONS = ["FIELD", "QUERY", "OBJECT", "ENUM_VALUE", "ARGUMENT_DEFINITION", "VARIABLE_DEFINITION", "INPUT_FIELD_DEFINITION"]
+STRINGS = [
+    '""',
+    '"text"',
+    '"a b c"',
+    '"é, 語"',
+    '"\\n x"',
+    '"\\""',
+    '"# no comment"',
+    '"a text that is longer than the others, so that lines get too long"',
+    '"\\u0041 \\/"',
+    '"😀"',
+    '"\ttab"',
+]
+LINES = [
+    "",
+    "text",
+    "  indented",
+    'with "quotes"',
+    'x \\""" y',
+    "back\\ slash",
+    "    deep",
+    "é",
+    'a "',
+    "b \\",
+    "# no comment",
+    '\\"""',
+    "   ",
+    "\ttab",
+    "a, b",
+    "a line that is longer than seventy characters, and than the seventy-five of others",
+]
+LOCATIONS = [
+    "FIELD", "QUERY", "OBJECT", "ENUM_VALUE", "ARGUMENT_DEFINITION", "VARIABLE_DEFINITION", "INPUT_FIELD_DEFINITION",
+]
 OPERATIONS = ["query", "mutation", "subscription"]
 LF = "\n"
 
 
 class Documents:
-    """Makes documents: all definitions and extensions, all sorts of values, descriptions and block strings, and names that are keywords."""
+    """Makes documents: all definitions and extensions, all sorts of values, descriptions and block strings, and names
+    that are keywords."""
 
     def __init__(self, random):
         self.random = random
@@ -39,15 +71,22 @@ class Documents:
         return found
 
     def definition(self):
-        kinds = [self.operation, self.operation, self.fragment, self.schema, self.scalar, self.fields, self.fields, self.union, self.enum, self.input,
-                 self.directive_definition, self.extension]
+        kinds = [
+            self.operation, self.operation, self.fragment, self.schema, self.scalar, self.fields, self.fields,
+            self.union, self.enum, self.input, self.directive_definition, self.extension,
+        ]
         return self.random.choice(kinds)()
 
     def extension(self):
-        kinds = {"type": self.field_block, "interface": self.field_block, "union": self.members, "enum": self.enum_values, "input": self.input_fields}
+        kinds = {
+            "type": self.field_block, "interface": self.field_block, "union": self.members, "enum": self.enum_values,
+            "input": self.input_fields,
+        }
         kind = self.pick("schema", "scalar", *kinds)
         head = f"extend {kind} " if kind == "schema" else f"extend {kind} {self.name()} "
-        return head + self.directive() if kind not in kinds or self.once(3) else head + self.directives() + kinds[kind]()
+        return (
+            head + self.directive() if kind not in kinds or self.once(3) else head + self.directives() + kinds[kind]()
+        )
 
     def name(self):
         return self.random.choice(NAMES)
@@ -97,7 +136,12 @@ class Documents:
         return self.maybe(lambda: f" {self.many(lambda: self.directive(constant), 1, 4)} ", 3)
 
     def description(self):
-        return self.maybe(lambda: self.pick('"text" ', '"" ', '""" a block """ ', '"""\nmany\n  lines\n""" ', f"{self.block_string()} "), 3)
+        return self.maybe(
+            lambda: self.pick(
+                '"text" ', '"" ', '""" a block """ ', '"""\nmany\n  lines\n""" ', f"{self.block_string()} "
+            ),
+            3,
+        )
 
     def selection_set(self, depth=0):
         return "{" + self.many(lambda: self.selection(depth), 1, 4) + "}"
@@ -107,9 +151,17 @@ class Documents:
         if kind == 0:
             return f"...{self.fragment_name()}{self.directives(False)}"
         if kind == 1 and depth < 3:
-            return f"...{self.maybe(lambda: f' on {self.name()}')}{self.directives(False)}{self.selection_set(depth + 1)}"
+            return (
+                f"...{self.maybe(lambda: f' on {self.name()}')}{self.directives(False)}{self.selection_set(depth + 1)}"
+            )
         below = self.selection_set(depth + 1) if depth < 3 and self.once(3) else ""
-        return self.maybe(lambda: f"{self.name()}:", 4) + self.name() + self.arguments(False) + self.directives(False) + below
+        return (
+            self.maybe(lambda: f"{self.name()}:", 4)
+            + self.name()
+            + self.arguments(False)
+            + self.directives(False)
+            + below
+        )
 
     def variable(self):
         return f"${self.name()}:{self.type()}{self.maybe(lambda: f'={self.value(True)}')}{self.directives()}"
@@ -118,13 +170,15 @@ class Documents:
         if self.once(3):
             return self.selection_set()
         variables = self.maybe(lambda: f"({self.many(self.variable, 1, 3)})")
-        return f"{self.random.choice(OPERATIONS)} {self.maybe(self.name)}{variables}{self.directives(False)}{self.selection_set()}"
+        head = f"{self.random.choice(OPERATIONS)} {self.maybe(self.name)}{variables}"
+        return head + self.directives(False) + self.selection_set()
 
     def fragment(self):
         return f"fragment {self.fragment_name()} on {self.name()}{self.directives(False)}{self.selection_set()}"
 
     def schema(self):
-        return f"{self.description()}schema{self.directives()}{{{self.many(lambda: f'{self.random.choice(OPERATIONS)}:{self.name()}', 1, 3)}}}"
+        head = f"{self.description()}schema{self.directives()}"
+        return head + "{" + self.many(lambda: f"{self.random.choice(OPERATIONS)}:{self.name()}", 1, 3) + "}"
 
     def scalar(self):
         return f"{self.description()}scalar {self.name()}{self.directives()}"
@@ -147,7 +201,8 @@ class Documents:
         return f"{self.description()}{self.name()}{arguments}:{self.type()}{self.directives()}"
 
     def input_value(self):
-        return f"{self.description()}{self.name()}:{self.type()}{self.maybe(lambda: f'={self.value(True)}')}{self.directives()}"
+        default = lambda: f"={self.value(True)}"
+        return f"{self.description()}{self.name()}:{self.type()}{self.maybe(default)}{self.directives()}"
 
     def union(self):
         return f"{self.description()}union {self.name()}{self.directives()}{self.maybe(self.members)}"
@@ -170,4 +225,7 @@ class Documents:
     def directive_definition(self):
         arguments = self.maybe(lambda: f"({self.many(self.input_value, 1, 3)})")
         locations = self.many(lambda: self.random.choice(LOCATIONS), 1, 5, " | ")
-        return f"{self.description()}directive @{self.name()}{arguments}{self.maybe(lambda: ' repeatable')} on{self.lead('|')}{locations}"
+        return (
+            f"{self.description()}directive"
+            f" @{self.name()}{arguments}{self.maybe(lambda: ' repeatable')} on{self.lead('|')}{locations}"
+        )

@@ -1,7 +1,9 @@
-"""The rules of docs/FORMAT.md once more, for texts without comments: a printer of groups over graphql-core's tree. The trial compares gqlfmt with it.
+"""The rules of docs/FORMAT.md once more, for texts without comments: a printer of groups over graphql-core's tree. The
+trial compares gqlfmt with it.
 
-A document of the printer is a string, a list of documents, or a tuple: ("line", flat, count) is the text `flat`, or `count` line ends where the group
-around it breaks or `flat` is None; ("broken", text) is a text where the group around it breaks; ("indent", document); ("group", document, breaks)."""
+A document of the printer is a string, a list of documents, or a tuple: ("line", flat, count) is the text `flat`, or
+`count` line ends where the group around it breaks or `flat` is None; ("broken", text) is a text where the group around
+it breaks; ("indent", document); ("group", document, breaks)."""
 
 import re
 import unicodedata
@@ -180,7 +182,10 @@ class Layout:
         return ["...", condition, self.directives(node), " ", self.of(node.selection_set)]
 
     def variable_definition(self, node):
-        return [*self.described(node), self.of(node.variable), ": ", self.of(node.type), self.default(node), self.directives(node)]
+        return [
+            *self.described(node), self.of(node.variable), ": ", self.of(node.type), self.default(node),
+            self.directives(node),
+        ]
 
     def argument(self, node):
         return [self.of(node.name), ": ", self.of(node.value)]
@@ -260,10 +265,15 @@ class Layout:
         return [*self.described(node), head, self.directives(node)]
 
     def input_value_definition(self, node):
-        return [*self.described(node), self.of(node.name), ": ", self.of(node.type), self.default(node), self.directives(node)]
+        return [
+            *self.described(node), self.of(node.name), ": ", self.of(node.type), self.default(node),
+            self.directives(node),
+        ]
 
     def directive_definition(self, node):
-        head = ["directive @", self.of(node.name), self.arguments(node.arguments), " repeatable" if node.repeatable else ""]
+        head = [
+            "directive @", self.of(node.name), self.arguments(node.arguments), " repeatable" if node.repeatable else "",
+        ]
         return [*self.described(node), head, " on ", " | ".join(map(self.of, node.locations))]
 
     def extended(word):

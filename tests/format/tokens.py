@@ -44,8 +44,12 @@ def shaken(text, random):
         word = text[token.start : token.end]
         if token.kind is TokenKind.BLOCK_STRING and random.random() < 0.5:
             more = random.choice(["", " ", "     ", "\t"])
-            word = random.choice(["\n", "\n", "\r\n"]).join(more * (number > 0) + part for number, part in enumerate(word.split("\n")))
-        gap = random.choice(["", "", " ", " ", "\n", " , ", "\n\n  ", "\t", "\r\n", "\n\n\n", ",", "\ufeff", "\n, \n", "\r"])
+            word = random.choice(["\n", "\n", "\r\n"]).join(
+                more * (number > 0) + part for number, part in enumerate(word.split("\n"))
+            )
+        gap = random.choice(
+            ["", "", " ", " ", "\n", " , ", "\n\n  ", "\t", "\r\n", "\n\n\n", ",", "\ufeff", "\n, \n", "\r"]
+        )
         if gap == "" and re.search(r'[\w."-]$', previous) and re.match(r'[\w."-]', word):
             gap = " "
         is_comment = token.kind is TokenKind.COMMENT
@@ -63,9 +67,12 @@ def commented(text, random, rate=5):
         count += 1
         return f"#{random.choice([' comment ', '', '!', ' a, {b} '])}{count}"
 
-    makers = [lambda: f"{comment()}\n", lambda: f" {comment()}\n", lambda: f"\n{comment()}\n", lambda: f"\n\n{comment()}\n\n", lambda: f" {comment()}\n{comment()}\n",
-              lambda: "#\n", lambda: f"\n{comment()}\r\n\r\n", lambda: f"\ufeff{comment()}\n", lambda: f", {comment()}\n,", lambda: f"\n\n\n{comment()}\r{comment()}\n",
-              lambda: f"{comment()} \n", lambda: "\n# gqlfmt-ignore\n"]
+    makers = [
+        lambda: f"{comment()}\n", lambda: f" {comment()}\n", lambda: f"\n{comment()}\n", lambda: f"\n\n{comment()}\n\n",
+        lambda: f" {comment()}\n{comment()}\n", lambda: "#\n", lambda: f"\n{comment()}\r\n\r\n",
+        lambda: f"\ufeff{comment()}\n", lambda: f", {comment()}\n,", lambda: f"\n\n\n{comment()}\r{comment()}\n",
+        lambda: f"{comment()} \n", lambda: "\n# gqlfmt-ignore\n",
+    ]
     result, last = "", 0
     for token in tokens_of(text):
         result += text[last : token.start]

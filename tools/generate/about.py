@@ -1,4 +1,5 @@
-"""What about.json says of the project - author, addresses, keywords, classifiers - in the manifests of the packages, which cannot read it."""
+"""What about.json says of the project - author, addresses, keywords, classifiers - in the manifests of the packages,
+which cannot read it."""
 
 import json
 
@@ -13,7 +14,8 @@ def about():
 
 
 def text(value):
-    """A value in JSON, with white space inside braces as the manifests have it. In TOML a text and a list of texts are the same."""
+    """A value in JSON, with white space inside braces as the manifests have it. In TOML a text and a list of texts are
+    the same."""
     return json.dumps(value, ensure_ascii=False).replace("{", "{ ").replace("}", " }")
 
 
@@ -25,14 +27,23 @@ def person():
 def of_npm():
     """The fields of a package.json."""
     said = about()
-    values = [person(), said["homepage"], {"type": "git", "url": f"git+{said['repository']}"}, {"url": said["issues"]}, said["keywords"]]
+    values = [
+        person(),
+        said["homepage"],
+        {"type": "git", "url": f"git+{said['repository']}"},
+        {"url": said["issues"]},
+        said["keywords"],
+    ]
     return {f'"{name}": ': f"{text(value)}," for name, value in zip(NPM, values)}
 
 
 def of_cargo():
     """The fields of Cargo.toml."""
     said = about()
-    values = {"authors": [person()], **{name: said[name] for name in ("homepage", "repository", "documentation", "keywords", "categories")}}
+    values = {
+        "authors": [person()],
+        **{name: said[name] for name in ("homepage", "repository", "documentation", "keywords", "categories")},
+    }
     return {f"{name} = ": text(value) for name, value in values.items()}
 
 

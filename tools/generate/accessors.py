@@ -40,8 +40,8 @@ def number_of(pattern, kinds):
 
 
 class Accessor:
-    """`number` is the multiplicity of the children; `target` is the struct or enum of the answer, None for a leaf. Of a choice that is no
-    enum each kind has an accessor, which gives a child only where the choice is this kind."""
+    """`number` is the multiplicity of the children; `target` is the struct or enum of the answer, None for a leaf. Of a
+    choice that is no enum each kind has an accessor, which gives a child only where the choice is this kind."""
 
     def __init__(self, name, kinds, number, target, is_choice=False):
         self.name, self.kinds, self.number, self.target, self.is_choice = name, kinds, number, target, is_choice
@@ -51,10 +51,9 @@ class Accessor:
 def accessors(grammar, kind):
     """The accessors of the row of a kind: one for each symbol, in order.
 
-    The accessor of a node that is there at most once has the name of its kind, in lower case; the accessor of one that may repeat has an `s` after
-    it. The choices have the names of `ENUMS`. A leaf's has the name of its kind, without `_KW`, and then `_token`. A choice that is no
-    enum has one accessor for each kind.
-    """
+    The accessor of a node that is there at most once has the name of its kind, in lower case; the accessor of one that
+    may repeat has an `s` after it. The choices have the names of `ENUMS`. A leaf's has the name of its kind, without
+    `_KW`, and then `_token`. A choice that is no enum has one accessor for each kind. """
     found, pattern = [], grammar.rows[kind]
     enum_of = {tuple(grammar.lists[choice.listed]): enum for enum, choice in ENUMS.items()}
     for kinds in choices(pattern):

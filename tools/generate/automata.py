@@ -1,4 +1,5 @@
-"""The row of each symbol as an automaton with as few states as possible, which are patterns of the children that may still come."""
+"""The row of each symbol as an automaton with as few states as possible, which are patterns of the children that may
+still come."""
 
 from dataclasses import dataclass
 
@@ -7,7 +8,8 @@ from .patterns import NEVER, derivative, nullable, symbols
 
 @dataclass
 class State:
-    """Whether the row may end here, what the node then adds to its parent's state, and the arcs: each a symbol and the state after it."""
+    """Whether the row may end here, what the node then adds to its parent's state, and the arcs: each a symbol and the
+    state after it."""
 
     ends: bool
     exit: int
@@ -35,7 +37,9 @@ def fewest(ends, arcs):
     """The same automaton with equivalent states merged into one, in the order in which they are first reached."""
     groups = [int(end) for end in ends]
     while True:
-        seen = [(groups[index], [(symbol, groups[target]) for symbol, target in here]) for index, here in enumerate(arcs)]
+        seen = [
+            (groups[index], [(symbol, groups[target]) for symbol, target in here]) for index, here in enumerate(arcs)
+        ]
         finer = [seen.index(one) for one in seen]
         if len(set(finer)) == len(set(groups)):
             break
@@ -45,7 +49,8 @@ def fewest(ends, arcs):
 
 
 def document(states):
-    """The brace rule: after a definition that lacks its block, in a third state, no query comes that is a selection set alone."""
+    """The brace rule: after a definition that lacks its block, in a third state, no query comes that is a selection set
+    alone."""
     start, more = states
     return [start, more, (True, [arc for arc in more[1] if arc[0] != "SHORT_QUERY"])]
 

@@ -1,9 +1,8 @@
-"""What else the generator refuses, before it writes anything: mistakes that the grammar's files, the rules and the generator's own lists
-make together. Each message names the file to mend, and the kind.
+"""What else the generator refuses, before it writes anything: mistakes that the grammar's files, the rules and the
+generator's own lists make together. Each message names the file to mend, and the kind.
 
-Misspelled kinds and rows that are missing are refused where the files are read (grammar.py), and rows of which two tokens do not say which
-child comes next in lookahead.py.
-"""
+Misspelled kinds and rows that are missing are refused where the files are read (grammar.py), and rows of which two
+tokens do not say which child comes next in lookahead.py. """
 
 import re
 from collections import Counter
@@ -18,12 +17,14 @@ from .symbols import LEAVES, NODES, Symbols
 
 # The leaves that are in no row: those of ignored tokens, and those of tokens that were refused.
 IN_NO_ROW = ("WHITESPACE", "COMMENT", "COMMA", "ERROR")
-# The machine's nodes that no clause of `inside` is for: a part makes the root, what a bare root has, and a type, whose kind is known last.
+# The machine's nodes that no clause of `inside` is for: a part makes the root, what a bare root has, and a type, whose
+# kind is known last.
 MADE_BY_PARTS = ("DOCUMENT", "BARE_SELECTIONS", "TYPE", "NON_NULL_TYPE")
 
 
 def checked_grammar():
-    """The grammar, once nothing of it is refused. The checks are in an order in which the first message is the helpful one."""
+    """The grammar, once nothing of it is refused. The checks are in an order in which the first message is the helpful
+    one."""
     grammar = Grammar()
     check_symbol_list(grammar)
     check_enums(grammar)
@@ -77,7 +78,10 @@ def check_places(grammar):
         crate = crate_of(place_of_kind(kind, grammar))
         for target in named_in(grammar, kind):
             if crate_of(home(target, grammar)) > crate:
-                refuse(f"places.py: {kind} is in {list(CRATES)[crate]}, and has a part {target}, whose crate comes after it")
+                refuse(
+                    f"places.py: {kind} is in {list(CRATES)[crate]}, and has a part {target}, whose crate comes"
+                    " after it"
+                )
     for enum, choice in ENUMS.items():
         for kind in grammar.lists[choice.listed]:
             if crate_of(place_of_kind(kind, grammar)) > crate_of(home(enum, grammar)):
@@ -103,7 +107,11 @@ def check_rows(grammar):
             refuse(f"Rows.antt: no row has the kind {kind}")
     for kind in grammar.leaves:
         if kind not in used and kind not in IN_NO_ROW:
-            where = f". A directive location is in the list {locations.LISTED} of Choices.antt" if locations.is_one(kind) else ""
+            where = (
+                f". A directive location is in the list {locations.LISTED} of Choices.antt"
+                if locations.is_one(kind)
+                else ""
+            )
             refuse(f"Rows.antt: no row has the leaf {kind}{where}")
     definitions = ("any_of", tuple(grammar.lists["Definitions"]))
     if grammar.rows["DOCUMENT"] != ("then", definitions, ("many", definitions)):
@@ -111,12 +119,16 @@ def check_rows(grammar):
 
 
 def check_marked(grammar):
-    """The directives of the type system and of variables are constant: those in rows of no selection, and without a selection set."""
+    """The directives of the type system and of variables are constant: those in rows of no selection, and without a
+    selection set."""
     for kind, pattern in grammar.rows.items():
         found = symbols(pattern)
         constant = "DIRECTIVES" in found and "SELECTION_SET" not in found and kind not in grammar.lists["Selections"]
         if constant and kind not in grammar.lists["HasConstantDirectives"]:
-            refuse(f"Derivation.antt: the list HasConstantDirectives lacks {kind}: it is no selection and has none, so its directives are constant")
+            refuse(
+                f"Derivation.antt: the list HasConstantDirectives lacks {kind}: it is no selection and has none, so its"
+                " directives are constant"
+            )
         if not constant and kind in grammar.lists["HasConstantDirectives"]:
             refuse(f"Derivation.antt: the list HasConstantDirectives has {kind}, which has no constant directives")
     check_order(grammar, "HasConstantDirectives")
@@ -127,18 +139,23 @@ def check_order(grammar, listed):
     kinds = grammar.lists[listed]
     for kind, wanted in zip(kinds, sorted(kinds, key=grammar.number.get)):
         if kind != wanted:
-            refuse(f"Derivation.antt: the list {listed} has {kind} where {wanted} should be; it is in the order of kind.rt")
+            refuse(
+                f"Derivation.antt: the list {listed} has {kind} where {wanted} should be; it is in the order of kind.rt"
+            )
 
 
 def check_braces(grammar):
-    """The lists `Braced` and `Blocks` are those of the definitions that may end before a block in braces, and of such blocks."""
+    """The lists `Braced` and `Blocks` are those of the definitions that may end before a block in braces, and of such
+    blocks."""
     blocks = set()
     for kind in grammar.lists["Definitions"]:
         after_end = [symbol for ends, arcs in automaton(grammar.rows[kind]) if ends for symbol, _ in arcs]
         opening = {symbol for symbol in after_end if "L_CURLY" in first_leaves(grammar, symbol)}
         blocks |= opening
         if opening and kind not in grammar.lists["Braced"]:
-            refuse(f"Derivation.antt: the list Braced lacks {kind}, which may end before a {' or '.join(sorted(opening))}")
+            refuse(
+                f"Derivation.antt: the list Braced lacks {kind}, which may end before a {' or '.join(sorted(opening))}"
+            )
         if not opening and kind in grammar.lists["Braced"]:
             refuse(f"Derivation.antt: the list Braced has {kind}, which has no block in braces that may be missing")
     for kind in grammar.lists["Braced"]:
@@ -184,7 +201,10 @@ def check_constants(made):
             for child in sorted(children[name] & above):
                 if not child.endswith("_CONST"):
                     parent = made.label[name]
-                    refuse(f"symbols.py: NODES lacks {child}_CONST: {child} may be in a constant {parent}, and a VARIABLE below it")
+                    refuse(
+                        f"symbols.py: NODES lacks {child}_CONST: {child} may be in a constant {parent}, and a VARIABLE"
+                        " below it"
+                    )
 
 
 def check_rules(made):

@@ -41,7 +41,9 @@ def root_text(crate, grammar):
     source = FOLDER / crate / "src"
     modules = {path.stem for path in source.glob("*.rt")} - {"lib"} | set(CRATES[crate])
     declared = "".join(f"mod {module};\n" for module in sorted(modules))
-    passed_on = "".join(f"pub {use_line(module, exports(crate, module, grammar), 4)}" for module in sorted(CRATES[crate]))
+    passed_on = "".join(
+        f"pub {use_line(module, exports(crate, module, grammar), 4)}" for module in sorted(CRATES[crate])
+    )
     return f"""{mark("//", SOURCE)}{ABOUT[crate]}#![tactic(auto)]
 
 {declared}
@@ -50,7 +52,10 @@ def root_text(crate, grammar):
 
 def all_nodes_text(grammar):
     """The module `cst` of apollo_parser."""
-    passed_on = {"apollo_cst_core": sorted(SHARED + [f"{type_case(kind)}Token" for kind in LEAVES]), "apollo_tree": TREE}
+    passed_on = {
+        "apollo_cst_core": sorted(SHARED + [f"{type_case(kind)}Token" for kind in LEAVES]),
+        "apollo_tree": TREE,
+    }
     for crate, modules in CRATES.items():
         names = [name for module in modules for name in exports(crate, module, grammar)]
         passed_on[crate] = [RENAMED.get(name, name) for name in sorted(names)]

@@ -1,5 +1,5 @@
-"""The kinds of elements for other languages, under the numbers that they have in a tree: the header for C, a module each for Python and the page,
-and the enum of bench/original."""
+"""The kinds of elements for other languages, under the numbers that they have in a tree: the header for C, a module
+each for Python and the page, and the enum of bench/original."""
 
 from .grammar import PUNCTUATORS, word
 from .layout import TOP, mark
@@ -23,7 +23,9 @@ def names(grammar, indent="    "):
 
 def for_c(grammar):
     """The header."""
-    entries = "".join(f"    DUMYROKE_{kind} = {number},{about(kind, grammar)}\n" for number, kind in enumerate(grammar.kinds))
+    entries = "".join(
+        f"    DUMYROKE_{kind} = {number},{about(kind, grammar)}\n" for number, kind in enumerate(grammar.kinds)
+    )
     return f"""/*{mark("", SOURCE).rstrip()} */
 #ifndef DUMYROKE_KINDS_H
 #define DUMYROKE_KINDS_H
@@ -45,7 +47,10 @@ static const char *const dumyroke_kind_names[DUMYROKE_KINDS] = {{
 def for_python(grammar):
     """The module of the Python package."""
     if len(grammar.kinds) > 255:
-        raise SystemExit("foreign_kinds.py: bindings/python/dumyroke/tree.py has one byte for a kind, and one number of its own, and there are more than 255")
+        raise SystemExit(
+            "foreign_kinds.py: bindings/python/dumyroke/tree.py has one byte for a kind, and one number of its own, and"
+            " there are more than 255"
+        )
     numbers = "".join(f"{kind} = {number}\n" for number, kind in enumerate(grammar.kinds))
     return f'''{mark("#", SOURCE)}"""The kinds of elements: their numbers, as in bindings/c/include/dumyroke_kinds.h, and their names."""
 

@@ -1,5 +1,5 @@
-"""What the generator reads: the list of kinds with their documentation, the choices of kinds, the rows, and two lists of the rules on
-derivations.
+"""What the generator reads: the list of kinds with their documentation, the choices of kinds, the rows, and two lists
+of the rules on derivations.
 
 Kinds are given by their names. Their numbers are their indices in the list.
 """
@@ -12,7 +12,10 @@ from .patterns import Reader, definitions
 FOLDER = CRATES / "document_grammar"
 
 # The lists that a file has to have, besides those of the enums in places.py.
-NEEDED = {"Choices": ("Definitions", "Selections", "Values", "Types"), "Derivation": ("HasConstantDirectives", "Braced", "Blocks")}
+NEEDED = {
+    "Choices": ("Definitions", "Selections", "Values", "Types"),
+    "Derivation": ("HasConstantDirectives", "Braced", "Blocks"),
+}
 
 # The kinds that the generator names, besides those of symbols.py and typed_docs.py.
 NAMED = "WHITESPACE COMMENT COMMA ERROR BANG L_CURLY IDENT STRING on_KW true_KW false_KW null_KW".split()
@@ -38,8 +41,8 @@ PUNCTUATORS = {
 
 
 class Grammar:
-    """`kinds` in the order of their numbers, `number` of each, the lines of its `documentation`, `lists` by their names, and `rows`, the
-    pattern of each kind of node."""
+    """`kinds` in the order of their numbers, `number` of each, the lines of its `documentation`, `lists` by their
+    names, and `rows`, the pattern of each kind of node."""
 
     def __init__(self):
         self.documentation = read_kinds()
@@ -54,7 +57,8 @@ class Grammar:
         self.add_lists("Derivation")
 
     def check_kinds(self):
-        """Punctuators come after ERROR, then the other tokens, and after STRING the keywords; DOCUMENT is the first node."""
+        """Punctuators come after ERROR, then the other tokens, and after STRING the keywords; DOCUMENT is the first
+        node."""
         for kind in NAMED:
             if kind not in self.number:
                 raise SystemExit(f"kind.rt: there is no kind {kind}")
@@ -63,9 +67,13 @@ class Grammar:
                 raise SystemExit(f"grammar.py: PUNCTUATORS does not say how {kind} is spelled")
         for kind in self.kinds:
             if kind.endswith("_KW") and kind not in self.keywords:
-                raise SystemExit(f"kind.rt: the keyword {kind} is not between STRING and DOCUMENT, where the keywords are")
+                raise SystemExit(
+                    f"kind.rt: the keyword {kind} is not between STRING and DOCUMENT, where the keywords are"
+                )
             if kind in self.keywords and not kind.endswith("_KW"):
-                raise SystemExit(f"kind.rt: {kind} is between STRING and DOCUMENT, where the keywords are, and does not end with _KW")
+                raise SystemExit(
+                    f"kind.rt: {kind} is between STRING and DOCUMENT, where the keywords are, and does not end with _KW"
+                )
 
     def add_lists(self, name):
         """Adds the lists of kinds that a file of definitions has, and gives their names."""
@@ -95,13 +103,17 @@ class Grammar:
         """The rows are those of the kinds of nodes, which come last, in order."""
         for kind in self.rows:
             if self.is_leaf(kind):
-                raise SystemExit(f"Rows.antt: {kind} has a row, and comes before DOCUMENT in kind.rt, where the leaves are")
+                raise SystemExit(
+                    f"Rows.antt: {kind} has a row, and comes before DOCUMENT in kind.rt, where the leaves are"
+                )
         for kind in self.kinds[self.number["DOCUMENT"] :]:
             if kind not in self.rows:
                 raise SystemExit(f"Rows.antt: the kind {kind} has no row")
         for kind, row in zip(self.kinds[self.number["DOCUMENT"] :], self.rows):
             if kind != row:
-                raise SystemExit(f"Rows.antt: the row of {row} is in the place of {kind}'s; rows are in the order of kind.rt")
+                raise SystemExit(
+                    f"Rows.antt: the row of {row} is in the place of {kind}'s; rows are in the order of kind.rt"
+                )
 
     def body(self, name):
         """The text of a pattern, or of the table of rows."""
@@ -131,7 +143,9 @@ class Grammar:
         what = self.documentation[kind][0] if self.documentation[kind] else ""
         section = re.search(r"\(section ([\d.]+), \"(.+)\"\)\.$", what)
         if not section:
-            raise SystemExit(f'kind.rt: the documentation of {kind} does not end its first line with (section NUMBER, "TITLE").')
+            raise SystemExit(
+                f'kind.rt: the documentation of {kind} does not end its first line with (section NUMBER, "TITLE").'
+            )
         return section.groups()
 
     def is_leaf(self, kind):
@@ -147,7 +161,10 @@ def read_kinds():
         if line.startswith("    ///"):
             documentation.append(line.removeprefix("    ///").strip())
         elif not variant:
-            raise SystemExit(f"kind.rt: the line `{line.strip()}` of the enum is neither documentation nor a kind with a comma after it")
+            raise SystemExit(
+                f"kind.rt: the line `{line.strip()}` of the enum is neither documentation nor a kind with a comma"
+                " after it"
+            )
         elif variant.group(1) in found:
             raise SystemExit(f"kind.rt: the kind {variant.group(1)} is there twice")
         else:

@@ -11,7 +11,8 @@ FILES = ("Rows", "Choices", "Derivation")
 
 
 def kinds_used(text, grammar):
-    """The kinds that a file names besides its `use` lines and comments, and the list of keywords' words, in the order of Kinds.antt."""
+    """The kinds that a file names besides its `use` lines and comments, and the list of keywords' words, in the order
+    of Kinds.antt."""
     words = set(re.findall(r"\w+", re.sub(r"^use .*|--.*", "", text, flags=re.M)))
     return [name for name in [*grammar.kinds, "words"] if name in words]
 
@@ -29,7 +30,9 @@ def outputs(grammar):
         path = FOLDER / f"specs/{name}.antt"
         files[path] = with_names(path, "document_grammar.specs.Kinds", kinds_used(path.read_text(), grammar))
     rules = nodes.FOLDER / "Rules.antt"
-    files[rules] = with_names(rules, "parser_rules.specs.Nodes", ["Node", *names_of("inside"), "Part", *names_of("body")])
+    files[rules] = with_names(
+        rules, "parser_rules.specs.Nodes", ["Node", *names_of("inside"), "Part", *names_of("body")]
+    )
     return files
 
 

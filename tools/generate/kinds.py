@@ -1,4 +1,5 @@
-"""The lists of kinds, one entry for each kind: those of the crate document_grammar, and the names that gqlcst_run prints."""
+"""The lists of kinds, one entry for each kind: those of the crate document_grammar, and the names that gqlcst_run
+prints."""
 
 from .grammar import FOLDER, word
 from .layout import CRATES, long_list, mark, use

@@ -41,7 +41,9 @@ def use(path, names):
 
 def uses(path, names):
     """The same in lines of at most 160 characters."""
-    rows = textwrap.wrap(", ".join(names), 160 - len(use(path, ["", ""])) + 3, break_long_words=False, break_on_hyphens=False)
+    rows = textwrap.wrap(
+        ", ".join(names), 160 - len(use(path, ["", ""])) + 3, break_long_words=False, break_on_hyphens=False
+    )
     return "".join(use(path, [row.removesuffix(",")]) for row in rows)
 
 

@@ -1,5 +1,6 @@
-"""The words of the places where a directive may be (section 3.13). The list `DirectiveLocations` of Choices.antt has them, and so have five other files:
-the enum of kinds and four that are written by hand. Each of these has to have the same words in the same order."""
+"""The words of the places where a directive may be (section 3.13). The list `DirectiveLocations` of Choices.antt has
+them, and so have five other files: the enum of kinds and four that are written by hand. Each of these has to have the
+same words in the same order."""
 
 import re
 
@@ -39,16 +40,36 @@ def faults(grammar):
     """What the other files have otherwise. Each message names the file and the word."""
     wanted = list(grammar.lists[LISTED])
     words = [kind.removesuffix("_KW") for kind in wanted]
-    yield from differing("document_grammar/src/kind.rt", "the enum of kinds", [kind for kind in grammar.kinds if is_one(kind)], wanted)
-    yield from differing(RULES, "executable_locations with type_system_locations", found_in(RULES, r"^\w+_locations =\n(.*?)\[\]", r"kind\.(\w+)"), wanted)
-    yield from differing(FUNCTION, "LOCATIONS", found_in(FUNCTION, r"^static LOCATIONS.*?\[\n(.*?)\];", r"SyntaxKind::(\w+)"), wanted)
+    yield from differing(
+        "document_grammar/src/kind.rt", "the enum of kinds", [kind for kind in grammar.kinds if is_one(kind)], wanted
+    )
+    yield from differing(
+        RULES,
+        "executable_locations with type_system_locations",
+        found_in(RULES, r"^\w+_locations =\n(.*?)\[\]", r"kind\.(\w+)"),
+        wanted,
+    )
+    yield from differing(
+        FUNCTION, "LOCATIONS", found_in(FUNCTION, r"^static LOCATIONS.*?\[\n(.*?)\];", r"SyntaxKind::(\w+)"), wanted
+    )
     counts = found_in(FUNCTION, r"^static LOCATIONS: \[SyntaxKind; \d+\]", r"\d+")
     if counts != [str(len(wanted))]:
-        yield f"{FUNCTION}: LOCATIONS has the length {' '.join(counts)}, and the list {LISTED} of Choices.antt has {len(wanted)} words"
+        yield (
+            f"{FUNCTION}: LOCATIONS has the length {' '.join(counts)}, and the list {LISTED} of Choices.antt has"
+            f" {len(wanted)} words"
+        )
     ends = found_in(TEXT, r"^fn is_location.*?^}", r"SyntaxKind::(\w+)")
     if ends != [wanted[0], wanted[-1]]:
-        yield f"{TEXT}: is_location goes from {' to '.join(ends)}, and the list {LISTED} of Choices.antt from {wanted[0]} to {wanted[-1]}"
-    yield from differing(INTROSPECTION, "__DirectiveLocation", found_in(INTROSPECTION, r"^enum __DirectiveLocation \{(.*?)\}", r"\w+"), words)
+        yield (
+            f"{TEXT}: is_location goes from {' to '.join(ends)}, and the list {LISTED} of Choices.antt from"
+            f" {wanted[0]} to {wanted[-1]}"
+        )
+    yield from differing(
+        INTROSPECTION,
+        "__DirectiveLocation",
+        found_in(INTROSPECTION, r"^enum __DirectiveLocation \{(.*?)\}", r"\w+"),
+        words,
+    )
     named = set(found_in(PLACES, r"^.*$", r'"([A-Z][A-Z_]+)"'))
     for word in sorted(set(words) - named):
         yield f"{PLACES}: no place has the directive location {word}"

@@ -1,7 +1,7 @@
 """What each symbol begins with, what may follow it, and how each row can be brought to its end.
 
-A class is the number of a leaf: a Name that is a keyword has the class of the keyword. The end of the tokens has class 0.
-"""
+A class is the number of a leaf: a Name that is a keyword has the class of the keyword. The end of the tokens has class
+0. """
 
 import heapq
 from functools import cached_property
@@ -71,7 +71,8 @@ class Lookahead:
 
     @cached_property
     def by_two(self):
-        """The symbols that the first token does not distinguish from all others of a state, each with the class of that token."""
+        """The symbols that the first token does not distinguish from all others of a state, each with the class of that
+        token."""
         found = set()
         for state in (state for states in self.rows.values() for state in states):
             for (symbol, _), (other, _) in combinations(state.arcs, 2):
@@ -80,8 +81,8 @@ class Lookahead:
         return found
 
     def entries(self, name):
-        """Triples: classes of the first token, classes of the second, and whether the first may be all. When the first token alone
-        distinguishes the symbol from others, the second may be of any class."""
+        """Triples: classes of the first token, classes of the second, and whether the first may be all. When the first
+        token alone distinguishes the symbol from others, the second may be of any class."""
         seconds = {}
         for first, second in self.pairs.get(name, ()):
             seconds.setdefault(first, set()).add(second)
@@ -126,14 +127,19 @@ class Lookahead:
             for index, state in enumerate(states):
                 both = self.begins(state) & self.follow[name, state.exit] if state.ends else None
                 if both:
-                    raise SystemExit(f"Rows.antt: {name}, state {index}: the row may end, or go on, before {self.class_names(both)}")
+                    raise SystemExit(
+                        f"Rows.antt: {name}, state {index}: the row may end, or go on, before {self.class_names(both)}"
+                    )
                 for later, arc in enumerate(state.arcs):
                     for other, _ in state.arcs[:later]:
                         if self.overlap(name, states, arc, other):
-                            raise SystemExit(f"Rows.antt: {name}, state {index}: two tokens do not tell {arc[0]} from {other}")
+                            raise SystemExit(
+                                f"Rows.antt: {name}, state {index}: two tokens do not tell {arc[0]} from {other}"
+                            )
 
     def overlap(self, name, states, arc, other):
-        """Whether tokens with which the other symbol begins may also begin the arc's, before its successors in the row."""
+        """Whether tokens with which the other symbol begins may also begin the arc's, before its successors in the
+        row."""
         symbol, target = arc
         after = set()
         for exit in self.exits(symbol):
@@ -173,10 +179,14 @@ class Lookahead:
         for name in self.rows:
             if name not in height:
                 raise SystemExit(f"Rows.antt: no {self.symbols.label[name]} has an end: each has another one in it")
-        return {name: [self.ending(states, index, height)[1] for index in range(len(states))] for name, states in self.rows.items()}
+        return {
+            name: [self.ending(states, index, height)[1] for index in range(len(states))]
+            for name, states in self.rows.items()
+        }
 
     def ending(self, states, start, height):
-        """The least height of symbols that end the row from the state, and those symbols; None where no heights are known yet."""
+        """The least height of symbols that end the row from the state, and those symbols; None where no heights are
+        known yet."""
         heap = [(0, 0, (), (), start)]
         while heap:
             highest, length, numbers, word, index = heapq.heappop(heap)

@@ -1,8 +1,8 @@
-"""The nodes and parts of the parser's rules, with their kinds and the machine's symbols: specs/Nodes.antt of the crate parser_rules.
+"""The nodes and parts of the parser's rules, with their kinds and the machine's symbols: specs/Nodes.antt of the crate
+parser_rules.
 
-Both are the left sides of specs/Rules.antt: `inside` has a clause for each node, `body` one for each part. A parameter `c` says whether the
-place is constant; another one is a Bool.
-"""
+Both are the left sides of specs/Rules.antt: `inside` has a clause for each node, `body` one for each part. A parameter
+`c` says whether the place is constant; another one is a Bool. """
 
 import re
 
@@ -44,15 +44,19 @@ def symbol_of(node, symbols):
 
 
 def symbols_of(node, symbols):
-    """The symbols of a node: its symbol in a place that is not constant, and where it has a parameter the one in a constant place."""
+    """The symbols of a node: its symbol in a place that is not constant, and where it has a parameter the one in a
+    constant place."""
     symbol = symbol_of(node, symbols)
     if node.parameters and f"{symbol}_CONST" not in symbols.number:
-        raise SystemExit(f"symbols.py: NODES lacks {symbol}_CONST, and the rule of {node.name} has a parameter for constant places")
+        raise SystemExit(
+            f"symbols.py: NODES lacks {symbol}_CONST, and the rule of {node.name} has a parameter for constant places"
+        )
     return [symbol, f"{symbol}_CONST"] if node.parameters else [symbol]
 
 
 def own_symbols(nodes, symbols):
-    """The clauses of `symbol` for the nodes whose symbol is not the number of their kind; those of constant places come last."""
+    """The clauses of `symbol` for the nodes whose symbol is not the number of their kind; those of constant places come
+    last."""
     plain, constant = [], []
     for node in nodes:
         symbol = symbol_of(node, symbols)

@@ -1,7 +1,7 @@
 """Patterns of children, as specs/Pattern.antt defines them, and how they are read from specs/Rows.antt.
 
-A pattern is a tuple: ("any_of", kinds), ("nothing",), ("then", p, q), ("or_else", p, q) or ("many", p). The kinds of `any_of` are a tuple.
-"""
+A pattern is a tuple: ("any_of", kinds), ("nothing",), ("then", p, q), ("or_else", p, q) or ("many", p). The kinds of
+`any_of` are a tuple. """
 
 import re
 from dataclasses import dataclass
@@ -37,8 +37,9 @@ def definitions(text):
 
 
 class Reader:
-    """Reads patterns from their text. `grammar` has the kinds, the named lists of kinds and the named patterns; `bound` are the values of
-    parameters, `row` is the kind whose row is read, and `within` are the patterns in which this one is."""
+    """Reads patterns from their text. `grammar` has the kinds, the named lists of kinds and the named patterns; `bound`
+    are the values of parameters, `row` is the kind whose row is read, and `within` are the patterns in which this one
+    is."""
 
     def __init__(self, source, grammar, bound=None, row=None, within=()):
         self.words = re.findall(r"[()\[\],∷]|[^\s()\[\],∷]+", source)
@@ -162,7 +163,8 @@ def symbols(pattern):
 
 
 def renamed(pattern, names):
-    """The pattern with other lists in place of some of its lists of kinds, or other kinds in place of some of its kinds."""
+    """The pattern with other lists in place of some of its lists of kinds, or other kinds in place of some of its
+    kinds."""
     if pattern[0] == "any_of":
         if pattern[1] in names:
             return any_of(names[pattern[1]])

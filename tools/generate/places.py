@@ -4,8 +4,8 @@ from dataclasses import dataclass
 
 from .grammar import type_case
 
-# The crates, from low to high, with the sections that their modules hold: by number, with the sections below it, or by the last word of the
-# title. A kind that is named goes elsewhere than its section.
+# The crates, from low to high, with the sections that their modules hold: by number, with the sections below it, or by
+# the last word of the title. A kind that is named goes elsewhere than its section.
 CRATES = {
     "apollo_cst_executable": {
         "names": ["2.1.9", "2.9.6", "VARIABLE"],
@@ -33,8 +33,8 @@ PLACES = {key: (crate, module) for crate, modules in CRATES.items() for module, 
 
 @dataclass
 class Enum:
-    """`listed` is the enum's list of kinds in Choices.antt. `one` and `several` are the accessor's names where one child, or any number, may
-    be there. `forms` are those of the production where they are not the kinds."""
+    """`listed` is the enum's list of kinds in Choices.antt. `one` and `several` are the accessor's names where one
+    child, or any number, may be there. `forms` are those of the production where they are not the kinds."""
 
     listed: str
     one: str | None

@@ -1,9 +1,9 @@
 """The productions of the standard above the functions of the grammar, in the crates apollo_grammar and apollo_document.
 
-A rule of Rules.antt has its production in the first line of the comment above it, as `-- Alias (2.7) : Name :`. The function that runs the
-rule has it in the last line of its own comment, further in. Only these lines are written: all else in the files is by hand. A function
-`default_value`, which runs `OptionalDefaultValue`, has the production of DefaultValue.
-"""
+A rule of Rules.antt has its production in the first line of the comment above it, as `-- Alias (2.7) : Name :`. The
+function that runs the rule has it in the last line of its own comment, further in. Only these lines are written: all
+else in the files is by hand. A function `default_value`, which runs `OptionalDefaultValue`, has the production of
+DefaultValue. """
 
 import re
 
@@ -46,4 +46,8 @@ def with_productions(text, productions):
 def outputs(grammar):
     """The text of each file of functions, by its path."""
     productions = {rule: production for production, rule in RULE.findall(RULES.read_text())}
-    return {path: with_productions(path.read_text(), productions) for source in SOURCES for path in sorted(source.rglob("*.rt"))}
+    return {
+        path: with_productions(path.read_text(), productions)
+        for source in SOURCES
+        for path in sorted(source.rglob("*.rt"))
+    }

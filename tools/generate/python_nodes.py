@@ -1,8 +1,8 @@
 """The typed nodes of the Python package: bindings/python/dumyroke/nodes.py.
 
-There is a class for each kind of node, with a property for each accessor of the typed tree that gives nodes. A node that is no more than a list also
-gives its parent a property with its items, as `fields`; where the two names are the same, that one takes the place of the node.
-"""
+There is a class for each kind of node, with a property for each accessor of the typed tree that gives nodes. A node
+that is no more than a list also gives its parent a property with its items, as `fields`; where the two names are the
+same, that one takes the place of the node. """
 
 import textwrap
 
@@ -49,7 +49,12 @@ VALUES = {
 
 def rows(names):
     """Names with commas after them, in indented lines."""
-    return textwrap.fill("".join(f"{name}, " for name in names).strip(), 110, initial_indent="    ", subsequent_indent="    ") + "\n"
+    return (
+        textwrap.fill(
+            "".join(f"{name}, " for name in names).strip(), 110, initial_indent="    ", subsequent_indent="    "
+        )
+        + "\n"
+    )
 
 
 def choice_name(enum):
@@ -95,14 +100,17 @@ def list_text(kind, grammar):
     """The property with the items of a list, for the parents of the list."""
     items = [accessor for accessor in accessors(grammar, kind) if accessor.gives_all]
     if len(items) != 1:
-        raise SystemExit(f"python_nodes.py: {kind} is in LISTS, and its row has no single accessor that gives all nodes")
+        raise SystemExit(
+            f"python_nodes.py: {kind} is in LISTS, and its row has no single accessor that gives all nodes"
+        )
     what = typed_docs.SEVERAL.get(kind) or items[0].name.replace("_", " ")
     doc = f"The {what}, in order. There are none if there is no {type_case(kind)} node."
     return property_text(LISTS[kind], f"list[{type_of(items[0])}]", doc, f"self._all_in({kind}, {kinds_of(items[0])})")
 
 
 def name_text(kind, grammar):
-    """The property `name` of a node with a FRAGMENT_NAME, and of a definition that has no name, so that each definition has the property."""
+    """The property `name` of a node with a FRAGMENT_NAME, and of a definition that has no name, so that each definition
+    has the property."""
     parts = [accessor.name for accessor in accessors(grammar, kind)]
     if "fragment_name" in parts:
         doc = "The name of the fragment. None only if the parse reported errors."
@@ -114,12 +122,16 @@ def name_text(kind, grammar):
 
 def type_text(kind, grammar):
     """The property `type` of a node that has one of several types, each of which has an accessor of its own."""
-    parts = [accessor for accessor in accessors(grammar, kind) if accessor.kinds[0] in grammar.lists[ENUMS["Ty"].listed]]
+    parts = [
+        accessor for accessor in accessors(grammar, kind) if accessor.kinds[0] in grammar.lists[ENUMS["Ty"].listed]
+    ]
     if len(parts) < 2:
         return ""
     kinds = ", ".join(accessor.kinds[0] for accessor in parts)
     answer = " | ".join(type_of(accessor) for accessor in parts)
-    return property_text("type", f"{answer} | None", "The type. None only if the parse reported errors.", f"self._first(({kinds}))")
+    return property_text(
+        "type", f"{answer} | None", "The type. None only if the parse reported errors.", f"self._first(({kinds}))"
+    )
 
 
 def class_text(kind, grammar):
@@ -133,7 +145,12 @@ def class_text(kind, grammar):
     body += name_text(kind, grammar) + type_text(kind, grammar)
     if kind in VALUES:
         answer, function = VALUES[kind]
-        body += property_text("value", f"{answer} | None", "Its value. None only if the parse reported errors.", f"values.{function}(self)")
+        body += property_text(
+            "value",
+            f"{answer} | None",
+            "Its value. None only if the parse reported errors.",
+            f"values.{function}(self)",
+        )
     return f'''
 
 class {type_case(kind)}(Node, kind="{kind}"):
@@ -145,12 +162,17 @@ class {type_case(kind)}(Node, kind="{kind}"):
 
 def choices_text(grammar):
     """The kinds of each choice, and after the classes its type."""
-    kinds = "".join(f"{choice.listed.upper()} = (\n{rows(grammar.lists[choice.listed])})\n" for choice in ENUMS.values())
+    kinds = "".join(
+        f"{choice.listed.upper()} = (\n{rows(grammar.lists[choice.listed])})\n" for choice in ENUMS.values()
+    )
     types = ""
     for enum, choice in ENUMS.items():
         members = "".join(f"    {type_case(kind)},\n" for kind in grammar.lists[choice.listed])
         number, title = choice.section
-        types += f'\n{choice_name(enum)} = Union[\n{members}]\n"""{choice.what} (GraphQL October 2021, section {number}, "{title}")."""\n'
+        types += (
+            f'\n{choice_name(enum)} = Union[\n{members}]\n"""{choice.what} (GraphQL October 2021, section {number},'
+            f' "{title}")."""\n'
+        )
     return kinds, types
 
 
@@ -158,7 +180,11 @@ def nodes_text(grammar):
     """nodes.py: the classes."""
     kinds, types = choices_text(grammar)
     classes = "".join(class_text(kind, grammar) for kind in grammar.nodes)
-    used = [kind for kind in grammar.kinds if f"({kind}," in classes or any(kind in grammar.lists[choice.listed] for choice in ENUMS.values())]
+    used = [
+        kind
+        for kind in grammar.kinds
+        if f"({kind}," in classes or any(kind in grammar.lists[choice.listed] for choice in ENUMS.values())
+    ]
     return f'''{mark("#", SOURCE)}"""A class for each kind of node. A property gives a part of the node, which may be missing in a faulty text.
 
 The children that are tokens have no properties: `child("COLON")` gives one. Where a property gives what is in a list, as `arguments` does, the node of

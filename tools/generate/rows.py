@@ -1,13 +1,18 @@
-"""The statuses and the rows of the library for C, for Rust, for Python and for the page, from the structs in crates/apollo_tree/src/compact.rt and in
-`rows.rt` of crates/dumyroke_flat and crates/dumyroke_validation; and the rules of validation, from crates/definition_rules/src/violations.rt. The header,
-which is written by hand, has to have the same fields and rules."""
+"""The statuses and the rows of the library for C, for Rust, for Python and for the page, from the structs in
+crates/apollo_tree/src/compact.rt and in `rows.rt` of crates/dumyroke_flat and crates/dumyroke_validation; and the rules
+of validation, from crates/definition_rules/src/violations.rt. The header, which is written by hand, has to have the
+same fields and rules."""
 
 import re
 
 from .layout import CRATES, TOP, mark
 
 SOURCE = "crates/apollo_tree/src/compact.rt, and rows.rt of crates/dumyroke_flat and crates/dumyroke_validation"
-SOURCES = [CRATES / "apollo_tree/src/compact.rt", CRATES / "dumyroke_flat/src/rows.rt", CRATES / "dumyroke_validation/src/rows.rt"]
+SOURCES = [
+    CRATES / "apollo_tree/src/compact.rt",
+    CRATES / "dumyroke_flat/src/rows.rt",
+    CRATES / "dumyroke_validation/src/rows.rt",
+]
 RULES = CRATES / "definition_rules/src/violations.rt"
 HEADER = TOP / "bindings/c/include/dumyroke.h"
 
@@ -16,7 +21,10 @@ TYPES = {"usize": (8, "size_t", "c_size_t"), "u64": (8, "uint64_t", "c_uint64")}
 TYPES |= {"u32": (4, "uint32_t", "c_uint32"), "u16": (2, "uint16_t", "c_uint16"), "u8": (1, "uint8_t", "c_uint8")}
 # The rows that languages read, with their names in C.
 READ = {"CompactElement": "element", "ItemRow": "item", "ErrorRow": "error", "Counts": "counts"}
-READ |= {"ViolationRow": "violation", "ViolationCounts": "violation_counts", "OperationRow": "operation", "MeasureCounts": "measure_counts"}
+READ |= {
+    "ViolationRow": "violation", "ViolationCounts": "violation_counts", "OperationRow": "operation",
+    "MeasureCounts": "measure_counts",
+}
 
 
 def statuses(text):
@@ -57,7 +65,11 @@ def in_header(header, name):
     """The fields of a struct of the header with their types, in order."""
     at = re.search(rf"^typedef struct dumyroke_{name} \{{\n(.*?)^\}}", header, re.DOTALL | re.MULTILINE)
     lines = re.sub(r"/\*.*?\*/", "", at[1] if at else "", flags=re.DOTALL)
-    return [(field.strip(), kind) for kind, names in re.findall(r"^\s*(\w+) ([\w, ]+);", lines, re.MULTILINE) for field in names.split(",")]
+    return [
+        (field.strip(), kind)
+        for kind, names in re.findall(r"^\s*(\w+) ([\w, ]+);", lines, re.MULTILINE)
+        for field in names.split(",")
+    ]
 
 
 def enum_in_header(header, name):
@@ -85,7 +97,9 @@ def for_python(text):
     made = structs(text)
     lines = "".join(f"{name} = {number}\n" for name, number in statuses(text).items())
     classes = "".join(
-        f"\n\nclass {name}(Structure):\n    _fields_ = [\n" + "".join(f'        ("{field}", {TYPES[kind][2]}),\n' for field, kind in made[name]) + "    ]\n"
+        f"\n\nclass {name}(Structure):\n    _fields_ = [\n"
+        + "".join(f'        ("{field}", {TYPES[kind][2]}),\n' for field, kind in made[name])
+        + "    ]\n"
         for name in READ
         if name != "CompactElement"
     )
@@ -120,7 +134,8 @@ def for_rust(text):
     lines = "".join(f"pub(crate) const {name}: u32 = {number};\n" for name, number in statuses(text).items())
     fields = {name: "".join(f"    pub(crate) {field}: {kind},\n" for field, kind in made[name]) for name in READ}
     rows = "".join(
-        f"\n/// `dumyroke_{short}`\n#[repr(C)]\n#[derive(Debug, Clone, Copy, Default, PartialEq, Eq)]\npub(crate) struct {name} {{\n{fields[name]}}}\n"
+        f"\n/// `dumyroke_{short}`\n#[repr(C)]\n#[derive(Debug, Clone, Copy, Default, PartialEq, Eq)]\npub(crate)"
+        f" struct {name} {{\n{fields[name]}}}\n"
         for name, short in READ.items()
     )
     listed = "".join(f"    /// Section {section}.\n    {name},\n" for section, name in rules())
@@ -159,7 +174,9 @@ def byte_rows(made):
         found, size = offsets(made[name])
         figures = [field for field, kind in made[name] if kind == "u64"]
         listed = ", ".join(f"{field}: {at}" for field, at in found.items() if field not in figures)
-        yield f"export const {READ[name].upper()}_BYTES = {size};\nexport const {READ[name].upper()} = {{ {listed} }};\n"
+        yield (
+            f"export const {READ[name].upper()}_BYTES = {size};\nexport const {READ[name].upper()} = {{ {listed} }};\n"
+        )
         if figures:
             yield f"export const FIGURES = {{ {', '.join(f'{camel(field)}: {found[field]}' for field in figures)} }};\n"
 

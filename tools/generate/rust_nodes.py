@@ -1,8 +1,7 @@
 """The kinds and the typed nodes of the Rust crate: bindings/rust/src/kind.rs and bindings/rust/src/cst/nodes.rs.
 
-There is a struct for each kind of node, with the accessors of the typed tree, and an enum for each choice. Some leaves have a second accessor, under
-the name that users of `apollo-parser` know.
-"""
+There is a struct for each kind of node, with the accessors of the typed tree, and an enum for each choice. Some leaves
+have a second accessor, under the name that users of `apollo-parser` know. """
 
 import re
 
@@ -186,9 +185,15 @@ def enum_text(enum, grammar):
     types = [type_case(kind) for kind in kinds]
     variants = "".join(f"    /// {what(grammar, kind)}\n    {one}({one}),\n" for kind, one in zip(kinds, types))
     test = "\n                | ".join(f"SyntaxKind::{kind}" for kind in kinds)
-    casts = "".join(f"            SyntaxKind::{kind} => {name}::{one}({one} {{ syntax }}),\n" for kind, one in zip(kinds, types))
+    casts = "".join(
+        f"            SyntaxKind::{kind} => {name}::{one}({one} {{ syntax }}),\n" for kind, one in zip(kinds, types)
+    )
     nodes = "".join(f"            {name}::{one}(node) => &node.syntax,\n" for one in types)
-    froms = "".join(f"\nimpl From<{one}> for {name} {{\n    fn from(node: {one}) -> Self {{\n        {name}::{one}(node)\n    }}\n}}\n" for one in types)
+    froms = "".join(
+        f"\nimpl From<{one}> for {name} {{\n    fn from(node: {one}) -> Self {{\n        {name}::{one}(node)\n   "
+        " }\n}\n"
+        for one in types
+    )
     return f"""
 {escaped(typed_docs.enum_doc(grammar, enum))}{DERIVES}pub enum {name} {{
 {variants}}}
@@ -230,7 +235,9 @@ impl fmt::Display for {name} {{
 
 
 def nodes_text(grammar):
-    body = "".join(struct_text(kind, grammar) for kind in grammar.nodes) + "".join(enum_text(enum, grammar) for enum in ENUMS)
+    body = "".join(struct_text(kind, grammar) for kind in grammar.nodes) + "".join(
+        enum_text(enum, grammar) for enum in ENUMS
+    )
     return f"""{mark("//", ROWS)}use super::{{support, CstChildren, CstNode}};
 use crate::{{SyntaxKind, SyntaxNode, SyntaxToken}};
 use std::fmt;

@@ -1,8 +1,7 @@
 """The symbols of the machine, and the pattern of each.
 
-Most are the kinds. Where a rule of Derivation.antt makes a place differ from others, a symbol of its own has that place: the machine's
-rows then need no rule beside them. Such a symbol is shown in trees as a kind.
-"""
+Most are the kinds. Where a rule of Derivation.antt makes a place differ from others, a symbol of its own has that
+place: the machine's rows then need no rule beside them. Such a symbol is shown in trees as a kind. """
 
 from .patterns import NOTHING, any_of, renamed
 
@@ -30,8 +29,8 @@ NUMBERED_AS = {"IDENT_FOR_FRAGMENT": "COMMENT", "IDENT_FOR_ENUM": "COMMA"}
 
 
 class Symbols:
-    """`names` in the order of the numbers, the `number` of each, its `label`, the kind as which it is shown, and the `pattern` of each
-    symbol that has a row."""
+    """`names` in the order of the numbers, the `number` of each, its `label`, the kind as which it is shown, and the
+    `pattern` of each symbol that has a row."""
 
     def __init__(self, grammar):
         self.grammar = grammar

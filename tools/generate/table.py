@@ -37,7 +37,9 @@ def symbol_list(names):
 
 def symbols_file(symbols):
     """specs/Symbols.antt: the symbols that are no kinds."""
-    constants = [f"-- {about}\nabbrev pub {name} : ℕ\n{name} = {symbols.number[name]}\n" for name, _, about in LEAVES + NODES]
+    constants = [
+        f"-- {about}\nabbrev pub {name} : ℕ\n{name} = {symbols.number[name]}\n" for name, _, about in LEAVES + NODES
+    ]
     return (
         mark("--", SOURCE)
         + """-- The symbols of the machine: the syntax kinds, and these, which no tree shows. Two leaves have the numbers of COMMENT and COMMA, which
@@ -64,7 +66,9 @@ def came_by(states, index, symbols):
 
 def state_comments(name, states, symbols):
     """The number of each state, and what was read last."""
-    comments = ["0"] + [f"{index}, after {came_by(states, index, symbols)}" for index in range(1, len(states) - (name == "DOCUMENT"))]
+    comments = ["0"] + [
+        f"{index}, after {came_by(states, index, symbols)}" for index in range(1, len(states) - (name == "DOCUMENT"))
+    ]
     return comments + (["2, after a definition that lacks its block"] if name == "DOCUMENT" else [])
 
 
@@ -153,7 +157,9 @@ def samples_file(lookahead):
     """proofs/generated/Samples.antt: how each row can be brought to its end, and a text of each leaf."""
     symbols = lookahead.symbols
     used = {symbol for endings in lookahead.endings.values() for ending in endings for symbol in ending}
-    endings = [(name, symbol_list(symbol_list(ending) for ending in lookahead.endings.get(name, []))) for name in symbols.nodes]
+    endings = [
+        (name, symbol_list(symbol_list(ending) for ending in lookahead.endings.get(name, []))) for name in symbols.nodes
+    ]
     leaves = symbols.names[: symbols.number["DOCUMENT"]]
     texts = [(leaf, f'codes "{TEXTS.get(leaf, word(leaf))}"' if leaf in symbols.leaves else "[]") for leaf in leaves]
     return f"""{mark("--", SOURCE)}-- For each state of a row the shortest symbols that end the row, and a text of each leaf.
@@ -169,7 +175,8 @@ spellings =
 
 
 def paths(states, symbols):
-    """For each state kinds of children that lead there, by a shortest way; a definition that lacks its block is an operation as well."""
+    """For each state kinds of children that lead there, by a shortest way; a definition that lacks its block is an
+    operation as well."""
     found = {0: []}
     for index in range(len(states)):
         for symbol, target in states[index].arcs:

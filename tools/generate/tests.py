@@ -1,5 +1,5 @@
-"""The generator's own tests: `tools/generate/run --test` runs them. Each puts one mistake into a copy of the generator's input, and wants
-the message that names the file and the kind."""
+"""The generator's own tests: `tools/generate/run --test` runs them. Each puts one mistake into a copy of the
+generator's input, and wants the message that names the file and the kind."""
 
 import importlib
 import shutil
@@ -27,8 +27,20 @@ PLACES = "tools/generate/places.py"
 WORDS = "tools/generate/typed_docs.py"
 # The crates that have generated files.
 WRITTEN = (
-    *("document_grammar", "grammar_machine", "parser_rules", "apollo_grammar", "apollo_document", "apollo_parser", "gqlcst_run", "gqlfmt_run", "gqlcheck_run"),
-    *("apollo_tree", "definition_rules", "dumyroke_flat", "dumyroke_validation", "gqlls_files", "gqlls_run", "schema_members", *(path.name for path in CRATES.glob("apollo_cst_*"))),
+    *(
+        "document_grammar", "grammar_machine", "parser_rules", "apollo_grammar", "apollo_document", "apollo_parser",
+        "gqlcst_run", "gqlfmt_run", "gqlcheck_run",
+    ),
+    *(
+        "apollo_tree",
+        "definition_rules",
+        "dumyroke_flat",
+        "dumyroke_validation",
+        "gqlls_files",
+        "gqlls_run",
+        "schema_members",
+        *(path.name for path in CRATES.glob("apollo_cst_*")),
+    ),
 )
 
 # The file with the mistake, a text that is in it once, what is there in its place, and the message.
@@ -61,9 +73,19 @@ MISTAKES = [
         "of 2.7",
         'kind.rt: the documentation of ALIAS does not end its first line with (section NUMBER, "TITLE").',
     ),
-    (KINDS, '2.7, "Field Alias"', '4.1, "Schema Introspection"', 'places.py: no module has section 4.1, "Schema Introspection", of ALIAS'),
+    (
+        KINDS,
+        '2.7, "Field Alias"',
+        '4.1, "Schema Introspection"',
+        'places.py: no module has section 4.1, "Schema Introspection", of ALIAS',
+    ),
     (ROWS, "(ALIAS, one NAME", "(ALIAS, one NAMEE", "Rows.antt: NAMEE is no kind, in the row of ALIAS"),
-    (ROWS, "(FIELD, optional ALIAS", "(FIELD, optionl ALIAS", "Rows.antt: no pattern is called optionl, in the row of FIELD"),
+    (
+        ROWS,
+        "(FIELD, optional ALIAS",
+        "(FIELD, optionl ALIAS",
+        "Rows.antt: no pattern is called optionl, in the row of FIELD",
+    ),
     (
         ROWS,
         "parts_with part = (one",
@@ -76,7 +98,10 @@ MISTAKES = [
         "(DOCUMENT, some (any_of Parts))",
         "Rows.antt: no list of kinds is called Parts, in the row of DOCUMENT",
     ),
-    (ROWS, "(DOCUMENT, some (any_of Definitions))", "(DOCUMENT, any_of Definitions)", "Rows.antt: the row of DOCUMENT is not"),
+    (
+        ROWS, "(DOCUMENT, some (any_of Definitions))", "(DOCUMENT, any_of Definitions)",
+        "Rows.antt: the row of DOCUMENT is not",
+    ),
     (ROWS, "    ∷ (NAME, one IDENT)\n", "", "Rows.antt: the kind NAME has no row"),
     (ROWS, "(NAME, one IDENT)", "(NAMES, one IDENT)", "Rows.antt: NAMES is no kind"),
     (
@@ -94,7 +119,12 @@ MISTAKES = [
         "(ALIAS, one ALIAS then one COLON)",
         "Rows.antt: no ALIAS has an end: each has another one in it",
     ),
-    (ROWS, "(ALIAS, one NAME then one COLON)", "(ALIAS, one NAME)", "Rows.antt: FIELD, state 0: two tokens do not tell NAME from ALIAS"),
+    (
+        ROWS,
+        "(ALIAS, one NAME then one COLON)",
+        "(ALIAS, one NAME)",
+        "Rows.antt: FIELD, state 0: two tokens do not tell NAME from ALIAS",
+    ),
     (
         ROWS,
         "(DIRECTIVES, some (one DIRECTIVE))",
@@ -109,9 +139,24 @@ MISTAKES = [
         "any_of (query_KW ∷ QUERY_KW ∷ mutation_KW",
         "Rows.antt: two accessors of OPERATION_TYPE would be called query_token",
     ),
-    (CHOICES, "Selections = FIELD ∷", "Selections = FIELDD ∷", "Choices.antt: the list Selections has FIELDD, which is no kind"),
-    (CHOICES, "Selections = FIELD ∷", "Selections = FIELD ∷ FIELD ∷", "Choices.antt: the list Selections has FIELD twice"),
-    (CHOICES, "LIST_TYPE ∷ NON_NULL_TYPE ∷ []", "LIST_TYPE ∷ NON_NULL_TYPE", "Choices.antt: the list Types does not end with ∷ []"),
+    (
+        CHOICES,
+        "Selections = FIELD ∷",
+        "Selections = FIELDD ∷",
+        "Choices.antt: the list Selections has FIELDD, which is no kind",
+    ),
+    (
+        CHOICES,
+        "Selections = FIELD ∷",
+        "Selections = FIELD ∷ FIELD ∷",
+        "Choices.antt: the list Selections has FIELD twice",
+    ),
+    (
+        CHOICES,
+        "LIST_TYPE ∷ NON_NULL_TYPE ∷ []",
+        "LIST_TYPE ∷ NON_NULL_TYPE",
+        "Choices.antt: the list Types does not end with ∷ []",
+    ),
     (CHOICES, "pub Values :", "pub Value :", "Choices.antt: there is no list Values"),
     (
         CHOICES,
@@ -125,7 +170,12 @@ MISTAKES = [
         "abbrev pub Names : List ℕ\nNames = NAME ∷ ALIAS ∷ []\n\n",
         "places.py: ENUMS has no enum for the list Names of Choices.antt",
     ),
-    (DERIVATION, "    ∷ FIELD_DEFINITION\n", "", "Derivation.antt: the list HasConstantDirectives lacks FIELD_DEFINITION: it is no selection"),
+    (
+        DERIVATION,
+        "    ∷ FIELD_DEFINITION\n",
+        "",
+        "Derivation.antt: the list HasConstantDirectives lacks FIELD_DEFINITION: it is no selection",
+    ),
     (
         DERIVATION,
         "    ∷ FIELD_DEFINITION\n",
@@ -150,7 +200,12 @@ MISTAKES = [
         "Braced =\n    OBJECT_TYPE_DEFINITION\n    ∷ UNION_TYPE_DEFINITION\n",
         "Derivation.antt: the list Braced has UNION_TYPE_DEFINITION, which has no block",
     ),
-    (DERIVATION, "Blocks = FIELDS_DEFINITION ∷ ", "Blocks = ", "Derivation.antt: the list Blocks lacks FIELDS_DEFINITION"),
+    (
+        DERIVATION,
+        "Blocks = FIELDS_DEFINITION ∷ ",
+        "Blocks = ",
+        "Derivation.antt: the list Blocks lacks FIELDS_DEFINITION",
+    ),
     (
         DERIVATION,
         "Blocks = FIELDS_DEFINITION",
@@ -164,8 +219,18 @@ MISTAKES = [
         "Rules.antt: the kind ALIAS has no rule: no clause `inside Alias = ..`",
     ),
     (RULES, "inside Alias = ", "inside Aliass = ", "Rules.antt: the node Aliass has no kind ALIASS"),
-    (RULES, "inside NamedType", "inside Alias = Skip\ninside NamedType", "Rules.antt: inside has two clauses for Alias"),
-    (RULES, "Child Alias > Call RequiredName", "Child Aliass > Call RequiredName", "Rules.antt: Aliass is used, and inside has no clause for it"),
+    (
+        RULES,
+        "inside NamedType",
+        "inside Alias = Skip\ninside NamedType",
+        "Rules.antt: inside has two clauses for Alias",
+    ),
+    (
+        RULES,
+        "Child Alias > Call RequiredName",
+        "Child Aliass > Call RequiredName",
+        "Rules.antt: Aliass is used, and inside has no clause for it",
+    ),
     (RULES, "Child Alias > Call RequiredName", "Child Name > Call RequiredName", "Rules.antt: no rule uses Alias"),
     (
         RULES,
@@ -195,7 +260,10 @@ MISTAKES = [
         SYMBOLS,
         '    ("OBJECT_FIELD_CONST", "OBJECT_FIELD", "OBJECT_FIELD in a constant place"),\n',
         "",
-        "symbols.py: NODES lacks OBJECT_FIELD_CONST: OBJECT_FIELD may be in a constant OBJECT_VALUE, and a VARIABLE below it",
+        (
+            "symbols.py: NODES lacks OBJECT_FIELD_CONST: OBJECT_FIELD may be in a constant OBJECT_VALUE, and a VARIABLE"
+            " below it"
+        ),
     ),
     (
         SYMBOLS,
@@ -207,7 +275,10 @@ MISTAKES = [
         KINDS,
         "    INPUT_FIELD_DEFINITION_KW,\n",
         "    INPUT_FIELD_DEFINITION_KW,\n    DIRECTIVE_DEFINITION_KW,\n",
-        "Rows.antt: no row has the leaf DIRECTIVE_DEFINITION_KW. A directive location is in the list DirectiveLocations of Choices.antt",
+        (
+            "Rows.antt: no row has the leaf DIRECTIVE_DEFINITION_KW. A directive location is in the list"
+            " DirectiveLocations of Choices.antt"
+        ),
     ),
     (
         CHOICES,
@@ -219,7 +290,10 @@ MISTAKES = [
         RULES,
         "    ∷ kind.INPUT_FIELD_DEFINITION_KW\n",
         "",
-        "parser_rules/specs/Rules.antt: executable_locations with type_system_locations lacks INPUT_FIELD_DEFINITION_KW",
+        (
+            "parser_rules/specs/Rules.antt: executable_locations with type_system_locations lacks"
+            " INPUT_FIELD_DEFINITION_KW"
+        ),
     ),
     (
         LOCATIONS,
@@ -231,7 +305,10 @@ MISTAKES = [
         LOCATIONS,
         "[SyntaxKind; 19]",
         "[SyntaxKind; 20]",
-        "apollo_grammar/src/grammar/directive.rt: LOCATIONS has the length 20, and the list DirectiveLocations of Choices.antt has 19 words",
+        (
+            "apollo_grammar/src/grammar/directive.rt: LOCATIONS has the length 20, and the list DirectiveLocations of"
+            " Choices.antt has 19 words"
+        ),
     ),
     (
         LOCATION_TEXT,
@@ -259,16 +336,31 @@ MISTAKES = [
         "places.py: nothing is in the module subscriptions of apollo_cst_executable",
     ),
     (PLACES, '"2.9.6", "VARIABLE"', '"2.9.6", "VARIABEL"', "places.py: CRATES has VARIABEL, which is no kind of node"),
-    (PLACES, '"document": ["2.2"]', '"document": ["2.2", "FIELD"]', "places.py: the enum Selection is in a crate before the crate of FIELD"),
+    (
+        PLACES,
+        '"document": ["2.2"]',
+        '"document": ["2.2", "FIELD"]',
+        "places.py: the enum Selection is in a crate before the crate of FIELD",
+    ),
     (
         PLACES,
         '"document": ["2.2"]',
         '"document": ["2.2", "ALIAS"]',
         "places.py: FIELD is in apollo_cst_executable, and has a part Alias, whose crate comes after it",
     ),
-    (PLACES, 'Enum("Selections"', 'Enum("Selected"', "places.py: ENUMS has Selection for the list Selected, which Choices.antt lacks"),
+    (
+        PLACES,
+        'Enum("Selections"',
+        'Enum("Selected"',
+        "places.py: ENUMS has Selection for the list Selected, which Choices.antt lacks",
+    ),
     (PLACES, '"Values", "value"', '"Values", None', "places.py: Value has no name for `one` child, which the row of"),
-    (WORDS, '"FRAGMENT_NAME": "name', '"FRAGMENT_NAMES": "name', "typed_docs.py: PARTS has FRAGMENT_NAMES, which is no kind of node"),
+    (
+        WORDS,
+        '"FRAGMENT_NAME": "name',
+        '"FRAGMENT_NAMES": "name',
+        "typed_docs.py: PARTS has FRAGMENT_NAMES, which is no kind of node",
+    ),
 ]
 
 # The same for the rows of the C library, which the header has too.
@@ -279,7 +371,12 @@ HEADERS = [
         "    uint64_t is_eof;\n",
         "dumyroke.h: the struct dumyroke_error has not the fields of ErrorRow",
     ),
-    ("bindings/c/include/dumyroke.h", "DUMYROKE_NOT_A_STRING = 4", "DUMYROKE_NOT_A_STRING = 6", "dumyroke.h: its statuses are not those of rows.rt"),
+    (
+        "bindings/c/include/dumyroke.h",
+        "DUMYROKE_NOT_A_STRING = 4",
+        "DUMYROKE_NOT_A_STRING = 6",
+        "dumyroke.h: its statuses are not those of rows.rt",
+    ),
 ]
 
 
@@ -345,7 +442,8 @@ def run(folder):
 
 
 def only_the_changed_file_differs(made):
-    """Of an unchanged input the generator would write what is there; a file that is otherwise it names, with status 1."""
+    """Of an unchanged input the generator would write what is there; a file that is otherwise it names, with status
+    1."""
     changed = "crates/document_grammar/specs/Numbering.antt"
     text = (made.folder / changed).read_text()
     (made.folder / changed).write_text(text.replace("number ALIAS = ", "number ALIAS = 1"))
@@ -369,7 +467,11 @@ def what_about_says_goes_everywhere(made):
     status, differing = run(made.folder)
     (made.folder / "about.json").write_text(said)
     wanted = {f"differs: {path.relative_to(TOP)}" for path in MANIFESTS}
-    return None if status == 1 and wanted <= set(differing.splitlines()) else f"about.json was changed: {status}, {differing}"
+    return (
+        None
+        if status == 1 and wanted <= set(differing.splitlines())
+        else f"about.json was changed: {status}, {differing}"
+    )
 
 
 def the_header_has_the_rows(made):
@@ -384,12 +486,16 @@ def the_header_has_the_rows(made):
     return None
 
 
-# A file of functions, what is in it once, and what may not be there in its place: no production, another one, and one above a function that
-# has none.
+# A file of functions, what is in it once, and what may not be there in its place: no production, another one, and one
+# above a function that has none.
 PRODUCTIONS = [
     ("name.rt", "///     Alias (2.7) : Name :\n", ""),
     ("name.rt", "///     Alias (2.7) : Name :\n", "///     Alias (2.7) : Name\n"),
-    ("name.rt", "/// A field's name, with its alias.\n", "/// A field's name, with its alias.\n///     Field (2.5) : Name\n"),
+    (
+        "name.rt",
+        "/// A field's name, with its alias.\n",
+        "/// A field's name, with its alias.\n///     Field (2.5) : Name\n",
+    ),
 ]
 
 
@@ -426,7 +532,10 @@ def main():
         made = Copy(Path(name))
         found = [mistake_is_refused(made, *mistake) for mistake in MISTAKES]
         found += [a_wrong_production_differs(made, *production) for production in PRODUCTIONS]
-        found += [only_the_changed_file_differs(made), a_new_version_goes_everywhere(made), what_about_says_goes_everywhere(made), the_header_has_the_rows(made)]
+        found += [
+            only_the_changed_file_differs(made), a_new_version_goes_everywhere(made),
+            what_about_says_goes_everywhere(made), the_header_has_the_rows(made),
+        ]
         found += [a_mistake_ends_with_status_1(made), each_struct_is_cast()]
     wrong = [what for what in found if what]
     print(*wrong, f"generator: {len(found)} tests, {len(wrong)} failed", sep="\n")

@@ -1,7 +1,7 @@
 """The text of the typed nodes: a struct for each kind of node, with its casts and accessors; and the types of leaves.
 
-The names of accessors are those of accessors.py. A struct's documentation is its kind's; the other words are in typed_docs.py.
-"""
+The names of accessors are those of accessors.py. A struct's documentation is its kind's; the other words are in
+typed_docs.py. """
 
 import re
 
@@ -100,7 +100,9 @@ def leaf_cast_text(name):
 def accessors_text(kind, row, grammar):
     """The accessors of a struct, and before them what their clauses cite."""
     chosen = sorted({accessor.target for accessor in row if accessor.target in ENUMS and not accessor.gives_all})
-    cited = "".join(f"    ghost use Rattle.{home(enum, grammar)[0]}.specs.{enum}.{{{enum.lower()}_node}};\n" for enum in chosen)
+    cited = "".join(
+        f"    ghost use Rattle.{home(enum, grammar)[0]}.specs.{enum}.{{{enum.lower()}_node}};\n" for enum in chosen
+    )
     return "\n".join(([cited] if cited else []) + [accessor_text(kind, accessor) for accessor in row])
 
 
@@ -110,7 +112,9 @@ def accessor_text(kind, accessor):
     target, wanted = accessor.target, accessor.kinds[0]
     if target is None:
         clause = f"GivesLeaf {wanted} self.now.syntax result"
-        return doc + method(accessor.name, "Option<SyntaxToken<'t>>", clause, f"token(&self.syntax, SyntaxKind::{wanted})")
+        return doc + method(
+            accessor.name, "Option<SyntaxToken<'t>>", clause, f"token(&self.syntax, SyntaxKind::{wanted})"
+        )
     if target in ENUMS:
         casts, node = f"(one_of {ENUMS[target].listed})", f"{target.lower()}_node"
     else:
@@ -253,7 +257,10 @@ def ghost_uses(body, grammar):
     lines = [
         ("Rattle.std.specs.Prelude", ["◌≡◌", "true"]),
         (VARIANTS, cited(grammar.kinds)),
-        ("Rattle.document_grammar.specs.Choices", [choice.listed for choice in ENUMS.values() if f"one_of {choice.listed}" in body]),
+        (
+            "Rattle.document_grammar.specs.Choices",
+            [choice.listed for choice in ENUMS.values() if f"one_of {choice.listed}" in body],
+        ),
         ("Rattle.document_grammar.specs.Numbers", ["is_kind"]),
         ("Rattle.apollo_cst_core.specs.Cast", cited(["GivesAll", "GivesFirst", "GivesLeaf", "node_kind", "one_of"])),
         ("Rattle.apollo_cst_core.specs.Children", cited(["rest_cast"])),
@@ -315,5 +322,9 @@ def print_accessors(grammar):
     for kind in grammar.rows:
         row = accessors(grammar, kind)
         total += len(row)
-        print(grammar.number[kind], type_case(kind) + ":", ", ".join(f"{accessor.name} ({accessor.number})" for accessor in row))
+        print(
+            grammar.number[kind],
+            type_case(kind) + ":",
+            ", ".join(f"{accessor.name} ({accessor.number})" for accessor in row),
+        )
     print(total, "accessors")

@@ -30,7 +30,8 @@ PARTS = {
     "Ty": "type",
 }
 
-# What the children are called when there may be several, by the kind of their parent. When no words are given, they are the accessor's.
+# What the children are called when there may be several, by the kind of their parent. When no words are given, they are
+# the accessor's.
 SEVERAL = {
     "OBJECT_VALUE": "fields",
     "VARIABLE_DEFINITIONS": "definitions of the variables",
@@ -50,7 +51,10 @@ BRACES = "`None` only if the parse reported errors, or read a selection set alon
 SPECIAL = {
     ("SELECTION_SET", "L_CURLY"): f"The `{{`. {BRACES}",
     ("SELECTION_SET", "R_CURLY"): f"The `}}`. {BRACES}",
-    ("OPERATION_DEFINITION", "OPERATION_TYPE"): "The operation type, or `None` when the query is a selection set alone.",
+    (
+        "OPERATION_DEFINITION",
+        "OPERATION_TYPE",
+    ): "The operation type, or `None` when the query is a selection set alone.",
     ("NON_NULL_TYPE", "NAMED_TYPE"): "The named type, or `None` when it is a list type.",
     ("NON_NULL_TYPE", "LIST_TYPE"): "The list type, or `None` when it is a named type.",
 }
@@ -79,7 +83,8 @@ def enum_doc(grammar, enum):
 
 
 def form(grammar, kind):
-    """A kind as one form of a production. A constant place has no variable; what has a parameter itself gets the production's."""
+    """A kind as one form of a production. A constant place has no variable; what has a parameter itself gets the
+    production's."""
     name = type_case(kind)
     if kind == "VARIABLE":
         return f"[if not Const] {name}"

@@ -54,7 +54,10 @@ static inline const char *dumyroke_version(void)
 def with_version(path, before, after, number):
     """The file's text with this version."""
     text, count = re.subn(
-        rf"^(\s*){re.escape(before)}[\d.]+{re.escape(after)}", lambda at: f"{at[1]}{before}{number}{after}", path.read_text(), flags=re.MULTILINE
+        rf"^(\s*){re.escape(before)}[\d.]+{re.escape(after)}",
+        lambda at: f"{at[1]}{before}{number}{after}",
+        path.read_text(),
+        flags=re.MULTILINE,
     )
     if count != 1:
         raise SystemExit(f"{path.relative_to(TOP)}: it has {count} versions, and not one")
@@ -63,5 +66,7 @@ def with_version(path, before, after, number):
 
 def outputs(_grammar):
     """The text of each file, by its path."""
-    files = {path: with_about(path, with_version(path, before, after, version())) for path, (before, after) in PLACES.items()}
+    files = {
+        path: with_about(path, with_version(path, before, after, version())) for path, (before, after) in PLACES.items()
+    }
     return {**files, TOP / "bindings/c/include/dumyroke_version.h": header()}
