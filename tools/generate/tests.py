@@ -272,55 +272,16 @@ MISTAKES = [
         "symbols.py: the symbol OBJECT_FIELD_CONST is shown as OBJECT_ITEM",
     ),
     (
-        KINDS,
-        "    INPUT_FIELD_DEFINITION_KW,\n",
-        "    INPUT_FIELD_DEFINITION_KW,\n    DIRECTIVE_DEFINITION_KW,\n",
-        (
-            "Rows.antt: no row has the leaf DIRECTIVE_DEFINITION_KW. A directive location is in the list"
-            " DirectiveLocations of Choices.antt"
-        ),
-    ),
-    (
         CHOICES,
         "    ∷ UNION_KW\n    ∷ ENUM_KW\n",
         "    ∷ ENUM_KW\n    ∷ UNION_KW\n",
         "document_grammar/src/kind.rt: the enum of kinds has UNION_KW where ENUM_KW should be",
     ),
     (
-        RULES,
-        "    ∷ kind.INPUT_FIELD_DEFINITION_KW\n",
-        "",
-        (
-            "parser_rules/specs/Rules.antt: executable_locations with type_system_locations lacks"
-            " INPUT_FIELD_DEFINITION_KW"
-        ),
-    ),
-    (
         LOCATIONS,
         "    SyntaxKind::SCALAR_KW,\n    SyntaxKind::OBJECT_KW,\n",
         "    SyntaxKind::OBJECT_KW,\n    SyntaxKind::SCALAR_KW,\n",
         "apollo_grammar/src/grammar/directive.rt: LOCATIONS has OBJECT_KW where SCALAR_KW should be",
-    ),
-    (
-        LOCATIONS,
-        "[SyntaxKind; 19]",
-        "[SyntaxKind; 20]",
-        (
-            "apollo_grammar/src/grammar/directive.rt: LOCATIONS has the length 20, and the list DirectiveLocations of"
-            " Choices.antt has 19 words"
-        ),
-    ),
-    (
-        LOCATION_TEXT,
-        "number <= SyntaxKind::INPUT_FIELD_DEFINITION_KW",
-        "number <= SyntaxKind::INPUT_OBJECT_KW",
-        "apollo_cst_type_system/src/location.rt: is_location goes from QUERY_KW to INPUT_OBJECT_KW",
-    ),
-    (
-        STANDARD,
-        "ENUM_VALUE INPUT_OBJECT INPUT_FIELD_DEFINITION\n",
-        "ENUM_VALUE INPUT_OBJECT INPUT_FIELD_DEFINITION DIRECTIVE_DEFINITION\n",
-        "schema_members/src/standard.rt: __DirectiveLocation has DIRECTIVE_DEFINITION, which is not in the list",
     ),
     (
         LOCATION_PLACES,
@@ -362,6 +323,47 @@ MISTAKES = [
         "typed_docs.py: PARTS has FRAGMENT_NAMES, which is no kind of node",
     ),
 ]
+
+def of_locations():
+    """The same for the directive locations, whose last word and number are of the standard's edition."""
+    listed = Grammar().lists["DirectiveLocations"]
+    last, before, count = listed[-1], listed[-2], len(listed)
+    word = last.removesuffix("_KW")
+    return [
+        (
+            KINDS,
+            f"    {last},\n",
+            f"    {last},\n    ELSEWHERE_KW,\n",
+            "Rows.antt: no row has the leaf ELSEWHERE_KW. A directive location is in the list DirectiveLocations of"
+            " Choices.antt",
+        ),
+        (
+            RULES,
+            f"    ∷ kind.{last}\n",
+            "",
+            f"parser_rules/specs/Rules.antt: executable_locations with type_system_locations lacks {last}",
+        ),
+        (
+            LOCATIONS,
+            f"[SyntaxKind; {count}]",
+            f"[SyntaxKind; {count + 1}]",
+            f"apollo_grammar/src/grammar/directive.rt: LOCATIONS has the length {count + 1}, and the list"
+            f" DirectiveLocations of Choices.antt has {count} words",
+        ),
+        (
+            LOCATION_TEXT,
+            f"number <= SyntaxKind::{last}",
+            f"number <= SyntaxKind::{before}",
+            f"apollo_cst_type_system/src/location.rt: is_location goes from QUERY_KW to {before}",
+        ),
+        (
+            STANDARD,
+            f"{word}\n}}\n",
+            f"{word} ELSEWHERE\n}}\n",
+            "schema_members/src/standard.rt: __DirectiveLocation has ELSEWHERE, which is not in the list",
+        ),
+    ]
+
 
 # The same for the rows of the C library, which the header has too.
 HEADERS = [
@@ -530,7 +532,7 @@ def each_struct_is_cast():
 def main():
     with tempfile.TemporaryDirectory() as name:
         made = Copy(Path(name))
-        found = [mistake_is_refused(made, *mistake) for mistake in MISTAKES]
+        found = [mistake_is_refused(made, *mistake) for mistake in [*MISTAKES, *of_locations()]]
         found += [a_wrong_production_differs(made, *production) for production in PRODUCTIONS]
         found += [
             only_the_changed_file_differs(made), a_new_version_goes_everywhere(made),
