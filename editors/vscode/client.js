@@ -162,7 +162,9 @@ class Client {
   // Starts the server and serves what it says that it can. Throws when the program cannot be started, or when it is
   // stopped meanwhile.
   async start() {
-    const notified = (method, params) => method === "textDocument/publishDiagnostics" && this.#show(params);
+    // a server that is stopped may still send what it had to say
+    const notified = (method, params) =>
+      method === "textDocument/publishDiagnostics" && !this.isStopped && this.#show(params);
     const ended = (how) => {
       this.#dispose();
       if (this.isServing) window.showErrorMessage(`gqlls ended with ${how}`);
