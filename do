@@ -7,24 +7,39 @@ usage() {
     cat <<'LINES'
 usage: ./do COMMAND
 
-  quick              the checks that need no proof, in some eight seconds: generated files, names of rules, texts, promises
+While you change something:
+  quick              the checks that need no proof: generated files, names, pages, lists. Ten seconds
   generate           writes all files that are generated
-  affected [CRATE..] says which crates have to be proved again since the last commit, or after a change of these crates, and how long that takes
-  check CRATE [..]   proves one crate over what earlier checks left (rt check); further words go to rt check
+  affected [CRATE..] says which crates have to be proved again since the last commit, or after a
+                     change of these crates, and how long that takes
   try CRATE [..]     runs a program, or with --test a crate's tests, and proves nothing (rt try)
-  edits [CRATE..]    tries the edits that must fail, those that the gate leaves out as well, of these crates (rt must-fail) or of all (rt ci)
-  quick-bindings     makes the library for C without a proof, in a minute, and runs its tests and those of Rust and Python
+  check CRATE [..]   proves one crate over what earlier checks left; further words go to rt check
+  edits [CRATE..]    tries the edits that must fail, those that the gate leaves out as well: of these
+                     crates (rt must-fail), or of all (rt ci)
+  quick-bindings     makes the library for C without a proof, and passes its tests and those of Rust
+                     and Python. Two to three minutes
+  evidence           writes build/EVIDENCE.md: of each clause its lemmas, the edits that break it, and
+                     the definitions that one has to read
+
+Before a merge, and after it:
   gate               what a merge has to pass: quick, rt ci, and test
-  fresh              the gate in a bare Debian that has the kit, Python, gcc and git alone, with a network and without one: before a commit that
-                     touches tools/, do or .ci/
-  test               the tests of the output of rt ci: formatted texts, figures, C and Python, the page, editors, README, the release
-  release [trial]    makes build/release/ after the gate, or tries it in a bare Debian: programs, libraries, the page, packages for Debian,
-                     Python, Rust, npm and VS Code
-  bench [NAME [..]]  measures the programs of `rt ci`: small, parse, hostile, stack, format, server, walks, c or python, or else all of them
+  test               the tests, once rt ci has built the programs: formatted texts, files, faults,
+                     validation, libraries, the page, editors, README, the release
+  fresh              the gate in a bare Debian that has the kit, Python, gcc and git alone, with a
+                     network and without one: before a commit that touches tools/, tests/, release/,
+                     do or .ci/
+  bindings [..]      makes the libraries for C, Rust and Python after rt ci, and tests them; a word
+                     says a part: build, test, pages, install, flags
+  release [trial]    makes build/release/, or tries it in a bare Debian: programs, libraries, the
+                     page, packages for Debian, Python, Rust, npm and VS Code
+  bench [NAME [..]]  measures the programs of rt ci: small, parse, hostile, stack, format, server,
+                     walks, c, python, crowded and threads. Without a name it measures all of these.
+                     query_log and fuzz want their names
 LINES
 }
 
-# As many checks at a time as there are processors, but no more than four and no more than memory holds at 3.5 GB each. RT_JOBS says another number.
+# As many checks at a time as there are processors, but no more than four and no more than memory holds at 3.5 GB each.
+# RT_JOBS says another number.
 jobs_here() {
     local jobs room
     jobs=$(nproc)
@@ -44,49 +59,51 @@ must() {
 
 quick() {
     failed=0
-    must "Run ./do generate." tools/generate --check
-    must "Change the generator or its input as it says." tools/generate --test
+    must "Run ./do generate." tools/generate/run --check
+    must "Change the generator or its input as it says." tools/generate/run --test
+    must "Give the new kind a number at the end, or the library another soname." tools/kinds --check
     must "Put the crates of crates.txt in order, or run ./do generate." tools/crates --check
     must "Give the function the name of its rule." tools/rule_names
-    must "Run ./do generate." tools/format_texts --check
-    must "Run ./do generate, or mend the page or the list that it names." tools/promises --check
+    must "Give docs/FORMAT.md and tests/format/layout.py the same rule." tests/format/trial --layouts
+    must "Run ./do generate, or mend the page or the list that it names." tools/evidence/run --check
+    must "Show in the page what the file has." tests/readme --text
+    must "Say in README what docs/SPEED.md has, or change the phrases of tools/speed." tools/speed
     must "Write the sentence in other words." tools/words
-    must "Mend the Python." tools/lint
+    must "Mend the line." tools/lint
     return $failed
 }
 
 generate() {
-    tools/generate
+    tools/generate/run
     tools/crates
-    tools/format_texts
-    tools/promises
+    tools/evidence/run --table
 }
 
 tests() {
-    tools/format_texts --trial
-    tools/format_trial/trial.py crates/gqlfmt/out/gqlfmt 100
-    tools/file_tests
-    tools/gqlcheck_tests
-    tools/fault_tests
-    tools/bindings
-    tools/figures
-    tools/validation
-    tools/bindings pages
-    tools/editor_tests
-    tools/readme --check
-    tools/release
-    tools/release test
-    tools/release trial
+    tests/format/run
+    tests/format/trial crates/gqlfmt/out/gqlfmt 100
+    tests/files
+    tests/gqlcheck
+    tests/faults/run
+    release/bindings/run
+    tests/figures
+    tests/validation
+    release/bindings/run pages
+    tests/editors/run
+    tests/readme --check
+    release/packages/run
+    release/packages/run test
+    release/packages/run trial
 }
 
 # Without a proof, so without what the programs of `rt ci` print.
 quick_bindings() {
-    tools/bindings quick
-    tools/bindings test-quick
+    release/bindings/run quick
+    release/bindings/run test-quick
 }
 
-# In a copy, where a crate's edits/ are in its must-fail/ with those of the gate. All of them are tried by rt ci, which takes what the gate has proved and tries
-# as many at a time as there are processors.
+# In a copy, where a crate's edits/ are in its must-fail/ with those of the gate. All of them are tried by rt ci, which
+# takes what the gate has proved and tries as many at a time as there are processors.
 all_edits() {
     copy=$(mktemp -d)
     trap 'rm -rf "$copy"' EXIT
@@ -115,13 +132,15 @@ command=${1:-}
 case $command in
     quick) quick ;;
     generate) generate ;;
+    evidence) exec tools/evidence/run ;;
     affected) exec tools/affected "$@" ;;
     edits) all_edits "$@" ;;
     quick-bindings) quick_bindings ;;
     check) enter "$@"; shift; exec rt check "$@" ;;
     try) enter "$@"; shift; exec rt try "$@" ;;
     test) tests ;;
-    release) exec tools/release "$@" ;;
+    bindings) exec release/bindings/run "$@" ;;
+    release) exec release/packages/run "$@" ;;
     fresh) exec tools/fresh ;;
     gate)
         quick
@@ -129,17 +148,18 @@ case $command in
         tests
         ;;
     bench)
-        [ $# -gt 0 ] || set -- all
+        measured="small parse hostile stack format server walks c python crowded threads"
+        if [ $# -eq 0 ]; then
+            for each in $measured; do "bench/$each.py"; done
+            exit
+        fi
+        case " $measured query_log fuzz " in
+            *" $1 "*) ;;
+            *) usage >&2; exit 2 ;;
+        esac
         name=$1
         shift
-        if [ "$name" = all ]; then
-            for each in small parse hostile stack format server walks c python; do "bench/$each.py"; done
-        elif [ -x "bench/$name.py" ]; then
-            exec "bench/$name.py" "$@"
-        else
-            usage >&2
-            exit 2
-        fi
+        exec "bench/$name.py" "$@"
         ;;
     --help | -h) usage ;;
     *) usage >&2; exit 2 ;;

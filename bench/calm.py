@@ -1,7 +1,8 @@
 """Runs that count, on a host that gives its processors to others too.
 
-Such a host makes programs up to twice as slow, for parts of a second or for many, and not all of them alike. So a run counts only when a fixed piece of work,
-done before and after it on the same processor, takes no longer than it takes at rest. A run that does not count is made again."""
+Such a host makes programs up to twice as slow, for parts of a second or for many, and not all of them alike. So a run
+counts only when a fixed piece of work, done before and after it on the same processor, takes no longer than it takes at
+rest. A run that does not count is made again."""
 import os
 import time
 
@@ -19,7 +20,8 @@ def work():
 
 
 class Processors:
-    """The processors that this process may use: what the work takes at rest, how many runs did not count, and how many count though each try was disturbed."""
+    """The processors that this process may use: what the work takes at rest, how many runs did not count, and how many
+    count though each try was disturbed."""
 
     def __init__(self):
         self.left_out = 0
@@ -56,4 +58,7 @@ class Processors:
 
     def summary(self):
         """How many runs did not count, and what rest is."""
-        return f"runs that did not count: {self.left_out}; that were disturbed each time, and count: {self.disturbed}; {1000 * self.rest:.2f} ms at rest"
+        return (
+            f"runs that did not count: {self.left_out}; that were disturbed each time, and count: {self.disturbed};"
+            f" {1000 * self.rest:.2f} ms at rest"
+        )

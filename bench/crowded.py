@@ -1,6 +1,7 @@
 #!/usr/bin/env python3
-"""Measures gqlls on input that comes all at once: requests for a long answer, changes in one message, and bytes that are no message. Prints a row for each, with
-the seconds of the processor and the greatest memory. --program is the server, if it isn't the one that `rt ci` has built."""
+"""Measures gqlls on input that comes all at once: requests for a long answer, changes in one message, and bytes that
+are no message. Prints a row for each, with the seconds of the processor and the greatest memory. --program is the
+server, if it isn't the one that `rt ci` has built."""
 
 import json
 import tempfile
@@ -22,11 +23,17 @@ def text(size):
 
 
 def opened(source):
-    return frame(method="textDocument/didOpen", params={"textDocument": {"uri": URI, "languageId": "graphql", "version": 0, "text": source}})
+    return frame(
+        method="textDocument/didOpen",
+        params={"textDocument": {"uri": URI, "languageId": "graphql", "version": 0, "text": source}},
+    )
 
 
 def outlines(count):
-    asked = [frame(id=number, method="textDocument/documentSymbol", params={"textDocument": {"uri": URI}}) for number in range(count)]
+    asked = [
+        frame(id=number, method="textDocument/documentSymbol", params={"textDocument": {"uri": URI}})
+        for number in range(count)
+    ]
     return opened(text(240_000)) + b"".join(asked)
 
 
@@ -35,7 +42,9 @@ def changes(count):
     lines = [number * source.count("\n") // count for number in range(count)]
     place = [{"line": line, "character": 4} for line in reversed(lines)]
     made = [{"range": {"start": at, "end": at}, "text": " "} for at in place]
-    return opened(source) + frame(method="textDocument/didChange", params={"textDocument": {"uri": URI, "version": 1}, "contentChanges": made})
+    return opened(source) + frame(
+        method="textDocument/didChange", params={"textDocument": {"uri": URI, "version": 1}, "contentChanges": made}
+    )
 
 
 ROWS = [(f"{count} outlines of 240 KB", outlines(count)) for count in [25, 100]]
@@ -49,7 +58,9 @@ def main():
     with tempfile.TemporaryDirectory() as folder:
         path = Path(folder) / "input"
         for name, data in ROWS:
-            path.write_bytes(frame(id=-1, method="initialize", params={"capabilities": {}}) + data + frame(method="exit"))
+            path.write_bytes(
+                frame(id=-1, method="initialize", params={"capabilities": {}}) + data + frame(method="exit")
+            )
             run = Run([program], path)
             assert run.status == 256, run.status
             print(f"| {name} | {run.processor:.2f} | {run.memory / 1e6:.0f} |")

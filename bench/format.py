@@ -1,9 +1,11 @@
 #!/usr/bin/env python3
-"""Measures gqlfmt from standard input to standard output, and graphql-js's parse and print beside it in the same run. Prints tables for docs/SPEED.md.
+"""Measures gqlfmt from standard input to standard output, and graphql-js's parse and print beside it in the same run.
+Prints tables for docs/SPEED.md.
 
-The texts are those of text.py, of 5, 10 and 20 MB, and hostile ones of 1, 2 and 4 MB, each `--rounds` times in turn. graphql-js is run on those of 5 MB, three
-times at most; it needs node, and print.js says where graphql-js is looked for. Without node its columns are empty. Ends with status 1 where twice a text takes
-more than 2.2 times as much processor time."""
+The texts are those of text.py, of 5, 10 and 20 MB, and hostile ones of 1, 2 and 4 MB, each `--rounds` times in turn.
+graphql-js is run on those of 5 MB, three times at most; it needs node, and print.js says where graphql-js is looked
+for. Without node its columns are empty. Ends with status 1 where twice a text takes more than 2.2 times as much
+processor time."""
 
 import os
 import shutil
@@ -35,7 +37,8 @@ HOSTILE = {
 
 
 def made(path, words):
-    """The file, with the output of this script for these words. It holds no long text itself, since that would count as memory of those that it starts."""
+    """The file, with the output of this script for these words. It holds no long text itself, since that would count as
+    memory of those that it starts."""
     with open(path, "w") as target:
         subprocess.run([sys.executable, __file__, *words], stdout=target, check=True)
     return path
@@ -68,17 +71,33 @@ def row(kind, length, ours, theirs):
     """A line of the first table."""
     seconds = [each.seconds for each in ours]
     best, median = min(seconds), statistics.median(seconds)
-    cells = [f"{kind}, {length / 1e6:.1f} MB", milliseconds(best), milliseconds(median), milliseconds(min(each.processor for each in ours))]
-    cells += [f"{length / 1e6 / best:.0f}", f"{length / 1e6 / median:.0f}", f"{max(each.memory for each in ours) / length:.1f}"]
+    cells = [
+        f"{kind}, {length / 1e6:.1f} MB",
+        milliseconds(best),
+        milliseconds(median),
+        milliseconds(min(each.processor for each in ours)),
+    ]
+    cells += [
+        f"{length / 1e6 / best:.0f}",
+        f"{length / 1e6 / median:.0f}",
+        f"{max(each.memory for each in ours) / length:.1f}",
+    ]
     if theirs:
-        cells += [milliseconds(min(each.seconds for each in theirs)), milliseconds(min(float(each.told) for each in theirs) / 1000)]
+        cells += [
+            milliseconds(min(each.seconds for each in theirs)),
+            milliseconds(min(float(each.told) for each in theirs) / 1000),
+        ]
         cells += [f"{max(each.memory for each in theirs) / length:.0f}"]
     return "| " + " | ".join(cells + [""] * (10 - len(cells))) + " |"
 
 
 def ordinary(program, folder, rounds):
     """The table of the texts of text.py."""
-    print("| text | best | median | processor | MB/s, best | median | memory a byte | graphql-js | parse and print alone | memory a byte |\n|" + "---|" * 10)
+    print(
+        "| text | best | median | processor | MB/s, best | median | memory a byte | graphql-js | parse and print alone"
+        " | memory a byte |\n|"
+        + "---|" * 10
+    )
     node = shutil.which("node")
     for kind in ["queries", "schema"]:
         for size in [5_000_000, 10_000_000, 20_000_000]:
@@ -92,7 +111,8 @@ def ordinary(program, folder, rounds):
 
 
 def hostile(program, folder, rounds):
-    """The table of the hostile texts. Answers how many take more than 2.2 times the processor time at twice the size."""
+    """The table of the hostile texts. Answers how many take more than 2.2 times the processor time at twice the
+    size."""
     sizes = [1_000_000, 2_000_000, 4_000_000]
     names = " | ".join(f"{size // 1_000_000} MB" for size in sizes)
     print(f"\n| text | {names} | processor time, times | written at the last | memory |\n|" + "---|" * (len(sizes) + 4))
@@ -103,8 +123,15 @@ def hostile(program, folder, rounds):
         processor = [min(each.processor for each in each_size) for each_size in runs]
         times = [after / before for before, after in zip(processor, processor[1:])]
         slow += max(times) > 2.2
-        cells = [name] + [milliseconds(min(each.seconds for each in each_size)) for each_size in runs] + [", ".join(f"{ratio:.2f}" for ratio in times)]
-        cells += [f"{written(program, paths[-1]) / 1e6:.0f} MB", f"{max(each.memory for each in runs[-1]) / 1e6:.0f} MB"]
+        cells = (
+            [name]
+            + [milliseconds(min(each.seconds for each in each_size)) for each_size in runs]
+            + [", ".join(f"{ratio:.2f}" for ratio in times)]
+        )
+        cells += [
+            f"{written(program, paths[-1]) / 1e6:.0f} MB",
+            f"{max(each.memory for each in runs[-1]) / 1e6:.0f} MB",
+        ]
         print("| " + " | ".join(cells) + " |", flush=True)
     return slow
 

@@ -1,10 +1,12 @@
 #!/usr/bin/env python3
-"""Tries the library for C on texts that libFuzzer makes, led by the edges of the generated code that they reach. `fuzz/target.c` says what has to hold of each
-text. It is compiled with the sanitizers for addresses and undefined behaviour, as `--language` c or c++; with `--inside 1` the library has the first, too,
-and is some five times as slow. The library is made without a proof, in a minute, and has counters at its edges.
+"""Tries the library for C on texts that libFuzzer makes, led by the edges of the generated code that they reach.
+`fuzz/target.c` says what has to hold of each text. It is compiled with the sanitizers for addresses and undefined
+behaviour, as `--language` c or c++; with `--inside 1` the library has the first, too, and is some five times as slow.
+The library is made without a proof, in a minute, and has counters at its edges.
 
-The texts of `fuzz/corpus.jsonl` come first, then others for `--seconds` seconds. What was found wrong is in build/fuzz, and the status is libFuzzer's. With
-`--keep` BYTES the corpus is written anew, up to that number of bytes: of texts that together reach all edges, the shortest first.
+The texts of `fuzz/corpus.jsonl` come first, then others for `--seconds` seconds. What was found wrong is in build/fuzz,
+and the status is libFuzzer's. With `--keep` BYTES the corpus is written anew, up to that number of bytes: of texts that
+together reach all edges, the shortest first.
 
 It needs clang with libFuzzer, which Debian has in clang and libclang-rt-14-dev."""
 
@@ -17,10 +19,10 @@ from pathlib import Path
 
 from programs import HERE, TOP, arguments
 
-sys.path.insert(0, str(TOP / "tools"))
+sys.path.insert(0, str(TOP / "release"))
 
-from binder.quick import quick_archive  # noqa: E402
-from binder.shared import BUILD, INCLUDE, kit  # noqa: E402
+from bindings.quick import quick_archive  # noqa: E402
+from bindings.shared import BUILD, INCLUDE, kit  # noqa: E402
 
 FOLDER, CORPUS = HERE / "fuzz", HERE / "fuzz/corpus.jsonl"
 # Words of the grammar that a change of a few bytes would seldom make.
@@ -33,7 +35,10 @@ def target(folder, language, inside):
     """The program that libFuzzer drives."""
     archive, program = folder / "library.a", folder / "target"
     quick_archive(archive, COUNTED, *["-fsanitize=address"] * inside)
-    words = ["clang++" if language == "c++" else "clang", "-x", language, "-g", "-O1", "-Wall", "-Wextra", "-Werror", f"-I{INCLUDE}"]
+    words = [
+        "clang++" if language == "c++" else "clang", "-x", language, "-g", "-O1", "-Wall", "-Wextra", "-Werror",
+        f"-I{INCLUDE}",
+    ]
     words += ["-fsanitize=fuzzer,address,undefined", "-fno-sanitize-recover=undefined", FOLDER / "target.c"]
     words += ["-x", "none", archive, kit() / "c/liblibc_c.a", "-o", program]
     subprocess.run(list(map(str, words)), check=True)
@@ -73,8 +78,14 @@ def main():
         program, corpus = target(folder, given.language, given.inside), unpacked(folder / "corpus")
         words = folder / "words"
         words.write_text("".join('"' + "".join(f"\\x{byte:02x}" for byte in word.encode()) + '"\n' for word in WORDS))
-        options = [f"-dict={words}", f"-max_len={given.length}", f"-max_total_time={given.seconds}", f"-artifact_prefix={found}/", "-timeout=30"]
-        ended = subprocess.run([program, *options, "-print_final_stats=1", corpus], env={**os.environ, "UBSAN_OPTIONS": "print_stacktrace=1"})
+        options = [
+            f"-dict={words}", f"-max_len={given.length}", f"-max_total_time={given.seconds}",
+            f"-artifact_prefix={found}/", "-timeout=30",
+        ]
+        ended = subprocess.run(
+            [program, *options, "-print_final_stats=1", corpus],
+            env={**os.environ, "UBSAN_OPTIONS": "print_stacktrace=1"},
+        )
         if given.keep:
             keep(program, corpus, folder / "kept", given.keep)
         sys.exit(ended.returncode)

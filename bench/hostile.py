@@ -1,17 +1,20 @@
 #!/usr/bin/env python3
-"""Runs `--program`, which is `gqlcst check` unless given, or `gqlfmt` or `gqlcheck`, on hostile texts of some bytes, of twice as many, and so on, and prints a
-table: at each size the program's own seconds and those that the kernel takes for it, how many times the program's own are those of the size before, and the
-peak memory at the last. The kernel's go with the memory: it hands out and clears each page.
+"""Runs `--program`, which is `gqlcst check` unless given, or `gqlfmt` or `gqlcheck`, on hostile texts of some bytes, of
+twice as many, and so on, and prints a table: at each size the program's own seconds and those that the kernel takes for
+it, how many times the program's own are those of the size before, and the peak memory at the last. The kernel's go with
+the memory: it hands out and clears each page.
 
-There are `--sizes` sizes from `--bytes` on, and `--rounds` runs of each in turn, more where they are short. A run counts only on a processor at rest (calm.py).
-A size that would take more than `--gigabytes`, by the memory of the size before, is left out. `--text` is the only text that is run. Ends with status 1 where twice
-a text takes more than 2.2 times the program's own seconds, if the text takes a hundredth of a second or more.
+There are `--sizes` sizes from `--bytes` on, and `--rounds` runs of each in turn, more where they are short. A run
+counts only on a processor at rest (calm.py). A size that would take more than `--gigabytes`, by the memory of the size
+before, is left out. `--text` is the only text that is run. Ends with status 1 where twice a text takes more than 2.2
+times the program's own seconds, if the text takes a hundredth of a second or more.
 
-With `--within` it prints another table, of texts of `--bytes` alone: the shortest, the middle and the longest of `--rounds` runs by the clock, and the memory.
-Every run counts. Ends with status 1 where one takes more than that many seconds.
+With `--within` it prints another table, of texts of `--bytes` alone: the shortest, the middle and the longest of
+`--rounds` runs by the clock, and the memory. Every run counts. Ends with status 1 where one takes more than that many
+seconds.
 
-What a run takes in all is exact. Which part of it is the program's own the kernel finds out by samples, so a single short run says little of that: the
-seconds are those of the shortest run, divided as the sums of all runs are."""
+What a run takes in all is exact. Which part of it is the program's own the kernel finds out by samples, so a single
+short run says little of that: the seconds are those of the shortest run, divided as the sums of all runs are."""
 
 import os
 import sys
@@ -48,7 +51,8 @@ SHORT = 12
 TRIES = 3
 # The kernel's samples are 4 ms apart, so less than this is not compared.
 LEAST = 0.01
-# Texts that nest deeper than the default limit, and the limit with which they are read: 8 MB of stack hold it (bench/stack.py).
+# Texts that nest deeper than the default limit, and the limit with which they are read: 8 MB of stack hold it
+# (bench/stack.py).
 DEPTH = 10_000
 NESTED_TEXTS = {
     "nested selections": lambda n: ("{a" * DEPTH + "}" * DEPTH + "\n") * (n // (3 * DEPTH + 1)),
@@ -91,7 +95,8 @@ def written(folder, make, sizes):
 
 
 def within(command, most, size, rounds, only):
-    """Prints the seconds by the clock and the memory of each text of some bytes. Whether no run took more seconds than `most`."""
+    """Prints the seconds by the clock and the memory of each text of some bytes. Whether no run took more seconds than
+    `most`."""
     slow = False
     print("| | shortest | middle | longest | memory |\n|" + "---|" * 5)
     with tempfile.TemporaryDirectory() as folder:
@@ -107,12 +112,19 @@ def within(command, most, size, rounds, only):
 
 
 def main():
-    given = arguments(__doc__, bytes=6_250_000, sizes=4, rounds=5, gigabytes=10, text=None, program="gqlcst", within=0.0)
+    given = arguments(
+        __doc__, bytes=6_250_000, sizes=4, rounds=5, gigabytes=10, text=None, program="gqlcst", within=0.0
+    )
     program = [built(given.program), *PROGRAMS[given.program]]
     if given.within:
         sys.exit(0 if within(program, given.within, given.bytes, given.rounds, given.text) else 1)
     sizes = [given.bytes * 2**i for i in range(given.sizes)]
-    print("| | " + " | ".join(f"{size / 1e6:g} MB" for size in sizes) + " | times | memory |\n|" + "---|" * (len(sizes) + 3))
+    print(
+        "| | "
+        + " | ".join(f"{size / 1e6:g} MB" for size in sizes)
+        + " | times | memory |\n|"
+        + "---|" * (len(sizes) + 3)
+    )
     slow, processors = False, Processors()
     with tempfile.TemporaryDirectory() as folder:
         for name, make in (TEXTS | NESTED_TEXTS).items():

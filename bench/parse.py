@@ -1,6 +1,7 @@
 #!/usr/bin/env python3
-"""Measures `gqlcst`, and lexer, parser and a walk over the typed tree through the Rust crate, where there is cargo, and the original beside them in the same run, if
-it is built (bench/original/README.md). Prints the tables of docs/SPEED.md: best and median, and how many times as fast as the original.
+"""Measures `gqlcst`, and lexer, parser and a walk over the typed tree through the Rust crate, where there is cargo, and
+the original beside them in the same run, if it is built (bench/original/README.md). Prints the tables of docs/SPEED.md:
+best and median, and how many times as fast as the original.
 
 A run counts only on a processor at rest (calm.py). The number of those that did not count is printed."""
 
@@ -23,7 +24,8 @@ def figures(values, digits=1):
 
 
 def row(name, ours, theirs):
-    """A line of a table: milliseconds of ours, of the original where there are some, and how many times as fast ours are."""
+    """A line of a table: milliseconds of ours, of the original where there are some, and how many times as fast ours
+    are."""
     cells = [name, figures(ours)]
     if theirs:
         times = min(theirs) / min(ours), statistics.median(theirs) / statistics.median(ours)
@@ -39,18 +41,32 @@ def steps(runs, step):
 
 def table(processors, kind, path, count, crate):
     """The table of a text. `crate` has the programs over the Rust crate: to measure, to parse once, and to walk."""
-    print(f"\n| {path.stat().st_size / 1e6:.1f} MB of {kind} | Dumyroke |" + (" original | times |" if ORIGINAL else "") + "\n|---|---|" + "---|---|" * bool(ORIGINAL))
+    print(
+        f"\n| {path.stat().st_size / 1e6:.1f} MB of {kind} | Dumyroke |"
+        + (" original | times |" if ORIGINAL else "")
+        + "\n|---|---|"
+        + "---|---|" * bool(ORIGINAL)
+    )
     if crate:
         ours, *theirs = rounds_of(processors, [[crate[0]]] + [[ORIGINAL / "measure"]] * bool(ORIGINAL), path, count)
         for name, step in [("the lexer's items", "lex"), ("parse", "parse")]:
             row(name, steps(ours, step), steps([run for runs in theirs for run in runs], step))
     peaks = []
     for mode in ["check", "tokens", "tree"]:
-        ours, *theirs = rounds_of(processors, [[built("gqlcst"), mode]] + [[ORIGINAL / "gqlcst", mode]] * bool(ORIGINAL), path, count)
-        row(f"`gqlcst {mode}`", [1000 * run.seconds for run in ours], [1000 * run.seconds for runs in theirs for run in runs])
+        ours, *theirs = rounds_of(
+            processors, [[built("gqlcst"), mode]] + [[ORIGINAL / "gqlcst", mode]] * bool(ORIGINAL), path, count
+        )
+        row(
+            f"`gqlcst {mode}`",
+            [1000 * run.seconds for run in ours],
+            [1000 * run.seconds for runs in theirs for run in runs],
+        )
         peaks.append(f"{mode} " + peak([ours, *theirs]))
     if crate:
-        peaks.append("a parse through the Rust crate " + peak(rounds_of(processors, [[crate[1], 1]] + [[ORIGINAL / "small", 1]] * bool(ORIGINAL), path, count)))
+        peaks.append(
+            "a parse through the Rust crate "
+            + peak(rounds_of(processors, [[crate[1], 1]] + [[ORIGINAL / "small", 1]] * bool(ORIGINAL), path, count))
+        )
     print(f"\nPeak memory in MB: {', '.join(peaks)}")
 
 
@@ -64,8 +80,13 @@ def walk(processors, path, count, crate):
     programs = {"the Rust crate": [crate[2]]}
     if ORIGINAL:
         programs["the original"] = [ORIGINAL / "walk"]
-    speeds = [[int(run.told.split()[0]) for run in runs] for runs in rounds_of(processors, programs.values(), path, count)]
-    print("\nThe walk in MB/s: " + "; ".join(f"{name} {max(each)}, {statistics.median(each):.0f}" for name, each in zip(programs, speeds)))
+    speeds = [
+        [int(run.told.split()[0]) for run in runs] for runs in rounds_of(processors, programs.values(), path, count)
+    ]
+    print(
+        "\nThe walk in MB/s: "
+        + "; ".join(f"{name} {max(each)}, {statistics.median(each):.0f}" for name, each in zip(programs, speeds))
+    )
 
 
 def main():

@@ -1,5 +1,5 @@
-// Parses and prints standard input by graphql-js 16, from Debian's package node-graphql or the folder that GRAPHQL names. On standard error: how many
-// milliseconds parse and print took.
+// Parses and prints standard input by graphql-js 16, from Debian's package node-graphql or the folder that GRAPHQL
+// names. On standard error: how many milliseconds parse and print took.
 "use strict";
 
 const { readFileSync } = require("fs");

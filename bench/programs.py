@@ -23,7 +23,8 @@ def built(name):
 
 
 def over_the_crate(folder, *names):
-    """The original's programs of these names, built in the folder over the Rust crate of this repository, which has the same interface."""
+    """The original's programs of these names, built in the folder over the Rust crate of this repository, which has the
+    same interface."""
     programs = "".join(f"""
 [[bin]]
 name = "{name}"
@@ -39,7 +40,12 @@ apollo-parser = {{ package = "dumyroke", path = "{TOP / "bindings/rust"}" }}
 {programs}
 [workspace]
 """)
-    subprocess.run(["cargo", "build", "--quiet", "--release", "--offline"], cwd=folder, check=True, env={**os.environ, "DUMYROKE_LIB_DIR": str(TOP / "build")})
+    subprocess.run(
+        ["cargo", "build", "--quiet", "--release", "--offline"],
+        cwd=folder,
+        check=True,
+        env={**os.environ, "DUMYROKE_LIB_DIR": str(TOP / "build")},
+    )
     return [folder / "target/release" / name for name in names]
 
 
@@ -47,27 +53,38 @@ def arguments(about, **defaults):
     """The words of a script. Each is an option with a default, whose type is the option's."""
     parser = argparse.ArgumentParser(description=about, formatter_class=argparse.RawDescriptionHelpFormatter)
     for name, default in defaults.items():
-        several = {"nargs": "+", "type": type(default[0])} if isinstance(default, list) else {"type": type(default) if default is not None else str}
-        shown = "" if default is None else f"{' '.join(map(str, default)) if isinstance(default, list) else default} unless given"
+        several = (
+            {"nargs": "+", "type": type(default[0])}
+            if isinstance(default, list)
+            else {"type": type(default) if default is not None else str}
+        )
+        shown = (
+            ""
+            if default is None
+            else f"{' '.join(map(str, default)) if isinstance(default, list) else default} unless given"
+        )
         parser.add_argument(f"--{name}", default=default, help=shown, **several)
     return parser.parse_args()
 
 
 def made_text(path, kind, size=5_000_000):
-    """The file, with a text of text.py. The text is never in this process, since its memory would count for those that it starts."""
+    """The file, with a text of text.py. The text is never in this process, since its memory would count for those that
+    it starts."""
     with open(path, "w") as target:
         subprocess.run([sys.executable, HERE / "text.py", kind, str(size)], stdout=target, check=True)
     return path
 
 
 class Run:
-    """One run of a program on a file: the seconds by the clock, those of the program itself and of the kernel for it, the greatest memory in bytes, and what
-    it wrote on standard error."""
+    """One run of a program on a file: the seconds by the clock, those of the program itself and of the kernel for it,
+    the greatest memory in bytes, and what it wrote on standard error."""
 
     def __init__(self, command, path):
         with open(path) as source, open(os.devnull, "w") as sink:
             started = time.perf_counter()
-            process = subprocess.Popen(list(map(str, command)), stdin=source, stdout=sink, stderr=subprocess.PIPE, text=True)
+            process = subprocess.Popen(
+                list(map(str, command)), stdin=source, stdout=sink, stderr=subprocess.PIPE, text=True
+            )
             self.told = process.stderr.read()
             _, self.status, usage = os.wait4(process.pid, 0)
             self.seconds = time.perf_counter() - started

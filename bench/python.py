@@ -1,6 +1,7 @@
 #!/usr/bin/env python3
-"""Measures the Python package, and graphql-core where it is installed: the best and the median processor time in milliseconds, of `--rounds` calls in turn, on
-the file `--text`, or on `text.py queries` unless it is given. graphql-core before 3 reads no block strings and no `null`: both are replaced in its text."""
+"""Measures the Python package, and graphql-core where it is installed: the best and the median processor time in
+milliseconds, of `--rounds` calls in turn, on the file `--text`, or on `text.py queries` unless it is given.
+graphql-core before 3 reads no block strings and no `null`: both are replaced in its text."""
 
 import re
 import statistics
@@ -23,13 +24,18 @@ def nodes_below(node):
 def ours(text):
     """The calls of the package that are measured, by their names."""
     tree = dumyroke.parse(text)
-    print(f"{len(tree)} elements, {nodes_below(tree.root)} nodes, {len(tree.find(dumyroke.nodes.Field))} fields, {len(tree.errors)} errors")
+    print(
+        f"{len(tree)} elements, {nodes_below(tree.root)} nodes, {len(tree.find(dumyroke.nodes.Field))} fields,"
+        f" {len(tree.errors)} errors"
+    )
     return {
         "dumyroke: errors (`check`)": lambda: dumyroke.check(text),
         "dumyroke: tree and errors (`parse`)": lambda: dumyroke.parse(text),
         "dumyroke: all nodes, by recursion over `children`": lambda: nodes_below(tree.root),
         "dumyroke: all nodes, by `descendants`": lambda: sum(1 for _ in tree.root.descendants),
-        "dumyroke: the names of all fields, by `find`": lambda: [it.name.text for it in tree.find(dumyroke.nodes.Field)],
+        "dumyroke: the names of all fields, by `find`": lambda: [
+            it.name.text for it in tree.find(dumyroke.nodes.Field)
+        ],
     }
 
 
@@ -79,7 +85,9 @@ def in_turn(calls, rounds):
 def main():
     given = arguments(__doc__, text=None, rounds=5)
     made = [sys.executable, HERE / "text.py", "queries"]
-    text = (Path(given.text).read_bytes() if given.text else subprocess.run(made, stdout=subprocess.PIPE, check=True).stdout).decode()
+    text = (
+        Path(given.text).read_bytes() if given.text else subprocess.run(made, stdout=subprocess.PIPE, check=True).stdout
+    ).decode()
     print(f"{len(text.encode())} bytes, Python {sys.version.split()[0]}")
     in_turn({**ours(text), **theirs(text)}, given.rounds)
 

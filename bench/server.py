@@ -1,10 +1,11 @@
 #!/usr/bin/env python3
-"""Measures gqlls on a schema of 1 MB, in many lines and in one: the time from an edit to its errors, the memory, and the times of the requests. Prints two tables
-for docs/SPEED.md.
+"""Measures gqlls on a schema of 1 MB, in many lines and in one: the time from an edit to its errors, the memory, and
+the times of the requests. Prints two tables for docs/SPEED.md.
 
-There are `--edits` edits in the middle of the schema; every second one makes errors, and the next takes them away. Ends with status 1 where the median of the
-times is above 60 milliseconds, or the memory above 40 bytes for each byte of the text. A time is from the first byte that is sent to the last that is received:
-the client makes JSON of a message before, and reads it after. The server's own time is on the processor, so no other work of the machine lengthens it."""
+There are `--edits` edits in the middle of the schema; every second one makes errors, and the next takes them away. Ends
+with status 1 where the median of the times is above 60 milliseconds, or the memory above 40 bytes for each byte of the
+text. A time is from the first byte that is sent to the last that is received: the client makes JSON of a message
+before, and reads it after. The server's own time is on the processor, so no other work of the machine lengthens it."""
 
 import json
 import statistics
@@ -13,7 +14,7 @@ import time
 
 from programs import TOP, arguments, built
 
-sys.path.insert(0, str(TOP / "tools/editor"))
+sys.path.insert(0, str(TOP / "tests/editors"))
 from client import Client  # noqa: E402
 
 MOST_MILLISECONDS = 60
@@ -62,7 +63,10 @@ def edits(client, line, character, count):
     times, own = [], []
     for version in range(1, count + 1):
         is_fault = version % 2
-        change = {"range": {"start": at(line, character), "end": at(line, character + 1 - is_fault)}, "text": "!" * is_fault}
+        change = {
+            "range": {"start": at(line, character), "end": at(line, character + 1 - is_fault)},
+            "text": "!" * is_fault,
+        }
         before = processor(client)
         spent, said = timed(client, "didChange", textDocument={"uri": URI, "version": version}, contentChanges=[change])
         assert said["params"]["version"] == version and bool(said["params"]["diagnostics"]) == bool(is_fault)
@@ -75,9 +79,19 @@ def requests(client, line, character):
     """The features with their times, for a type's name at a place, or for a screen of lines there."""
     place = {"position": at(line, character)}
     part = {"range": {"start": at(line, 0), "end": at(line + 60, 0)}}
-    asked = [("documentSymbol", {}), ("foldingRange", {}), ("semanticTokens/full", {}), ("semanticTokens/range", part), ("selectionRange", {"positions": [at(line, character)]}),
-             ("definition", place), ("references", {**place, "context": {"includeDeclaration": True}}), ("hover", place), ("completion", place), ("rangeFormatting", part),
-             ("formatting", {})]
+    asked = [
+        ("documentSymbol", {}),
+        ("foldingRange", {}),
+        ("semanticTokens/full", {}),
+        ("semanticTokens/range", part),
+        ("selectionRange", {"positions": [at(line, character)]}),
+        ("definition", place),
+        ("references", {**place, "context": {"includeDeclaration": True}}),
+        ("hover", place),
+        ("completion", place),
+        ("rangeFormatting", part),
+        ("formatting", {}),
+    ]
     for feature, params in asked:
         answers = [timed(client, feature, textDocument={"uri": URI}, **params) for _ in range(5)]
         assert all(answer.get("result") for _, answer in answers)
@@ -89,11 +103,16 @@ def measured(program, name, text, line, character, count):
     client = Client(program)
     client.initialize()
     before = memory(client)
-    opened, said = timed(client, "didOpen", textDocument={"uri": URI, "languageId": "graphql", "version": 0, "text": text})
+    opened, said = timed(
+        client, "didOpen", textDocument={"uri": URI, "languageId": "graphql", "version": 0, "text": text}
+    )
     assert said["params"]["diagnostics"] == []
     times, own = edits(client, line, character, count)
     median, used = statistics.median(times), (memory(client) - before) / len(text.encode())
-    row = f"| {name}, {len(text) / 1e6:.2f} MB | {opened:.0f} | {median:.0f} | {max(times):.0f} | {max(own):.0f} | {used:.1f} |"
+    row = (
+        f"| {name}, {len(text) / 1e6:.2f} MB | {opened:.0f} | {median:.0f} | {max(times):.0f} | {max(own):.0f} |"
+        f" {used:.1f} |"
+    )
     return client, before, row, median <= MOST_MILLISECONDS and used <= MOST_BYTES
 
 
@@ -106,7 +125,10 @@ def main():
     client, before, first, is_fast = measured(program, "many lines", many, line, character, count)
     other, _, second, is_fast_too = measured(program, "one line", one, 0, one.index(" T3200 "), count)
     other.end()
-    print(f"| | to open it | an edit, median of {count} | longest | longest of its own | memory, bytes a byte of text |\n|---|---|---|---|---|---|")
+    print(
+        f"| | to open it | an edit, median of {count} | longest | longest of its own | memory, bytes a byte of text"
+        " |\n|---|---|---|---|---|---|"
+    )
     print(f"{first}\n{second}")
     print("\n| request | |\n|---|---|")
     for feature, spent in requests(client, line, character):

@@ -1,5 +1,6 @@
-// Parses the text on standard input as often as the command line says, by graphql-js 16, which is looked for as in print.js. Prints the nanoseconds by the
-// clock and the errors, of which there are none: parse throws. Parses before the first that counts have node compile it.
+// Parses the text on standard input as often as the command line says, by graphql-js 16, which is looked for as in
+// print.js. Prints the nanoseconds by the clock and the errors, of which there are none: parse throws. Parses before
+// the first that counts have node compile it.
 "use strict";
 
 const { readFileSync } = require("fs");

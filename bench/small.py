@@ -1,8 +1,9 @@
 #!/usr/bin/env python3
-"""Measures queries as a gateway gets them, each parsed many times through C, the Rust crate and Python, as tools/bindings has built them, and beside them by
-the original, if it is built (bench/original/README.md), and by graphql-core and graphql-js, where they are installed. Prints microseconds a parse, best and
-median of `--rounds` runs in turn, which make `--parses` parses each. The slow ones make fewer: Python a tenth, graphql-core and graphql-js a fiftieth. The
-last lines are walks over the typed tree.
+"""Measures queries as a gateway gets them, each parsed many times through C, the Rust crate and Python, as
+`./do bindings` has built them, and beside them by the original, if it is built (bench/original/README.md), and by
+graphql-core and graphql-js, where they are installed. Prints microseconds a parse, best and median of `--rounds` runs
+in turn, which make `--parses` parses each. The slow ones make fewer: Python a tenth, graphql-core and graphql-js a
+fiftieth. The last lines are walks over the typed tree.
 
 A run counts only on a processor at rest (calm.py). The number of those that did not count is printed."""
 
@@ -75,7 +76,9 @@ def texts():
 
 def compiled(folder):
     """The program for C."""
-    flags = subprocess.run([TOP / "tools/bindings", "flags"], stdout=subprocess.PIPE, check=True, text=True).stdout.split()
+    flags = subprocess.run(
+        [TOP / "release/bindings/run", "flags"], stdout=subprocess.PIPE, check=True, text=True
+    ).stdout.split()
     subprocess.run(["gcc", "-O2", HERE / "small.c", *flags, "-o", folder / "small"], check=True)
     return folder / "small"
 
@@ -85,7 +88,9 @@ def by_program(*command):
     there = {**os.environ, "LD_LIBRARY_PATH": str(TOP / "build")}
 
     def run(text, parses):
-        ended = subprocess.run([*command, str(parses)], input=text, capture_output=True, check=True, text=True, env=there)
+        ended = subprocess.run(
+            [*command, str(parses)], input=text, capture_output=True, check=True, text=True, env=there
+        )
         nanoseconds, errors = map(int, ended.stdout.partition(":")[0].split())
         if errors:
             sys.exit(f"{command[0]} finds errors")
@@ -141,10 +146,14 @@ def main():
         for number, text in enumerate(all_texts):
             for _ in range(given.rounds):
                 for way, (run, fewer) in found.items():
-                    times.setdefault((way, number), []).append(processors.once(run, text, max(given.parses // fewer, 1)))
+                    times.setdefault((way, number), []).append(
+                        processors.once(run, text, max(given.parses // fewer, 1))
+                    )
         for way in found:
             cells = (times[way, number] for number in range(len(all_texts)))
-            print(f"| {way} | " + " | ".join(f"{min(each):.2f}, {statistics.median(each):.2f}" for each in cells) + " |")
+            print(
+                f"| {way} | " + " | ".join(f"{min(each):.2f}, {statistics.median(each):.2f}" for each in cells) + " |"
+            )
     print(f"\n{processors.summary()}")
 
 

@@ -1,6 +1,6 @@
 #!/usr/bin/env python3
-"""Finds how deep a text may nest until `gqlcst check` runs out of stack, and prints a table: for each shape of text the levels that each stack holds, and
-the bytes of a level.
+"""Finds how deep a text may nest until `gqlcst check` runs out of stack, and prints a table: for each shape of text the
+levels that each stack holds, and the bytes of a level.
 
 `--stacks` are the stacks in MB."""
 
@@ -28,7 +28,9 @@ def holds(program, text, stack):
     def set_stack():
         resource.setrlimit(resource.RLIMIT_STACK, (stack, resource.RLIM_INFINITY))
 
-    ended = subprocess.run([program, "check", "--recursion", NO_LIMIT], input=text.encode(), capture_output=True, preexec_fn=set_stack)
+    ended = subprocess.run(
+        [program, "check", "--recursion", NO_LIMIT], input=text.encode(), capture_output=True, preexec_fn=set_stack
+    )
     return ended.stdout == b"clean\n"
 
 
@@ -49,7 +51,11 @@ def main():
     for name, shape in SHAPES.items():
         levels = [deepest(program, shape, size * 2**20) for size in stacks]
         # the bytes that the largest stack has more than the smallest
-        more = (stacks[-1] - stacks[0]) * 2**20 / (levels[-1] - levels[0]) if len(stacks) > 1 else stacks[0] * 2**20 / levels[0]
+        more = (
+            (stacks[-1] - stacks[0]) * 2**20 / (levels[-1] - levels[0])
+            if len(stacks) > 1
+            else stacks[0] * 2**20 / levels[0]
+        )
         print(f"| {name} | " + " | ".join(f"{count:,}" for count in levels) + f" | {more:.0f} |", flush=True)
 
 

@@ -1,8 +1,9 @@
 #!/usr/bin/env python3
 """Prints a GraphQL document of about N bytes (5,000,000 unless given): text.py queries|orders|schema|described [N].
 
-queries: operations and fragments alone. orders: operations with many arguments and strings. schema: type definitions with descriptions, comments,
-arguments and directives. described: definitions of which half of the text is descriptions, as schemas for the public have them."""
+queries: operations and fragments alone. orders: operations with many arguments and strings. schema: type definitions
+with descriptions, comments, arguments and directives. described: definitions of which half of the text is descriptions,
+as schemas for the public have them."""
 import sys
 
 QUERIES = '''query Introspection_%(i)d {

@@ -1,7 +1,8 @@
 #!/usr/bin/env python3
-"""Measures how `check` and `parse` of the Python package scale: how many calls a second some threads make together, and some processes, and how many times the
-calls of one these are. A call lets other threads run while it is in the library. There are up to `--workers` workers, the processors of this process unless
-given; each makes `--calls` calls on `--bytes` bytes of queries, and of `--rounds` rounds the best one counts. Other work on the machine spoils the table, so
+"""Measures how `check` and `parse` of the Python package scale: how many calls a second some threads make together, and
+some processes, and how many times the calls of one these are. A call lets other threads run while it is in the library.
+There are up to `--workers` workers, the processors of this process unless given; each makes `--calls` calls on
+`--bytes` bytes of queries, and of `--rounds` rounds the best one counts. Other work on the machine spoils the table, so
 its load is printed, too."""
 
 import multiprocessing
@@ -49,14 +50,19 @@ def rate(kind, count, call, text, calls):
 
 def main():
     given = arguments(__doc__, workers=len(os.sched_getaffinity(0)), calls=100, bytes=200_000, rounds=5)
-    text = subprocess.run([sys.executable, HERE / "text.py", "queries", str(given.bytes)], stdout=subprocess.PIPE, check=True).stdout
+    text = subprocess.run(
+        [sys.executable, HERE / "text.py", "queries", str(given.bytes)], stdout=subprocess.PIPE, check=True
+    ).stdout
     counts = range(1, given.workers + 1)
     print(f"load {os.getloadavg()[0]:.1f} on {os.cpu_count()} processors, {len(text)} bytes\n")
     print("| workers | " + " | ".join(map(str, counts)) + " |\n|" + "---|" * (len(counts) + 1))
     for name, call in (("check", dumyroke.check), ("parse", dumyroke.parse)):
         for kind in WORKERS:
             best = [max(rate(kind, count, call, text, given.calls) for _ in range(given.rounds)) for count in counts]
-            print(f"| `{name}`, {kind} | " + " | ".join(f"{each:.0f} ({each / best[0]:.2f})" for each in best) + " |", flush=True)
+            print(
+                f"| `{name}`, {kind} | " + " | ".join(f"{each:.0f} ({each / best[0]:.2f})" for each in best) + " |",
+                flush=True,
+            )
 
 
 if __name__ == "__main__":

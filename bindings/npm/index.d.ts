@@ -2,8 +2,8 @@
 import type { Kind } from "./kinds.js";
 export type { Kind };
 
-/** Loads the parser from `dumyroke.wasm` beside the package's files, or from a source: the URL of that file, its bytes, or the compiled module. It fails where
- * the engine has no 64-bit memory for WebAssembly. */
+/** Loads the parser from `dumyroke.wasm` beside the package's files, or from a source: the URL of that file, its bytes,
+ * or the compiled module. It fails where the engine has no 64-bit memory for WebAssembly. */
 export function load(source?: URL | string | BufferSource | WebAssembly.Module): Promise<Parser>;
 
 /** Whether the engine has 64-bit memory for WebAssembly. */
@@ -31,7 +31,8 @@ export const STATUS: {
   readonly UNDEFINED: number;
 };
 
-/** A whole number from 0 on, or null or Infinity for no limit. Another one is a RangeError, and what is no number a TypeError. */
+/** A whole number from 0 on, or null or Infinity for no limit. Another one is a RangeError, and what is no number a
+ * TypeError. */
 export type Count = number | bigint | null;
 
 export interface Limits {
@@ -80,7 +81,8 @@ export interface Place {
   end: number;
 }
 
-/** How large an operation is with the selections of its fragment in place of each fragment spread. A figure stops at 2n ** 64n - 1n. */
+/** How large an operation is with the selections of its fragment in place of each fragment spread. A figure stops at
+ * 2n ** 64n - 1n. */
 export interface Operation extends Place {
   /** Its name, or null where it has none. */
   name: string | null;
@@ -92,9 +94,11 @@ export interface Operation extends Place {
   rootFields: bigint;
   /** The number of aliases. */
   aliases: bigint;
-  /** The number of directives: of the operation, its variables, its selections, and its fragments at each of their spreads. */
+  /** The number of directives: of the operation, its variables, its selections, and its fragments at each of their
+   * spreads. */
   directives: bigint;
-  /** The number of fields, where each selection set, also of a fragment, counts a response name once. Apollo Router limits it as `max_height`. */
+  /** The number of fields, where each selection set, also of a fragment, counts a response name once. Apollo Router
+   * limits it as `max_height`. */
   height: bigint;
   /** The number of root fields, counted like `height`. */
   distinctRootFields: bigint;
@@ -116,13 +120,14 @@ export interface Measured {
 export class Parser {
   /** A parser without a wait, as `new Parser(new WebAssembly.Module(bytes))`. */
   constructor(module: WebAssembly.Module);
-  /** Parses any text. RangeError or WebAssembly.RuntimeError is thrown where the engine's stack or memory is too small. */
+  /** Parses any text. RangeError or WebAssembly.RuntimeError is thrown where the engine's stack or memory is too
+   * small. */
   parse(text: string, limits?: Limits, mostErrors?: Count): Parsed;
-  /** Formats a document. One with errors has the status NOT_A_DOCUMENT, and one whose formatted text has more than `mostBytes` bytes NO_ROOM: if not given,
-   * 64 MiB, or 16 for each character of the text, if that is more. */
+  /** Formats a document. One with errors has the status NOT_A_DOCUMENT, and one whose formatted text has more than
+   * `mostBytes` bytes NO_ROOM: if not given, 64 MiB, or 16 for each character of the text, if that is more. */
   format(text: string, limits?: Limits, mostBytes?: Count): Written;
-  /** Measures the operations of a document, all of them or the first `mostOperations`. One with errors has the status NOT_A_DOCUMENT. It takes no longer for a
-   * document that expands to very many fields. */
+  /** Measures the operations of a document, all of them or the first `mostOperations`. One with errors has the status
+   * NOT_A_DOCUMENT. It takes no longer for a document that expands to very many fields. */
   measure(text: string, limits?: Limits, mostOperations?: Count): Measured;
   /** The value of a string literal with its quotes. */
   stringValue(literal: string): Written;

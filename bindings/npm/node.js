@@ -6,7 +6,8 @@ import { compiled, fetched } from "./source.js";
 
 export * from "./calls.js";
 
-// Before version 24, node has 64-bit memory for WebAssembly behind a flag, which may be set at any time before the module is compiled.
+// Before version 24, node has 64-bit memory for WebAssembly behind a flag, which may be set at any time before the
+// module is compiled.
 if (!isSupported()) setFlagsFromString("--experimental-wasm-memory64");
 
 function read(source) {

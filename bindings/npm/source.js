@@ -1,6 +1,7 @@
 // Where the module of the parser comes from.
 
-// The bytes at a URL. `WebAssembly.compileStreaming` would refuse them from servers that do not send the MIME type of WebAssembly.
+// The bytes at a URL. `WebAssembly.compileStreaming` would refuse them from servers that do not send the MIME type of
+// WebAssembly.
 export async function fetched(url) {
   const response = await fetch(url);
   if (!response.ok) throw new Error(`${url} has no module: status ${response.status}`);

@@ -1,4 +1,5 @@
-"""Makes the wheel, without setuptools: what `pip install ./bindings/python` calls (PEP 517). The library has to be in the package: tools/bindings puts it there."""
+"""Makes the wheel, without setuptools: what `pip install ./bindings/python` calls (PEP 517). The library has to be in
+the package: `./do bindings` puts it there."""
 
 import base64
 import hashlib
@@ -20,7 +21,9 @@ def project(field):
 
 def author():
     """The name and the address of the author."""
-    return re.search(r'^authors = \[\{ name = "(.*)", email = "(.*)" \}\]$', (FOLDER / "pyproject.toml").read_text(), re.MULTILINE).groups()
+    return re.search(
+        r'^authors = \[\{ name = "(.*)", email = "(.*)" \}\]$', (FOLDER / "pyproject.toml").read_text(), re.MULTILINE
+    ).groups()
 
 
 def tag():
@@ -32,12 +35,15 @@ def licences():
     """The files of the licences. They are at the top of the repository."""
     missing = [name for name in project("license-files") if not (TOP / name).exists()]
     if missing:
-        raise SystemExit(f"bindings/python is not in its repository: there is no {' and no '.join(missing)} two folders above it")
+        raise SystemExit(
+            f"bindings/python is not in its repository: there is no {' and no '.join(missing)} two folders above it"
+        )
     return [TOP / name for name in project("license-files")]
 
 
 def metadata():
-    """The form of Metadata 2.1 (Python Packaging User Guide, "Core metadata specifications"), with the README as the text."""
+    """The form of Metadata 2.1 (Python Packaging User Guide, "Core metadata specifications"), with the README as the
+    text."""
     name, address = author()
     addresses = [f"{label}, {project(label)}" for label in ("Homepage", "Repository", "Issues", "Documentation")]
     fields = [
@@ -61,7 +67,7 @@ def metadata():
 def files():
     """The files of the package and their bytes, by their names in the wheel."""
     if not (PACKAGE / "libdumyroke.so").exists():
-        raise SystemExit("bindings/python/dumyroke/libdumyroke.so is missing: tools/bindings makes it")
+        raise SystemExit("bindings/python/dumyroke/libdumyroke.so is missing: `./do bindings` makes it")
     wanted = (path for path in sorted(PACKAGE.iterdir()) if path.suffix in (".py", ".so", ".typed"))
     return {f"dumyroke/{path.name}": path.read_bytes() for path in wanted}
 
@@ -77,7 +83,9 @@ def build_wheel(wheel_directory, config_settings=None, metadata_directory=None):
     name = f"{project('name')}-{project('version')}"
     content = files()
     content[f"{name}.dist-info/METADATA"] = metadata().encode()
-    content[f"{name}.dist-info/WHEEL"] = f"Wheel-Version: 1.0\nGenerator: dumyroke\nRoot-Is-Purelib: false\nTag: {tag()}\n".encode()
+    content[
+        f"{name}.dist-info/WHEEL"
+    ] = f"Wheel-Version: 1.0\nGenerator: dumyroke\nRoot-Is-Purelib: false\nTag: {tag()}\n".encode()
     content |= {f"{name}.dist-info/{path.name}": path.read_bytes() for path in [*licences(), TOP / "CHANGELOG.md"]}
     record = f"{name}.dist-info/RECORD"
     lines = "".join(recorded(*item) for item in content.items())

@@ -29,7 +29,10 @@ enum Episode { NEW_HOPE, JEDI }
 input Filter { name: String = "é", deep: [[Int!]] }
 directive @link repeatable on SCHEMA | FIELD
 '''
-QUERY = 'query Q($id: ID! = 1) { hero: character(id: $id, tags: ["a", true, 1.5, null, JEDI, {x: 2}]) { ...F @skip(if: true) ... on Hero { name } } }'
+QUERY = (
+    'query Q($id: ID! = 1) { hero: character(id: $id, tags: ["a", true, 1.5, null, JEDI, {x: 2}]) { ...F @skip(if:'
+    " true) ... on Hero { name } } }"
+)
 
 
 def names(elements):
@@ -39,13 +42,18 @@ def names(elements):
 class Trees(unittest.TestCase):
     def test_tree(self):
         tree = dumyroke.parse("scalar")
-        self.assertEqual([repr(it) for it in tree.root.descendants_with_tokens], ["<DOCUMENT 0..6>", "<SCALAR_TYPE_DEFINITION 0..6>", "<scalar_KW 0..6>"])
+        self.assertEqual(
+            [repr(it) for it in tree.root.descendants_with_tokens],
+            ["<DOCUMENT 0..6>", "<SCALAR_TYPE_DEFINITION 0..6>", "<scalar_KW 0..6>"],
+        )
         self.assertEqual([str(error) for error in tree.errors], ["1:7: expected a Name"])
         self.assertEqual((len(tree), tree.recursion_high, tree.root), (3, 0, tree.document))
 
     def test_empty(self):
         tree = dumyroke.parse("")
-        self.assertEqual((len(tree), tree.text, tree.root.children, tree.root.parent, len(tree.errors)), (1, "", [], None, 1))
+        self.assertEqual(
+            (len(tree), tree.text, tree.root.children, tree.root.parent, len(tree.errors)), (1, "", [], None, 1)
+        )
 
     def test_no_errors(self):
         self.assertEqual([*dumyroke.parse(SCHEMA).errors, *dumyroke.parse(QUERY).errors], [])
@@ -60,7 +68,9 @@ class Trees(unittest.TestCase):
                 if isinstance(element, dumyroke.Node):
                     children = element.children_with_tokens
                     self.assertTrue(all(child.parent == element for child in children))
-                    self.assertEqual(element.children, [child for child in children if isinstance(child, dumyroke.Node)])
+                    self.assertEqual(
+                        element.children, [child for child in children if isinstance(child, dumyroke.Node)]
+                    )
                     self.assertEqual("".join(child.text for child in children), element.text)
 
     def test_descendants(self):
@@ -92,7 +102,10 @@ class Trees(unittest.TestCase):
 
     def test_lossless(self):
         choose = random.Random(7).choice
-        parts = ["{", "}", "a ", '"', "é", "(", ")", ":", "$", "#x\n", "...", "on ", "1", ",", '"""', "type ", "@", "𝄞", "\r\n", "\0"]
+        parts = [
+            "{", "}", "a ", '"', "é", "(", ")", ":", "$", "#x\n", "...", "on ", "1", ",", '"""', "type ", "@", "𝄞",
+            "\r\n", "\0",
+        ]
         for _ in range(200):
             text = "".join(choose(parts) for _ in range(40))
             tree = dumyroke.parse(text)
@@ -112,8 +125,13 @@ class Parts(unittest.TestCase):
     def test_types(self):
         tree = dumyroke.parse_type("[Int!]! = 3")
         self.assertEqual((tree.errors, type(tree.root), tree.root.list_type.text), ([], nodes.NonNullType, "[Int!]"))
-        self.assertEqual((type(tree.root.type), tree.root.type, tree.root.type.type.type.name.text), (nodes.ListType, tree.root.list_type, "Int"))
-        self.assertEqual([str(error) for error in dumyroke.parse_type("[Int").errors], ["1:5: expected R_BRACK, got EOF"])
+        self.assertEqual(
+            (type(tree.root.type), tree.root.type, tree.root.type.type.type.name.text),
+            (nodes.ListType, tree.root.list_type, "Int"),
+        )
+        self.assertEqual(
+            [str(error) for error in dumyroke.parse_type("[Int").errors], ["1:5: expected R_BRACK, got EOF"]
+        )
         self.assertTrue(dumyroke.parse_type("[[A]]", token_limit=2).errors[0].is_limit)
 
     def test_no_type(self):
@@ -121,24 +139,37 @@ class Parts(unittest.TestCase):
         (leaf,) = tree.root.children_with_tokens
         self.assertEqual((type(tree.root), tree.root.kind, len(tree.errors)), (dumyroke.Node, "ERROR", 1))
         self.assertEqual((type(leaf), leaf.text, leaf.parent), (dumyroke.Token, ")", tree.root))
-        self.assertEqual((type(leaf.parent), list(tree.root.descendants), tree.find("ERROR")), (dumyroke.Node, [tree.root], [leaf]))
+        self.assertEqual(
+            (type(leaf.parent), list(tree.root.descendants), tree.find("ERROR")), (dumyroke.Node, [tree.root], [leaf])
+        )
 
 
 class Items(unittest.TestCase):
     def test_items(self):
         text = 'query{é ..,"x"1 1.5#c'
         items = dumyroke.lex(text)
-        self.assertEqual([item.kind for item in items], "IDENT L_CURLY ERROR WHITESPACE ERROR COMMA STRING INT WHITESPACE FLOAT COMMENT".split())
+        self.assertEqual(
+            [item.kind for item in items],
+            "IDENT L_CURLY ERROR WHITESPACE ERROR COMMA STRING INT WHITESPACE FLOAT COMMENT".split(),
+        )
         self.assertEqual("".join(map(str, items)), text)
         self.assertEqual([item.text for item in items if item.error], ["é", ".."])
-        self.assertTrue(all((item.text, item.range) == (item.error.data, item.error.range) for item in items if item.error))
-        self.assertEqual((items[3].range, items[3].span, items[3].position), ((8, 9), (7, 8), dumyroke.Position(1, 8, 9)))
+        self.assertTrue(
+            all((item.text, item.range) == (item.error.data, item.error.range) for item in items if item.error)
+        )
+        self.assertEqual(
+            (items[3].range, items[3].span, items[3].position), ((8, 9), (7, 8), dumyroke.Position(1, 8, 9))
+        )
 
     def test_limits(self):
         self.assertEqual(dumyroke.lex(""), [])
-        self.assertEqual(list(map(repr, dumyroke.lex("{a}", token_limit=4))), ["<L_CURLY 0..1>", "<IDENT 1..2>", "<R_CURLY 2..3>"])
+        self.assertEqual(
+            list(map(repr, dumyroke.lex("{a}", token_limit=4))), ["<L_CURLY 0..1>", "<IDENT 1..2>", "<R_CURLY 2..3>"]
+        )
         *items, limit = dumyroke.lex("{a}", token_limit=2)
-        self.assertEqual((list(map(str, items)), limit.kind, limit.range, limit.error.is_limit), (["{", "a"], "ERROR", (2, 2), True))
+        self.assertEqual(
+            (list(map(str, items)), limit.kind, limit.range, limit.error.is_limit), (["{", "a"], "ERROR", (2, 2), True)
+        )
 
     def test_many(self):
         self.assertEqual(len(dumyroke.lex("é" * 5000)), 5000)
@@ -147,14 +178,22 @@ class Items(unittest.TestCase):
 class Nodes(unittest.TestCase):
     def test_types(self):
         hero, extension, union, enum, filter, directive = dumyroke.parse(SCHEMA).document.definitions
-        self.assertEqual((hero.name.text, hero.description.value, names(hero.interfaces)), ("Hero", "A hero", ["Node", "Being"]))
+        self.assertEqual(
+            (hero.name.text, hero.description.value, names(hero.interfaces)), ("Hero", "A hero", ["Node", "Being"])
+        )
         self.assertEqual((names(hero.fields), names(hero.directives)), (["id", "friends"], ["key"]))
         identity, friends = hero.fields
-        self.assertEqual((identity.type.kind, identity.type.named_type.text, identity.arguments), ("NON_NULL_TYPE", "ID", []))
-        self.assertEqual((names(friends.arguments), friends.arguments[0].default_value.value.value), (["first", "after"], 10))
+        self.assertEqual(
+            (identity.type.kind, identity.type.named_type.text, identity.arguments), ("NON_NULL_TYPE", "ID", [])
+        )
+        self.assertEqual(
+            (names(friends.arguments), friends.arguments[0].default_value.value.value), (["first", "after"], 10)
+        )
         self.assertIsNone(friends.arguments[1].default_value)
         self.assertEqual((friends.type.type.name.text, names(friends.directives)), ("Hero", ["deprecated"]))
-        self.assertEqual((names(union.types), [it.enum_value.value for it in enum.values]), (["Hero", "Human"], ["NEW_HOPE", "JEDI"]))
+        self.assertEqual(
+            (names(union.types), [it.enum_value.value for it in enum.values]), (["Hero", "Human"], ["NEW_HOPE", "JEDI"])
+        )
         self.assertEqual((names(filter.fields), filter.fields[0].default_value.value.value), (["name", "deep"], "é"))
         self.assertEqual((directive.name.text, [it.text for it in directive.locations]), ("link", ["SCHEMA", "FIELD"]))
         self.assertEqual((names(extension.directives), extension.root_operation_type_definitions), (["link"], []))
@@ -162,13 +201,22 @@ class Nodes(unittest.TestCase):
     def test_operations(self):
         (operation,) = dumyroke.parse(QUERY).document.definitions
         (hero,) = operation.selections
-        self.assertEqual((operation.operation_type.text, operation.name.text, hero.alias.name.text, hero.name.text), ("query", "Q", "hero", "character"))
+        self.assertEqual(
+            (operation.operation_type.text, operation.name.text, hero.alias.name.text, hero.name.text),
+            ("query", "Q", "hero", "character"),
+        )
         self.assertEqual([it.variable.name.text for it in operation.variable_definitions], ["id"])
         spread, inline = hero.selections
-        self.assertEqual((spread.name, spread.name.text, inline.type_condition.named_type.name.text), (spread.fragment_name.name, "F", "Hero"))
+        self.assertEqual(
+            (spread.name, spread.name.text, inline.type_condition.named_type.name.text),
+            (spread.fragment_name.name, "F", "Hero"),
+        )
         self.assertEqual((names(inline.selections), names(spread.directives[0].arguments)), (["name"], ["if"]))
         values = hero.arguments[1].value.values
-        self.assertEqual([getattr(value, "value", value.kind) for value in values], ["a", True, 1.5, "NULL_VALUE", "JEDI", "OBJECT_VALUE"])
+        self.assertEqual(
+            [getattr(value, "value", value.kind) for value in values],
+            ["a", True, 1.5, "NULL_VALUE", "JEDI", "OBJECT_VALUE"],
+        )
         self.assertEqual(values[5].fields[0].value.value, 2)
         self.assertEqual(hero.child(nodes.Arguments).child("L_PAREN").text, "(")
 
@@ -194,8 +242,13 @@ class Nodes(unittest.TestCase):
 class Errors(unittest.TestCase):
     def test_errors(self):
         first, last = dumyroke.parse(HERO).errors
-        self.assertEqual((first.message, first.data, first.range, first.is_eof, first.is_limit), ("expected COLON, got )", ")", (9, 10), False, False))
-        self.assertEqual((last.message, last.data, last.range, last.is_eof), ("expected R_CURLY, got EOF", "", (19, 19), True))
+        self.assertEqual(
+            (first.message, first.data, first.range, first.is_eof, first.is_limit),
+            ("expected COLON, got )", ")", (9, 10), False, False),
+        )
+        self.assertEqual(
+            (last.message, last.data, last.range, last.is_eof), ("expected R_CURLY, got EOF", "", (19, 19), True)
+        )
 
     def test_positions(self):
         line = 'type B @d(a: "é𝄞" '
@@ -209,7 +262,10 @@ class Errors(unittest.TestCase):
         text = "é𝄞a" * 100
         for error in dumyroke.check(text):
             before = len(text.encode()[: error.range[0]].decode())
-            self.assertEqual((error.line, error.column, error.byte_column, error.span[0]), (1, before + 1, error.range[0] + 1, before))
+            self.assertEqual(
+                (error.line, error.column, error.byte_column, error.span[0]),
+                (1, before + 1, error.range[0] + 1, before),
+            )
 
     def test_limits(self):
         tree = dumyroke.parse("{a{b}}", recursion_limit=1)
@@ -220,7 +276,10 @@ class Errors(unittest.TestCase):
         self.assertEqual(dumyroke.check("{a}", recursion_limit=10**30, token_limit=10**30), [])
 
     def test_not_unicode(self):
-        for call in (dumyroke.parse, dumyroke.check, dumyroke.format, dumyroke.lex, dumyroke.parse_selection_set, dumyroke.parse_type):
+        for call in (
+            dumyroke.parse, dumyroke.check, dumyroke.format, dumyroke.lex, dumyroke.parse_selection_set,
+            dumyroke.parse_type,
+        ):
             self.assertRaises(UnicodeDecodeError, call, b"{\xff}")
             self.assertRaises(UnicodeEncodeError, call, '{a(b:"\ud800")}')
             for wrong in (5, None, ["{a}"]):
@@ -235,7 +294,10 @@ class Errors(unittest.TestCase):
         for text in (HERO, "!" * 5000):
             errors, again = dumyroke.check(text), dumyroke.check(text)
             dumyroke.check("{ a(b) !")
-            self.assertEqual((list(errors), errors[0], errors[-1:], hash(errors[0])), (list(again), again[0], [again[-1]], hash(again[0])))
+            self.assertEqual(
+                (list(errors), errors[0], errors[-1:], hash(errors[0])),
+                (list(again), again[0], [again[-1]], hash(again[0])),
+            )
             self.assertNotEqual(errors, dumyroke.check("{ a(b) !"))
         self.assertEqual((dumyroke.check("{a}"), repr(dumyroke.check("{a}"))), ([], "[]"))
 
@@ -259,9 +321,14 @@ class Errors(unittest.TestCase):
     def test_bytes_likes(self):
         """What has a buffer of bytes is a text. It may change later."""
         source = bytearray('{ a(b: "é") }'.encode())
-        for text in (source, memoryview(source), memoryview(bytes(source))[:], memoryview(bytes(reversed(source)))[::-1]):
+        for text in (
+            source, memoryview(source), memoryview(bytes(source))[:], memoryview(bytes(reversed(source)))[::-1],
+        ):
             tree = dumyroke.parse(text)
-            self.assertEqual((tree.text, tree.errors, dumyroke.check(text), len(dumyroke.measure(text))), ('{ a(b: "é") }', [], [], 1))
+            self.assertEqual(
+                (tree.text, tree.errors, dumyroke.check(text), len(dumyroke.measure(text))),
+                ('{ a(b: "é") }', [], [], 1),
+            )
             self.assertEqual(dumyroke.format(text), '{\n  a(b: "é")\n}\n')
         tree = dumyroke.parse(source)
         source[:] = b"changed"
@@ -275,7 +342,10 @@ class Validation(unittest.TestCase):
         "UniqueOperationNames": ("query Q {a} query Q {b}", "There can be only one operation named 'Q'."),
         "LoneAnonymousOperation": ("{a} query Q {b}", "This anonymous operation must be the only defined operation."),
         "UniqueArgumentNames": ("{a(b: 1, b: 2)}", "There can be only one argument named 'b'."),
-        "UniqueFragmentNames": ("{...F} fragment F on T {a} fragment F on T {b}", "There can be only one fragment named 'F'."),
+        "UniqueFragmentNames": (
+            "{...F} fragment F on T {a} fragment F on T {b}",
+            "There can be only one fragment named 'F'.",
+        ),
         "NoUnusedFragments": ("{a} fragment F on T {a}", "Fragment 'F' is never used."),
         "KnownFragmentNames": ("{...F}", "Unknown fragment 'F'."),
         "NoFragmentCycles": ("{...F} fragment F on T {a ...F}", "Cannot spread fragment 'F' within itself."),
@@ -293,14 +363,21 @@ class Validation(unittest.TestCase):
         (repeated,) = dumyroke.validate("type T { a: B a: C }")
         self.assertEqual(str(repeated), '1:15: Field "T.a" can only be defined once.')
         (member,) = dumyroke.validate("union U = A | B | A")
-        self.assertEqual((member.rule, str(member)), ("UniqueUnionMemberTypes", "1:19: Union type U can only include type A once."))
+        self.assertEqual(
+            (member.rule, str(member)), ("UniqueUnionMemberTypes", "1:19: Union type U can only include type A once.")
+        )
         (interface,) = dumyroke.validate("interface I implements J & J { a: B }")
-        self.assertEqual((interface.rule, str(interface)), ("UniqueImplementedInterfaces", "1:28: Type I can only implement J once."))
+        self.assertEqual(
+            (interface.rule, str(interface)), ("UniqueImplementedInterfaces", "1:28: Type I can only implement J once.")
+        )
 
     def test_places(self):
         text = "query E {a}\nquery Q($b: B) { c }"
         (unused,) = dumyroke.validate(text)
-        self.assertEqual((unused.rule, text[slice(*unused.span)], text[slice(*unused.other.span)]), ("NoUnusedVariables", "$b: B", "query Q($b: B) { c }"))
+        self.assertEqual(
+            (unused.rule, text[slice(*unused.span)], text[slice(*unused.other.span)]),
+            ("NoUnusedVariables", "$b: B", "query Q($b: B) { c }"),
+        )
         self.assertEqual((unused.position, repr(unused)), (dumyroke.Position(2, 9, 9), "<NoUnusedVariables 20..25>"))
         (unknown,) = dumyroke.validate("{...F}")
         self.assertIsNone(unknown.other)
@@ -313,14 +390,20 @@ class Validation(unittest.TestCase):
     def test_figures(self):
         text = "{ a a } query Q { b: a @d { b ...F } } fragment F on T { c d }"
         first, second = dumyroke.measure(text)
-        self.assertEqual((first.name, second.name, text[slice(*second.span)]), (None, "Q", "query Q { b: a @d { b ...F } }"))
+        self.assertEqual(
+            (first.name, second.name, text[slice(*second.span)]), (None, "Q", "query Q { b: a @d { b ...F } }")
+        )
         self.assertEqual(first.figures, (1, 2, 2, 0, 0, 1, 1))
         self.assertEqual(second.figures, (2, 4, 1, 1, 1, 4, 1))
         self.assertEqual(len(dumyroke.measure(" ".join(f"query Q{number} {{a}}" for number in range(100)))), 100)
 
     def test_bomb(self):
         """Each of 1,000 fragments spreads the one after it twice: 2**1000 fields."""
-        text = "{...F0}" + " ".join(f"fragment F{n} on T {{a ...F{n + 1} ...F{n + 1}}}" for n in range(1000)) + "fragment F1000 on T {a}"
+        text = (
+            "{...F0}"
+            + " ".join(f"fragment F{n} on T {{a ...F{n + 1} ...F{n + 1}}}" for n in range(1000))
+            + "fragment F1000 on T {a}"
+        )
         self.assertEqual(dumyroke.measure(text)[0].figures.fields, 2**64 - 1)
 
     def test_no_figures(self):
@@ -341,7 +424,9 @@ class Validation(unittest.TestCase):
         exceeded = dumyroke.check_limits(text, max_fields=2, max_depth=2)
         self.assertEqual((exceeded.operation.name, exceeded.limit, exceeded.most, exceeded.found), ("B", "depth", 2, 3))
         self.assertEqual(str(exceeded), "1:13: depth is 3, and at most 2 is allowed")
-        self.assertEqual(dumyroke.check_limits("{a a}", max_root_fields=1, max_distinct_root_fields=1).limit, "root_fields")
+        self.assertEqual(
+            dumyroke.check_limits("{a a}", max_root_fields=1, max_distinct_root_fields=1).limit, "root_fields"
+        )
 
     def test_refused(self):
         for call in (dumyroke.validate, dumyroke.measure, dumyroke.check_limits):
@@ -355,7 +440,15 @@ class Validation(unittest.TestCase):
 # The borders at which a number of C may become another one, and their neighbours.
 LARGE = [2**power + step for power in (31, 32, 53, 63, 64) for step in (-1, 0, 1)] + [10**30, None]
 # What is no count.
-WRONG = [(-1, ValueError), (-(2**64), ValueError), (1.5, TypeError), (1.0, TypeError), (float("nan"), TypeError), (float("inf"), TypeError), ("1", TypeError)]
+WRONG = [
+    (-1, ValueError),
+    (-(2**64), ValueError),
+    (1.5, TypeError),
+    (1.0, TypeError),
+    (float("nan"), TypeError),
+    (float("inf"), TypeError),
+    ("1", TypeError),
+]
 
 
 class Numbers(unittest.TestCase):
@@ -363,8 +456,13 @@ class Numbers(unittest.TestCase):
 
     TWO = "{ ...F ...G a { b } }"
     CALLS = {
-        "recursion_limit": (dumyroke.parse, dumyroke.parse_selection_set, dumyroke.parse_type, dumyroke.check, dumyroke.format),
-        "token_limit": (dumyroke.parse, dumyroke.parse_selection_set, dumyroke.parse_type, dumyroke.lex, dumyroke.check, dumyroke.format),
+        "recursion_limit": (
+            dumyroke.parse, dumyroke.parse_selection_set, dumyroke.parse_type, dumyroke.check, dumyroke.format,
+        ),
+        "token_limit": (
+            dumyroke.parse, dumyroke.parse_selection_set, dumyroke.parse_type, dumyroke.lex, dumyroke.check,
+            dumyroke.format,
+        ),
         "max_output": (dumyroke.format,),
     }
 
@@ -381,7 +479,9 @@ class Numbers(unittest.TestCase):
 
     def test_small(self):
         self.assertEqual([len(dumyroke.validate(self.TWO, most)) for most in (0, 1, 2, True)], [0, 1, 2, 1])
-        self.assertEqual([len(dumyroke.check("{a{b}}", recursion_limit=limit)) > 0 for limit in (0, 1, 2)], [True, True, False])
+        self.assertEqual(
+            [len(dumyroke.check("{a{b}}", recursion_limit=limit)) > 0 for limit in (0, 1, 2)], [True, True, False]
+        )
         self.assertEqual([len(dumyroke.lex("{a}", token_limit=limit)) for limit in (0, 1, 2, 3, 4)], [1, 2, 3, 4, 3])
 
     def test_wrong(self):
@@ -398,7 +498,9 @@ class Numbers(unittest.TestCase):
             for figure in dumyroke.Figures._fields:
                 self.assertRaises(error, dumyroke.check_limits, "{a}", **{f"max_{figure}": number})
         self.assertRaisesRegex(ValueError, "^most is below 0: -1$", dumyroke.validate, "{a}", most=-1)
-        self.assertRaisesRegex(TypeError, "^max_depth is an int or None, and not float$", dumyroke.check_limits, "{a}", max_depth=1.5)
+        self.assertRaisesRegex(
+            TypeError, "^max_depth is an int or None, and not float$", dumyroke.check_limits, "{a}", max_depth=1.5
+        )
 
     def test_offsets(self):
         tree = dumyroke.parse("{a}")
@@ -421,7 +523,14 @@ class Copies(unittest.TestCase):
 
     CYCLE = "{...F}\nfragment F on T {...F}"
     SAME = "{a} fragment F on T {a} fragment F on T {b}"
-    WAYS = [copy.copy, copy.deepcopy, *(lambda it, version=version: pickle.loads(pickle.dumps(it, version)) for version in range(2, pickle.HIGHEST_PROTOCOL + 1))]
+    WAYS = [
+        copy.copy,
+        copy.deepcopy,
+        *(
+            lambda it, version=version: pickle.loads(pickle.dumps(it, version))
+            for version in range(2, pickle.HIGHEST_PROTOCOL + 1)
+        ),
+    ]
 
     def test_not_a_document(self):
         for call in (dumyroke.format, dumyroke.measure, dumyroke.validate):
@@ -429,7 +538,10 @@ class Copies(unittest.TestCase):
             error.request = 7
             for way in self.WAYS:
                 same = way(error)
-                self.assertEqual((type(same), str(same), same.args, same.errors, same.request), (dumyroke.NotADocument, str(error), error.args, error.errors, 7))
+                self.assertEqual(
+                    (type(same), str(same), same.args, same.errors, same.request),
+                    (dumyroke.NotADocument, str(error), error.args, error.errors, 7),
+                )
                 self.assertEqual([str(one) for one in same.errors], [str(one) for one in error.errors])
 
     def test_no_figures(self):
@@ -437,7 +549,10 @@ class Copies(unittest.TestCase):
             error = no_document(dumyroke.measure, text)
             for way in self.WAYS:
                 same = way(error)
-                self.assertEqual((type(same), str(same), same.reason, same.place.span), (dumyroke.NoFigures, str(error), error.reason, error.place.span))
+                self.assertEqual(
+                    (type(same), str(same), same.reason, same.place.span),
+                    (dumyroke.NoFigures, str(error), error.reason, error.place.span),
+                )
                 self.assertEqual(same.other and same.other.position, error.other and error.other.position)
 
     def test_process_pool(self):
@@ -457,19 +572,35 @@ class Copies(unittest.TestCase):
             self.assertEqual(names(pool.submit(dumyroke.parse, "query Q {a}").result().document.definitions), ["Q"])
 
     def test_results(self):
-        results = [dumyroke.check(HERO)[0], dumyroke.lex("é")[0], dumyroke.validate("{...F}")[0], dumyroke.measure("{a}")[0]]
+        results = [
+            dumyroke.check(HERO)[0], dumyroke.lex("é")[0], dumyroke.validate("{...F}")[0], dumyroke.measure("{a}")[0],
+        ]
         for result in results:
             for way in self.WAYS:
                 same = way(result)
-                self.assertEqual((type(same), str(same), same.position, same.span), (type(result), str(result), result.position, result.span))
+                self.assertEqual(
+                    (type(same), str(same), same.position, same.span),
+                    (type(result), str(result), result.position, result.span),
+                )
 
     def test_trees(self):
-        for call, text in ((dumyroke.parse, HERO + " é"), (dumyroke.parse, "{a}" * 20_000), (dumyroke.parse_type, ")"), (dumyroke.parse_selection_set, "a {b} }")):
+        for call, text in (
+            (dumyroke.parse, HERO + " é"),
+            (dumyroke.parse, "{a}" * 20_000),
+            (dumyroke.parse_type, ")"),
+            (dumyroke.parse_selection_set, "a {b} }"),
+        ):
             tree = call(text)
             for way in self.WAYS if len(text) < 1000 else self.WAYS[-1:]:
                 same = way(tree)
-                self.assertEqual((same.text, same.errors, len(same), same.token_high), (tree.text, tree.errors, len(tree), tree.token_high))
-                self.assertEqual(list(map(repr, same.root.descendants_with_tokens)), list(map(repr, tree.root.descendants_with_tokens)))
+                self.assertEqual(
+                    (same.text, same.errors, len(same), same.token_high),
+                    (tree.text, tree.errors, len(tree), tree.token_high),
+                )
+                self.assertEqual(
+                    list(map(repr, same.root.descendants_with_tokens)),
+                    list(map(repr, tree.root.descendants_with_tokens)),
+                )
                 last = list(tree.root.descendants_with_tokens)[-1]
                 self.assertEqual((repr(way(last)), way(last).parent.kind), (repr(last), last.parent.kind))
 
@@ -481,7 +612,9 @@ class Calls(unittest.TestCase):
         self.assertEqual(dumyroke.format("{a{b{c{d{e}}}}}").count("\n"), 11)
         self.assertEqual(dumyroke.format("{a}", max_output=8), "{\n  a\n}\n")
         for most in (0, 7):
-            self.assertRaisesRegex(ValueError, "the formatted text has more than", dumyroke.format, "{a}", max_output=most)
+            self.assertRaisesRegex(
+                ValueError, "the formatted text has more than", dumyroke.format, "{a}", max_output=most
+            )
         # 270 times its length, so the first calls have too little room
         opened = "".join("  " * depth + "a {\n" for depth in range(1, 400))
         closed = "".join("  " * depth + "}\n" for depth in reversed(range(400)))
@@ -497,12 +630,16 @@ class Calls(unittest.TestCase):
         with self.assertRaises(UnicodeDecodeError):
             dumyroke.parse(b"\xff")
         for text, tree in zip(texts, trees):
-            self.assertEqual("".join(token.text for token in tree.root.descendants_with_tokens if isinstance(token, dumyroke.Token)), text)
+            self.assertEqual(
+                "".join(token.text for token in tree.root.descendants_with_tokens if isinstance(token, dumyroke.Token)),
+                text,
+            )
             self.assertEqual("".join(item.text for item in dumyroke.lex(text)), text)
             self.assertEqual([str(error) for error in tree.errors], [str(error) for error in dumyroke.check(text)])
 
     def test_memory(self):
-        """A token limit bounds the room for elements, and positions take little. The text has 20 million bytes, of which a copy is made."""
+        """A token limit bounds the room for elements, and positions take little. The text has 20 million bytes, of
+        which a copy is made."""
         code = [
             "import resource, dumyroke",
             "peak = lambda: resource.getrusage(resource.RUSAGE_SELF).ru_maxrss // 1024",
@@ -511,7 +648,9 @@ class Calls(unittest.TestCase):
             "print(dumyroke.parse(text, token_limit=100).errors[0].position.column, peak() - before)",
         ]
         environment = {**os.environ, "PYTHONPATH": str(Path(dumyroke.__file__).parent.parent)}
-        column, megabytes = map(int, subprocess.check_output([sys.executable, "-c", "\n".join(code)], env=environment).split())
+        column, megabytes = map(
+            int, subprocess.check_output([sys.executable, "-c", "\n".join(code)], env=environment).split()
+        )
         self.assertEqual(column, 1)
         self.assertLess(megabytes, 40)
 
@@ -532,7 +671,12 @@ class Calls(unittest.TestCase):
 
     def test_program(self):
         def checked(*files):
-            ended = subprocess.run([sys.executable, "-m", "dumyroke", *files], stdout=subprocess.PIPE, stderr=subprocess.DEVNULL, env=environment)
+            ended = subprocess.run(
+                [sys.executable, "-m", "dumyroke", *files],
+                stdout=subprocess.PIPE,
+                stderr=subprocess.DEVNULL,
+                env=environment,
+            )
             return ended.returncode, ended.stdout.decode()
 
         environment = {**os.environ, "PYTHONPATH": str(Path(dumyroke.__file__).parent.parent)}
@@ -549,7 +693,10 @@ class Calls(unittest.TestCase):
                 environment["PYTHONIOENCODING"] = encoding
                 status, printed = checked("check", escapes)
                 self.assertEqual((status, f"\\x1b[31m\\u202e\\u2028{shown}" in printed), (1, True))
-            self.assertEqual([checked("check", binary)[0], checked("check", f"{folder}/none")[0], checked("check")[0], checked()[0]], [2, 2, 2, 2])
+            self.assertEqual(
+                [checked("check", binary)[0], checked("check", f"{folder}/none")[0], checked("check")[0], checked()[0]],
+                [2, 2, 2, 2],
+            )
 
     def test_version(self):
         self.assertRegex(dumyroke.__version__, r"^\d+\.\d+\.\d+$")

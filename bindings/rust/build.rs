@@ -35,7 +35,7 @@ fn main() {
     let found = env::var_os("DUMYROKE_LIB_DIR").map(PathBuf::from).or(near).or_else(|| is_made_for_it.then(pkg_config)?);
     let Some(folder) = found.and_then(|folder| fs::canonicalize(folder).ok()).filter(|folder| folder.join(file).exists()) else {
         let why = if is_made_for_it {
-            "`tools/bindings install` of the repository puts it where pkg-config finds it".to_owned()
+            "`./do bindings install` of the repository puts it where pkg-config finds it".to_owned()
         } else {
             format!("the parser is a library that is made for {MADE_FOR} alone, and this is a build for {target}")
         };

@@ -1,10 +1,12 @@
-// The text area, and behind it the same lines once more, in colours and with underlines. Only the lines in sight are there.
+// The text area, and behind it the same lines once more, in colours and with underlines. Only the lines in sight are
+// there.
 import { lastAtMost } from "./tree.js";
 
 const LINE_HEIGHT = 22;
 // Of more pieces in sight, as of a text of one long line, the last have no colours.
 const MOST_PIECES = 5000;
-// The characters that say in which order others are shown (Unicode, Annex 9, "Directional Formatting Characters"). They would turn round what follows them.
+// The characters that say in which order others are shown (Unicode, Annex 9, "Directional Formatting Characters"). They
+// would turn round what follows them.
 const TURNING = /([\u061c\u200e\u200f\u202a-\u202e\u2066-\u2069])/;
 
 // An element of the page with a class and a text.
@@ -12,24 +14,31 @@ export function piece(name, text = "", tag = "span") {
   return Object.assign(document.createElement(tag), { className: name, textContent: text });
 }
 
-// A text as it is shown outside the text area: with escapes for characters that would not be seen, or would turn others round.
-export const escaped = (text) => text.replace(/[\p{Cc}\p{Cf}\p{Zl}\p{Zp}]/gu, (letter) => `\\u{${letter.codePointAt(0).toString(16)}}`);
+// A text as it is shown outside the text area: with escapes for characters that would not be seen, or would turn others
+// round.
+export const escaped = (text) =>
+  text.replace(/[\p{Cc}\p{Cf}\p{Zl}\p{Zp}]/gu, (letter) => `\\u{${letter.codePointAt(0).toString(16)}}`);
 
-// The parts of a text with a mark of no width, as the character has none either, in place of each character that turns others round. The text area, whose own
-// letters are not seen, has no such marks: in such a line its caret and its selection are where the browser has the turned letters.
+// The parts of a text with a mark of no width, as the character has none either, in place of each character that turns
+// others round. The text area, whose own letters are not seen, has no such marks: in such a line its caret and its
+// selection are where the browser has the turned letters.
 const unturned = (text) => text.split(TURNING).map((part, i) => (i % 2 === 0 ? part : piece("turning", "", "i")));
 
 export class Editor {
-  // `input()` is called when the text changed, `cursor(start, end)` when the selection did. `ranges` gives for each layer the ranges of the text that are
-  // painted between two places of it: `{ start, end, name }`, in order, where `name` is a class.
+  // `input()` is called when the text changed, `cursor(start, end)` when the selection did. `ranges` gives for each
+  // layer the ranges of the text that are painted between two places of it: `{ start, end, name }`, in order, where
+  // `name` is a class.
   constructor(box, { input, cursor, ranges }) {
-    const [area, layers, numbers, hint] = ["textarea", ".layers", ".numbers", ".hint"].map((name) => box.querySelector(name));
+    const [area, layers, numbers, hint] =
+      ["textarea", ".layers", ".numbers", ".hint"].map((name) => box.querySelector(name));
     Object.assign(this, { box, area, layers, numbers, hint, input, ranges, lines: [0] });
     area.oninput = () => this.#changed();
     area.onscroll = () => this.render();
     area.onpointermove = ({ clientX, clientY }) => this.#hover(clientX, clientY);
     area.onpointerleave = () => this.#hover(-1, -1);
-    document.addEventListener("selectionchange", () => document.activeElement === area && cursor(area.selectionStart, area.selectionEnd));
+    document.addEventListener(
+      "selectionchange", () => document.activeElement === area && cursor(area.selectionStart, area.selectionEnd)
+    );
     new ResizeObserver(() => this.render()).observe(area);
   }
 
@@ -67,7 +76,8 @@ export class Editor {
     this.area.setSelectionRange(start, end);
     const top = (this.position(start).line - 1) * LINE_HEIGHT;
     const { scrollTop, clientHeight } = this.area;
-    if (top < scrollTop || top + 2 * LINE_HEIGHT > scrollTop + clientHeight) this.area.scrollTop = top - clientHeight / 3;
+    if (top < scrollTop || top + 2 * LINE_HEIGHT > scrollTop + clientHeight)
+      this.area.scrollTop = top - clientHeight / 3;
     this.render();
   }
 
@@ -80,7 +90,8 @@ export class Editor {
     this.layers.style.transform = `translate(${-scrollLeft}px, ${down}px)`;
     this.numbers.style.transform = `translateY(${down}px)`;
     this.numbers.textContent = Array.from({ length: last - first }, (_, i) => first + i + 1).join("\n");
-    for (const layer of this.layers.children) layer.replaceChildren(...this.#pieces(this.ranges[layer.className](start, end), start, end));
+    for (const layer of this.layers.children)
+      layer.replaceChildren(...this.#pieces(this.ranges[layer.className](start, end), start, end));
   }
 
   // The text from `start` to `end`, cut where a range begins and ends. Of ranges that overlap the first is taken.

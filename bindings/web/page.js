@@ -6,14 +6,22 @@ import { movedTo, Tree } from "./tree.js";
 import { TreeView } from "./tree_view.js";
 
 const MOST_LISTED = 200;
-// Longer texts have no link, as those with half of a surrogate pair, and no undo once they are formatted: Chromium takes minutes to type a long text.
+// Longer texts have no link, as those with half of a surrogate pair, and no undo once they are formatted: Chromium
+// takes minutes to type a long text.
 const [LONGEST_LINK, LONGEST_UNDONE] = [20000, 100000];
-const NO_FIGURES = { [STATUS.SAME_NAME]: "two fragments have one name", [STATUS.CYCLE]: "a cycle of fragments", [STATUS.UNDEFINED]: "a spread of no fragment" };
-// Figures that count a response name once in its selection set, and the figures that count each. They are left out where they are the same.
+const NO_FIGURES = {
+  [STATUS.SAME_NAME]: "two fragments have one name",
+  [STATUS.CYCLE]: "a cycle of fragments",
+  [STATUS.UNDEFINED]: "a spread of no fragment"
+};
+// Figures that count a response name once in its selection set, and the figures that count each. They are left out
+// where they are the same.
 const COUNTED_ONCE = { height: "fields", distinctRootFields: "rootFields" };
 const REFUSED = "The parser was refused memory, or the text is too long for it.";
 const HALF = "The text has half of a surrogate pair, which is no character.";
-const NO_MEMORY64 = "This browser has no 64-bit memory for WebAssembly, which the parser needs: Chrome and Edge have it from version 133 on, Firefox from 134 on.";
+const NO_MEMORY64 =
+  "This browser has no 64-bit memory for WebAssembly, which the parser needs: " +
+  "Chrome and Edge have it from version 133 on, Firefox from 134 on.";
 
 const at = (id) => document.getElementById(id);
 const count = (number, noun) => `${number.toLocaleString("en")} ${noun}${number === 1 ? "" : "s"}`;
@@ -23,12 +31,17 @@ const waiting = new Map();
 // The last parse, the element that is chosen, and where places of the parse are in the text of now.
 let [tree, errors, chosen] = [new Tree("", { rows: new Uint32Array(WORDS), textEnd: 0 }), [], null];
 let moved = (place) => place;
-// The timers of the figures, which take as long as a parse, and so wait for a pause, and of the address, which browsers refuse to set too often.
+// The timers of the figures, which take as long as a parse, and so wait for a pause, and of the address, which browsers
+// refuse to set too often.
 let [measuring, linking] = [];
 
-// Gives the worker a task, after the running one. Of each sort the last one that waits is kept. `most` is how many operations are wanted.
+// Gives the worker a task, after the running one. Of each sort the last one that waits is kept. `most` is how many
+// operations are wanted.
 function ask(task, most) {
-  waiting.set(task, { task, text: editor.text, limits: { recursion: limit("recursion", 500), tokens: limit("tokens", null) }, most });
+  waiting.set(
+    task,
+    { task, text: editor.text, limits: { recursion: limit("recursion", 500), tokens: limit("tokens", null) }, most }
+  );
   if (running === null) next();
 }
 
@@ -71,22 +84,30 @@ function showParsed(text, found) {
   errors = found.errors.sort((a, b) => a.start - b.start);
   moved = movedTo(text, editor.text);
   chosen = null;
-  const verdict = found.errorCount === 0 ? ["A GraphQL document", "document"] : [count(found.errorCount, "error"), "errors"];
+  const verdict =
+    found.errorCount === 0 ? ["A GraphQL document", "document"] : [count(found.errorCount, "error"), "errors"];
   say(...verdict, `${count(tree.length, "element")} · nesting ${found.depth} · ${found.took.toFixed(1)} ms`);
   list("errors", errors, found.errorCount, "error");
   // the figures of the text before stay until those of this one are there
   if (found.errorCount > 0) list("figures", []);
   else if (text === editor.text) measuring = setTimeout(() => ask("measure", MOST_LISTED), 150);
-  if (document.activeElement === editor.area && text === editor.text) follow(editor.area.selectionStart, editor.area.selectionEnd);
+  if (document.activeElement === editor.area && text === editor.text)
+    follow(editor.area.selectionStart, editor.area.selectionEnd);
   else editor.render();
   clearTimeout(linking);
-  linking = setTimeout(() => history.replaceState(null, "", text.length <= LONGEST_LINK && text.isWellFormed() ? `#${encodeURIComponent(text)}` : location.pathname), 300);
+  linking = setTimeout(
+    () => history.replaceState(
+      null, "", text.length <= LONGEST_LINK && text.isWellFormed() ? `#${encodeURIComponent(text)}` : location.pathname
+    ),
+    300
+  );
 }
 
 // Lists the first places, with their messages, and how many more there are.
 function list(id, places, placeCount, noun) {
   at(id).replaceChildren(...places.slice(0, MOST_LISTED).map(listed));
-  if (placeCount > MOST_LISTED) at(id).append(piece("more", `and ${count(placeCount - MOST_LISTED, `more ${noun}`)}`, "li"));
+  if (placeCount > MOST_LISTED)
+    at(id).append(piece("more", `and ${count(placeCount - MOST_LISTED, `more ${noun}`)}`, "li"));
 }
 
 function listed({ start, end, message }) {
@@ -109,14 +130,16 @@ function showMeasured(text, { failed, status, operations, operationCount, place 
 // An operation in the words of gqlcheck.
 function figured({ start, end, name, ...operation }) {
   const shown = Object.keys(FIGURES).filter((figure) => operation[figure] !== operation[COUNTED_ONCE[figure]]);
-  const words = shown.map((figure) => `${figure.replace(/[A-Z]/g, (letter) => ` ${letter.toLowerCase()}`)} ${operation[figure]}`);
+  const words =
+    shown.map((figure) => `${figure.replace(/[A-Z]/g, (letter) => ` ${letter.toLowerCase()}`)} ${operation[figure]}`);
   return { start, end, message: `${name ?? "anonymous operation"}: ${words.join(", ")}` };
 }
 
 function showFormatted(text, { status, text: formatted }) {
   if (status === STATUS.NOT_A_DOCUMENT) say("A text with errors is not formatted.", "errors");
   else if (status === STATUS.NO_ROOM) say("The formatted text is too long.", "errors");
-  else if (status === STATUS.OK && text === editor.text && formatted !== text) editor.replace(formatted, Math.max(text.length, formatted.length) <= LONGEST_UNDONE);
+  else if (status === STATUS.OK && text === editor.text && formatted !== text)
+    editor.replace(formatted, Math.max(text.length, formatted.length) <= LONGEST_UNDONE);
 }
 
 // Chooses the element that the cursor or the selection is in.
@@ -138,13 +161,19 @@ const range = (element, name) => ({ start: moved(tree.start(element)), end: move
 function words(start, end) {
   const found = [];
   for (let element = tree.holding(start, start); element < tree.length && moved(tree.start(element)) < end; element++)
-    if (tree.isToken(element)) found.push(range(element, `${tree.kind(element)} in-${tree.kind(tree.parent(tree.parent(element)))}`));
+    if (tree.isToken(element))
+      found.push(range(element, `${tree.kind(element)} in-${tree.kind(tree.parent(tree.parent(element)))}`));
   return found;
 }
 
 function underlines(start, end) {
   const inSight = errors.filter((error) => moved(error.end) >= start && moved(error.start) <= end);
-  return inSight.map((error) => ({ ...error, start: moved(error.start), end: moved(error.end), name: error.start === error.end ? "error empty" : "error" }));
+  return inSight.map((error) => ({
+                       ...error,
+                       start: moved(error.start),
+                       end: moved(error.end),
+                       name: error.start === error.end ? "error empty" : "error"
+                     }));
 }
 
 async function load(example) {
@@ -155,7 +184,8 @@ async function load(example) {
 
 function loadLink() {
   // other than decodeURIComponent this reads any address
-  const text = new URLSearchParams(`text=${location.hash.slice(1).replaceAll("+", "%2B").replaceAll("&", "%26")}`).get("text");
+  const text =
+    new URLSearchParams(`text=${location.hash.slice(1).replaceAll("+", "%2B").replaceAll("&", "%26")}`).get("text");
   if (text === "") load(at("examples").value);
   else if (text !== editor.text) editor.replace(text);
 }

@@ -1,6 +1,20 @@
-// The calls of the parser, a WebAssembly module with 64-bit memory: its addresses and lengths are BigInts. This runs in workers and in node.
+// The calls of the parser, a WebAssembly module with 64-bit memory: its addresses and lengths are BigInts. This runs in
+// workers and in node.
 
-import { COUNTS, COUNTS_BYTES, ERROR, ERROR_BYTES, FIGURES, MEASURE_COUNTS, MEASURE_COUNTS_BYTES, OPERATION, OPERATION_BYTES, STATUS, WORD, WORDS } from "./rows.js";
+import {
+  COUNTS,
+  COUNTS_BYTES,
+  ERROR,
+  ERROR_BYTES,
+  FIGURES,
+  MEASURE_COUNTS,
+  MEASURE_COUNTS_BYTES,
+  OPERATION,
+  OPERATION_BYTES,
+  STATUS,
+  WORD,
+  WORDS
+} from "./rows.js";
 import { NODE } from "./tree.js";
 
 const PAGE_BYTES = 65536;
@@ -15,36 +29,44 @@ export function isSupported() {
   return WebAssembly.validate(Uint8Array.of(0, 0x61, 0x73, 0x6d, 1, 0, 0, 0, 5, 3, 1, 4, 0));
 }
 
-// A number that a caller gives under this name, as a BigInt for the module. Null and Infinity are no limit, and so is a number that needs more than 64 bits.
-// Throws TypeError for what is no number, and RangeError for one that counts nothing: below 0, a fraction, NaN.
+// A number that a caller gives under this name, as a BigInt for the module. Null and Infinity are no limit, and so is a
+// number that needs more than 64 bits. Throws TypeError for what is no number, and RangeError for one that counts
+// nothing: below 0, a fraction, NaN.
 function counted(name, value) {
   if (value === null || value === Infinity) return NO_LIMIT;
-  if (typeof value !== "number" && typeof value !== "bigint") throw new TypeError(`${name} is a number, a BigInt or null, and not ${typeof value}`);
-  if (value < 0 || (typeof value === "number" && !Number.isInteger(value))) throw new RangeError(`${name} is no whole number from 0 on: ${value}`);
+  if (typeof value !== "number" && typeof value !== "bigint")
+    throw new TypeError(`${name} is a number, a BigInt or null, and not ${typeof value}`);
+  if (value < 0 || (typeof value === "number" && !Number.isInteger(value)))
+    throw new RangeError(`${name} is no whole number from 0 on: ${value}`);
   const whole = BigInt(value);
   return whole < NO_LIMIT ? whole : NO_LIMIT;
 }
 
-// The same as a number of JavaScript, for how much a call gives at most: the larger ones are more than a memory holds, so that it need not be exact.
+// The same as a number of JavaScript, for how much a call gives at most: the larger ones are more than a memory holds,
+// so that it need not be exact.
 const most = (name, value) => Number(counted(name, value));
 
 // The limits that a caller gives, as the module takes them.
 function limitsOf(limits) {
-  if (typeof limits !== "object" || limits === null) throw new TypeError(`limits are an object as { recursion: 500, tokens: null }, and not ${limits}`);
+  if (typeof limits !== "object" || limits === null)
+    throw new TypeError(`limits are an object as { recursion: 500, tokens: null }, and not ${limits}`);
   const { recursion = 500, tokens = null } = limits;
   return [counted("recursion", recursion), counted("tokens", tokens)];
 }
 
 // How many units of 16 bits a text has. Throws TypeError for what is no text.
 function lengthOf(text) {
-  if (typeof text !== "string") throw new TypeError(`a text is a string, and not ${text === null ? null : typeof text}`);
+  if (typeof text !== "string")
+    throw new TypeError(`a text is a string, and not ${text === null ? null : typeof text}`);
   return text.length;
 }
 
-// Whether each half of a surrogate pair has the other one, so that UTF-8 has the text. Engines from before 2023 have no call for it.
+// Whether each half of a surrogate pair has the other one, so that UTF-8 has the text. Engines from before 2023 have no
+// call for it.
 const isWellFormed = (text) => text.isWellFormed?.() ?? !/\p{Surrogate}/u.test(text);
 
-// For each byte of a text in UTF-8 and for its end, how many units of 16 bits, which JavaScript counts, are before it. It holds where a character begins.
+// For each byte of a text in UTF-8 and for its end, how many units of 16 bits, which JavaScript counts, are before it.
+// It holds where a character begins.
 function unitsBefore(bytes) {
   const units = new Uint32Array(bytes.length + 1);
   let unit = 0;
@@ -59,7 +81,8 @@ function unitsBefore(bytes) {
 // Fields of a row, by the byte of each field.
 const numbers = (row, at, fields) => fields.map((field) => Number(row.getBigUint64(at[field], true)));
 
-// The same of fields that are places of a text, with what `unitsBefore` gives for it, or null where each character is one byte.
+// The same of fields that are places of a text, with what `unitsBefore` gives for it, or null where each character is
+// one byte.
 const places = (row, at, fields, units) => numbers(row, at, fields).map((byte) => units?.[byte] ?? byte);
 
 export class Parser {
@@ -69,7 +92,8 @@ export class Parser {
     this.#start();
   }
 
-  // Makes an instance of the module. It imports its memory's places: an answer is a byte that says whether there is one, and 8 bytes further on its address.
+  // Makes an instance of the module. It imports its memory's places: an answer is a byte that says whether there is
+  // one, and 8 bytes further on its address.
   #start() {
     const heap_alloc = (answer, bytes, _align) => {
       let start = null;
@@ -97,7 +121,8 @@ export class Parser {
     }
   }
 
-  // Takes back all places. They are above the module's own memory, one above the other; the last one goes back when it is freed, too.
+  // Takes back all places. They are above the module's own memory, one above the other; the last one goes back when it
+  // is freed, too.
   #clear() {
     this.last = this.top = Number(this.exports.__heap_base.value);
   }
@@ -107,7 +132,8 @@ export class Parser {
     const start = Math.ceil(this.top / ALIGNMENT) * ALIGNMENT;
     const size = this.memory.buffer.byteLength;
     // half as much again, so that it grows seldom
-    if (start + bytes > size) this.memory.grow(this.pages(Math.ceil(Math.max(start + bytes - size, size / 2) / PAGE_BYTES)));
+    if (start + bytes > size)
+      this.memory.grow(this.pages(Math.ceil(Math.max(start + bytes - size, size / 2) / PAGE_BYTES)));
     this.last = start;
     this.top = start + bytes;
     return start;
@@ -123,7 +149,8 @@ export class Parser {
     this.#clear();
     const start = this.#place(room);
     const { written } = new TextEncoder().encodeInto(text, this.#bytes(start, room));
-    // the encoder puts another character in place of half a pair: with a byte that UTF-8 does not have, the module refuses the text
+    // the encoder puts another character in place of half a pair: with a byte that UTF-8 does not have, the module
+    // refuses the text
     if (!isWellFormed(text)) this.#bytes(start, 1)[0] = 0xff;
     this.top = start + written;
     return [start, written];
@@ -145,23 +172,35 @@ export class Parser {
     }
   }
 
-  // Parses a text: the rows of its elements, where the text of the tree ends, its first errors, and how many there are. Offsets are those of the JavaScript string.
-  // Throws RangeError or WebAssembly.RuntimeError where the browser's stack or memory is too small. Each call throws TypeError or RangeError for a wrong argument.
+  // Parses a text: the rows of its elements, where the text of the tree ends, its first errors, and how many there are.
+  // Offsets are those of the JavaScript string. Throws RangeError or WebAssembly.RuntimeError where the browser's stack
+  // or memory is too small. Each call throws TypeError or RangeError for a wrong argument.
   parse(text, limits = {}, mostErrors = 1000) {
     const wanted = most("mostErrors", mostErrors);
-    const room = { elements: (lengthOf(text) >> 1) + 64, errors: Math.min(wanted, 1000), messages: text.length + 65536 };
+    const room = {
+      elements: (lengthOf(text) >> 1) + 64,
+      errors: Math.min(wanted, 1000),
+      messages: text.length + 65536
+    };
     for (;;) {
       const [source, length] = this.#write(text);
       const [given, counts] = [this.#writeLimits(limits), this.#place(COUNTS_BYTES)];
-      const [elements, errors, messages] = [room.elements * WORDS * 4, room.errors * ERROR_BYTES, room.messages].map((bytes) => this.#place(bytes));
-      const status = this.#call("dumyroke_parse", source, length, given, elements, room.elements, errors, room.errors, messages, room.messages, counts);
+      const [elements, errors, messages] =
+        [room.elements * WORDS * 4, room.errors * ERROR_BYTES, room.messages].map((bytes) => this.#place(bytes));
+      const status = this.#call(
+        "dumyroke_parse", source, length, given, elements, room.elements, errors, room.errors, messages, room.messages,
+        counts
+      );
       const fields = ["elements", "text_bytes", "errors", "message_bytes", "recursion_high", "token_high"];
-      const [elementCount, textBytes, errorCount, messageBytes, depth, items] = numbers(this.#row(counts, COUNTS_BYTES), COUNTS, fields);
+      const [elementCount, textBytes, errorCount, messageBytes, depth, items] =
+        numbers(this.#row(counts, COUNTS_BYTES), COUNTS, fields);
       const errorsGiven = Math.min(errorCount, wanted);
       if (elementCount <= room.elements && errorsGiven <= room.errors && messageBytes <= room.messages) {
         const units = length === text.length ? null : unitsBefore(this.#bytes(source, length));
         const rows = new Uint32Array(this.memory.buffer, elements, elementCount * WORDS).slice();
-        if (units !== null) for (let i = WORD.start_and_node; i < rows.length; i += WORDS) rows[i] += units[rows[i] % NODE] - (rows[i] % NODE);
+        if (units !== null)
+          for (let i = WORD.start_and_node; i < rows.length; i += WORDS)
+            rows[i] += units[rows[i] % NODE] - (rows[i] % NODE);
         const found = this.#errors(errors, errorsGiven, this.#bytes(messages, messageBytes), units);
         return { status, rows, textEnd: units?.[textBytes] ?? textBytes, errors: found, errorCount, depth, items };
       }
@@ -180,21 +219,25 @@ export class Parser {
     });
   }
 
-  // Measures the operations of a document: the first ones with their figures, which are BigInts, and how many there are. Where they have no figures, the status
-  // says why, `place` where, and `other` where the first fragment of the name is.
+  // Measures the operations of a document: the first ones with their figures, which are BigInts, and how many there
+  // are. Where they have no figures, the status says why, `place` where, and `other` where the first fragment of the
+  // name is.
   measure(text, limits = {}, mostOperations = Infinity) {
     const wanted = most("mostOperations", mostOperations);
     for (let room = Math.min(wanted, 1000); ; ) {
       const [source, length] = this.#write(text);
-      const [given, counts, rows] = [this.#writeLimits(limits), this.#place(MEASURE_COUNTS_BYTES), this.#place(room * OPERATION_BYTES)];
+      const [given, counts, rows] =
+        [this.#writeLimits(limits), this.#place(MEASURE_COUNTS_BYTES), this.#place(room * OPERATION_BYTES)];
       const status = this.#call("dumyroke_measure", source, length, given, rows, room, counts);
       const there = this.#row(counts, MEASURE_COUNTS_BYTES);
       const [operationCount] = numbers(there, MEASURE_COUNTS, ["operations"]);
       const count = Math.min(operationCount, wanted);
       if (count <= room) {
         const units = length === text.length ? null : unitsBefore(this.#bytes(source, length));
-        const [start, end, otherStart, otherEnd] = places(there, MEASURE_COUNTS, ["start", "end", "other_start", "other_end"], units);
-        const [place, other] = [end === 0 ? null : { start, end }, otherEnd === 0 ? null : { start: otherStart, end: otherEnd }];
+        const [start, end, otherStart, otherEnd] =
+          places(there, MEASURE_COUNTS, ["start", "end", "other_start", "other_end"], units);
+        const [place, other] =
+          [end === 0 ? null : { start, end }, otherEnd === 0 ? null : { start: otherStart, end: otherEnd }];
         return { status, operations: this.#operations(rows, count, text, units), operationCount, place, other };
       }
       room = count;

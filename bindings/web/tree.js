@@ -1,8 +1,10 @@
-// A tree as the parser wrote it: one table of rows in document order, and where its text ends. An element is the index of its row.
+// A tree as the parser wrote it: one table of rows in document order, and where its text ends. An element is the index
+// of its row.
 import { FIRST_NODE, KINDS } from "./kinds.js";
 import { WORD, WORDS } from "./rows.js";
 
-// Of numbers that never fall, given by their count and a function, the place of the last one that is at most `limit`, or 0.
+// Of numbers that never fall, given by their count and a function, the place of the last one that is at most `limit`,
+// or 0.
 export function lastAtMost(count, numberAt, limit) {
   let [low, high] = [0, count - 1];
   while (low < high) {
@@ -29,7 +31,8 @@ export class Tree {
   start = (element) => this.#word(element, WORD.start_and_node) % NODE;
   end = (element) => (this.next(element) < this.length ? this.start(this.next(element)) : this.textEnd);
   // The root's parent is the root.
-  parent = (element) => element - (this.#word(element, WORD.parent_low) & 0xffffff) - (this.#word(element, WORD.size_and_parent) & 15) * 2 ** 24;
+  parent = (element) => element - (this.#word(element, WORD.parent_low) & 0xffffff) -
+    (this.#word(element, WORD.size_and_parent) & 15) * 2 ** 24;
   // The element after it and all below it.
   next = (element) => element + (this.#word(element, WORD.size_and_parent) >>> 4);
   kind = (element) => KINDS[this.#number(element)];
@@ -54,10 +57,12 @@ export class Tree {
   }
 }
 
-// Where places of an old text are in a new one, which differs from it in one part. Engines compare long strings much faster than their letters one by one.
+// Where places of an old text are in a new one, which differs from it in one part. Engines compare long strings much
+// faster than their letters one by one.
 export function movedTo(older, newer) {
   const [was, is, shorter] = [older.length, newer.length, Math.min(older.length, newer.length)];
   const same = lastAtMost(shorter + 1, (count) => Number(older.slice(0, count) !== newer.slice(0, count)), 0);
-  const alike = lastAtMost(shorter - same + 1, (count) => Number(older.slice(was - count) !== newer.slice(is - count)), 0);
+  const alike =
+    lastAtMost(shorter - same + 1, (count) => Number(older.slice(was - count) !== newer.slice(is - count)), 0);
   return (place) => (place < was - alike ? Math.min(place, is - alike) : place + is - was);
 }

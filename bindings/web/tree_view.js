@@ -1,4 +1,5 @@
-// The tree, as rows that open and close. Only the rows in sight are in the page, so a tree may have any number of elements.
+// The tree, as rows that open and close. Only the rows in sight are in the page, so a tree may have any number of
+// elements.
 import { escaped, piece } from "./editor.js";
 import { lastAtMost } from "./tree.js";
 
@@ -11,7 +12,9 @@ const QUIET = new Set(["WHITESPACE", "COMMA"]);
 export class TreeView {
   // `choose(element, intoText)` is called for an element that the reader chose.
   constructor(box, choose) {
-    Object.assign(this, { box, choose, list: box.firstElementChild, tree: null, shown: [], chosen: 0, hasQuiet: false });
+    Object.assign(
+      this, { box, choose, list: box.firstElementChild, tree: null, shown: [], chosen: 0, hasQuiet: false }
+    );
     // What the reader opened or closed, by the keys of the tree: so it stays so while the text changes.
     this.toggled = new Map();
     box.onscroll = () => this.#render();
@@ -24,7 +27,8 @@ export class TreeView {
   show(tree, moved) {
     const before = moved === null ? [] : [...this.toggled];
     this.tree = tree;
-    this.toggled = new Map(before.map(([key, isOpen]) => [moved(Math.floor(key / 0x10000)) * 0x10000 + (key % 0x10000), isOpen]));
+    this.toggled =
+      new Map(before.map(([key, isOpen]) => [moved(Math.floor(key / 0x10000)) * 0x10000 + (key % 0x10000), isOpen]));
     this.chosen = Math.min(this.chosen, tree.length - 1);
     this.refresh();
   }
@@ -81,12 +85,16 @@ export class TreeView {
     const { tree } = this;
     const [kind, depth, isToken] = [tree.kind(element), tree.depth(element), tree.isToken(element)];
     const row = piece(`row ${isToken ? "token" : "node"} ${kind}`);
-    Object.assign(row, { id: `element-${element}`, role: "treeitem", ariaLevel: depth + 1, ariaSelected: element === this.chosen });
+    Object.assign(
+      row, { id: `element-${element}`, role: "treeitem", ariaLevel: depth + 1, ariaSelected: element === this.chosen }
+    );
     if (tree.hasChildren(element)) row.ariaExpanded = this.#isOpen(element);
     row.style.top = `${place * ROW_HEIGHT}px`;
     row.style.setProperty("--depth", depth);
     const text = isToken ? escaped(JSON.stringify(tree.textOf(element).slice(0, MOST_LETTERS))) : "";
-    row.append(piece("kind", kind), piece("text", text), piece("range", `${tree.start(element)}..${tree.end(element)}`));
+    row.append(
+      piece("kind", kind), piece("text", text), piece("range", `${tree.start(element)}..${tree.end(element)}`)
+    );
     return row;
   }
 
@@ -109,7 +117,14 @@ export class TreeView {
     const place = this.#place(chosen);
     const page = Math.max(1, Math.floor(this.box.clientHeight / ROW_HEIGHT) - 1);
     const go = (to) => () => this.#choose(shown[Math.min(Math.max(to, 0), shown.length - 1)]);
-    const keys = { ArrowDown: go(place + 1), ArrowUp: go(place - 1), PageDown: go(place + page), PageUp: go(place - page), Home: go(0), End: go(shown.length - 1) };
+    const keys = {
+      ArrowDown: go(place + 1),
+      ArrowUp: go(place - 1),
+      PageDown: go(place + page),
+      PageUp: go(place - page),
+      Home: go(0),
+      End: go(shown.length - 1)
+    };
     keys.ArrowRight = () => (this.#isOpen(chosen) ? go(place + 1)() : tree.hasChildren(chosen) && this.#toggle(chosen));
     keys.ArrowLeft = () => (this.#isOpen(chosen) ? this.#toggle(chosen) : this.#choose(tree.parent(chosen)));
     keys.Enter = () => this.#choose(chosen, true);

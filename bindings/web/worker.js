@@ -12,6 +12,11 @@ onmessage = async ({ data: { task, text, limits, most } }) => {
   } catch (error) {
     // a full stack is one or the other, as the engine has it
     const isFull = error instanceof RangeError || error instanceof WebAssembly.RuntimeError;
-    postMessage({ failed: isFull ? "The browser's stack or memory is too small for this text. A lower recursion limit helps when it nests deeply." : String(error) });
+    postMessage({
+      failed: isFull ?
+        "The browser's stack or memory is too small for this text. " +
+          "A lower recursion limit helps when it nests deeply." :
+        String(error)
+    });
   }
 };

@@ -7,8 +7,11 @@ const edit = ({ range: at, newText }) => new vscode.TextEdit(range(at), newText)
 
 // VS Code counts severities and the kinds of symbols and completions from 0, the protocol from 1.
 function diagnostic({ range: at, message, severity, source, code, relatedInformation }) {
-  const related = relatedInformation?.map((it) => new vscode.DiagnosticRelatedInformation(location(it.location), it.message));
-  return Object.assign(new vscode.Diagnostic(range(at), message, severity - 1), { source, code, relatedInformation: related });
+  const related =
+    relatedInformation?.map((it) => new vscode.DiagnosticRelatedInformation(location(it.location), it.message));
+  return Object.assign(
+    new vscode.Diagnostic(range(at), message, severity - 1), { source, code, relatedInformation: related }
+  );
 }
 
 function symbol({ name, detail, kind, range: whole, selectionRange, children }) {
@@ -18,7 +21,9 @@ function symbol({ name, detail, kind, range: whole, selectionRange, children }) 
 }
 
 function completion({ label, kind, textEdit }) {
-  return Object.assign(new vscode.CompletionItem(label, kind - 1), { range: range(textEdit.range), insertText: textEdit.newText });
+  return Object.assign(
+    new vscode.CompletionItem(label, kind - 1), { range: range(textEdit.range), insertText: textEdit.newText }
+  );
 }
 
 // A definition that is found by its name in the open documents.
@@ -37,13 +42,31 @@ function signature({ label, documentation, parameters }) {
 }
 
 function signatures({ signatures: all, activeSignature, activeParameter }) {
-  return Object.assign(new vscode.SignatureHelp(), { signatures: all.map(signature), activeSignature, activeParameter });
+  return Object.assign(
+    new vscode.SignatureHelp(), { signatures: all.map(signature), activeSignature, activeParameter }
+  );
 }
 
 const highlight = ({ range: at }) => new vscode.DocumentHighlight(range(at));
-const fold = ({ startLine, endLine, kind }) => new vscode.FoldingRange(startLine, endLine, kind === "comment" ? vscode.FoldingRangeKind.Comment : undefined);
+const fold = ({ startLine, endLine, kind }) =>
+  new vscode.FoldingRange(startLine, endLine, kind === "comment" ? vscode.FoldingRangeKind.Comment : undefined);
 const selection = ({ range: at, parent }) => new vscode.SelectionRange(range(at), parent && selection(parent));
 const hover = ({ contents, range: at }) => new vscode.Hover(new vscode.MarkdownString(contents.value), range(at));
 const tokens = ({ data }) => new vscode.SemanticTokens(Uint32Array.from(data));
 
-module.exports = { changes, completion, diagnostic, edit, fold, found, highlight, hover, location, range, selection, signatures, symbol, tokens };
+module.exports = {
+  changes,
+  completion,
+  diagnostic,
+  edit,
+  fold,
+  found,
+  highlight,
+  hover,
+  location,
+  range,
+  selection,
+  signatures,
+  symbol,
+  tokens
+};

@@ -1,4 +1,5 @@
-// A client of gqlls: it tells the server of the documents that are open, shows the errors, and asks the server what VS Code wants to know.
+// A client of gqlls: it tells the server of the documents that are open, shows the errors, and asks the server what VS
+// Code wants to know.
 const { languages, SemanticTokensLegend, Uri, window, workspace } = require("vscode");
 const answers = require("./answers.js");
 const { Connection } = require("./connection.js");
@@ -26,14 +27,42 @@ const options = ({ tabSize, insertSpaces }) => ({ options: { tabSize, insertSpac
 const triggers = ({ triggerCharacters }) => triggerCharacters;
 const legend = ({ legend: { tokenTypes, tokenModifiers } }) => [new SemanticTokensLegend(tokenTypes, tokenModifiers)];
 
-// What the server may serve: its capability; VS Code's provider with its call, and further words of its registration; the request, what it says beside the
-// document, which it makes of the call's arguments, and how its answer is read. Of layout, folds and colours a document has one provider, so that these are
-// left to the language that a template is in (`languages`).
+// What the server may serve: its capability; VS Code's provider with its call, and further words of its registration;
+// the request, what it says beside the document, which it makes of the call's arguments, and how its answer is read. Of
+// layout, folds and colours a document has one provider, so that these are left to the language that a template is in
+// (`languages`).
 const SERVED = [
-  { can: "documentSymbolProvider", provider: "DocumentSymbol", call: "provideDocumentSymbols", method: "documentSymbol", value: each(answers.symbol) },
-  { can: "foldingRangeProvider", provider: "FoldingRange", languages: GRAPHQL, call: "provideFoldingRanges", method: "foldingRange", value: each(answers.fold) },
-  { can: "definitionProvider", provider: "Definition", call: "provideDefinition", method: "definition", more: atPosition, value: answers.location },
-  { can: "hoverProvider", provider: "Hover", call: "provideHover", method: "hover", more: atPosition, value: answers.hover },
+  {
+    can: "documentSymbolProvider",
+    provider: "DocumentSymbol",
+    call: "provideDocumentSymbols",
+    method: "documentSymbol",
+    value: each(answers.symbol)
+  },
+  {
+    can: "foldingRangeProvider",
+    provider: "FoldingRange",
+    languages: GRAPHQL,
+    call: "provideFoldingRanges",
+    method: "foldingRange",
+    value: each(answers.fold)
+  },
+  {
+    can: "definitionProvider",
+    provider: "Definition",
+    call: "provideDefinition",
+    method: "definition",
+    more: atPosition,
+    value: answers.location
+  },
+  {
+    can: "hoverProvider",
+    provider: "Hover",
+    call: "provideHover",
+    method: "hover",
+    more: atPosition,
+    value: answers.hover
+  },
   {
     can: "selectionRangeProvider",
     provider: "SelectionRange",
@@ -47,7 +76,7 @@ const SERVED = [
     provider: "Reference",
     call: "provideReferences",
     method: "references",
-    more: (at, { includeDeclaration }) => ({ ...atPosition(at), context: { includeDeclaration } }),
+    more: (at, { includeDeclaration }) => ({...atPosition(at), context: { includeDeclaration } }),
     value: each(answers.location),
   },
   {
@@ -63,7 +92,7 @@ const SERVED = [
     provider: "Rename",
     call: "provideRenameEdits",
     method: "rename",
-    more: (at, newName) => ({ ...atPosition(at), newName }),
+    more: (at, newName) => ({...atPosition(at), newName }),
     value: answers.changes,
   },
   {
@@ -99,7 +128,7 @@ const SERVED = [
     provider: "DocumentRangeFormattingEdit",
     call: "provideDocumentRangeFormattingEdits",
     method: "rangeFormatting",
-    more: (at, given) => ({ ...inRange(at), ...options(given) }),
+    more: (at, given) => ({...inRange(at), ...options(given) }),
     value: each(answers.edit),
   },
   {
@@ -130,9 +159,12 @@ class Client {
     this.disposables = [];
   }
 
-  // Starts the server and serves what it says that it can. Throws when the program cannot be started, or when it is stopped meanwhile.
+  // Starts the server and serves what it says that it can. Throws when the program cannot be started, or when it is
+  // stopped meanwhile.
   async start() {
-    const notified = (method, params) => method === "textDocument/publishDiagnostics" && this.#show(params);
+    // a server that is stopped may still send what it had to say
+    const notified = (method, params) =>
+      method === "textDocument/publishDiagnostics" && !this.isStopped && this.#show(params);
     const ended = (how) => {
       this.#dispose();
       if (this.isServing) window.showErrorMessage(`gqlls ended with ${how}`);
@@ -144,7 +176,9 @@ class Client {
     this.disposables.push(this.errors);
     const workspaceFolders = (workspace.workspaceFolders ?? []).map(({ uri, name }) => ({ uri: uri.toString(), name }));
     const rootUri = workspaceFolders[0]?.uri ?? null;
-    const { capabilities } = await this.connection.request("initialize", { processId: process.pid, rootUri, workspaceFolders, capabilities: CAPABILITIES });
+    const { capabilities } = await this.connection.request(
+      "initialize", { processId: process.pid, rootUri, workspaceFolders, capabilities: CAPABILITIES }
+    );
     this.#goOn();
     this.connection.notify("initialized", {});
     this.#follow();
@@ -175,7 +209,12 @@ class Client {
   #follow() {
     const tell = (act) => (document) => ALL.includes(document.languageId) && act(document);
     const opened = tell((document) => {
-      const textDocument = { ...named(document), languageId: document.languageId, version: document.version, text: document.getText() };
+      const textDocument = {
+        ...named(document),
+        languageId: document.languageId,
+        version: document.version,
+        text: document.getText()
+      };
       this.connection.notify("textDocument/didOpen", { textDocument });
     });
     const closed = tell((document) => {
@@ -185,17 +224,27 @@ class Client {
     const changed = ({ document, contentChanges }) => {
       if (!ALL.includes(document.languageId) || contentChanges.length === 0) return;
       const changes = contentChanges.map(({ range: at, text }) => ({ range: range(at), text }));
-      this.connection.notify("textDocument/didChange", { textDocument: { ...named(document), version: document.version }, contentChanges: changes });
+      this.connection.notify(
+        "textDocument/didChange",
+        { textDocument: {...named(document), version: document.version }, contentChanges: changes }
+      );
     };
     workspace.textDocuments.forEach(opened);
-    this.disposables.push(workspace.onDidOpenTextDocument(opened), workspace.onDidChangeTextDocument(changed), workspace.onDidCloseTextDocument(closed));
+    this.disposables.push(
+      workspace.onDidOpenTextDocument(opened), workspace.onDidChangeTextDocument(changed),
+      workspace.onDidCloseTextDocument(closed)
+    );
   }
 
-  // Tells the server of the files of the folder: which are made, changed or deleted (1 to 3 of the protocol's `FileChangeType`).
+  // Tells the server of the files of the folder: which are made, changed or deleted (1 to 3 of the protocol's
+  // `FileChangeType`).
   #watch() {
     const watcher = workspace.createFileSystemWatcher("**/*.{graphql,graphqls,gql}");
-    const tell = (type) => (uri) => this.connection.notify("workspace/didChangeWatchedFiles", { changes: [{ uri: uri.toString(), type }] });
-    this.disposables.push(watcher, watcher.onDidCreate(tell(1)), watcher.onDidChange(tell(2)), watcher.onDidDelete(tell(3)));
+    const tell = (type) => (uri) =>
+      this.connection.notify("workspace/didChangeWatchedFiles", { changes: [{ uri: uri.toString(), type }] });
+    this.disposables.push(
+      watcher, watcher.onDidCreate(tell(1)), watcher.onDidChange(tell(2)), watcher.onDidDelete(tell(3))
+    );
   }
 
   // The answer as a value of VS Code. It is null where the server has none, or refuses the request.
@@ -209,10 +258,14 @@ class Client {
   }
 
   #serve(capabilities) {
-    for (const { can, provider, languages: served = ALL, words = () => [], call, method, more = () => ({}), value } of SERVED) {
+    for (const { can, provider, languages: served = ALL, words = () => [], call, method, more = () => ({}), value } of
+           SERVED) {
       if (!capabilities[can]) continue;
-      const ask = (document, ...given) => this.#ask(`textDocument/${method}`, { textDocument: named(document), ...more(...given) }, value);
-      this.disposables.push(languages[`register${provider}Provider`](served.map((language) => ({ language })), { [call]: ask }, ...words(capabilities[can])));
+      const ask = (document, ...given) =>
+        this.#ask(`textDocument/${method}`, { textDocument: named(document), ...more(...given) }, value);
+      this.disposables.push(languages[`register${provider}Provider`](
+        served.map((language) => ({ language })), { [call]: ask }, ...words(capabilities[can])
+      ));
     }
     if (!capabilities.workspaceSymbolProvider) return;
     const provideWorkspaceSymbols = (query) => this.#ask("workspace/symbol", { query }, each(answers.found));

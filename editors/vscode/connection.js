@@ -11,7 +11,8 @@ class Connection {
   #length = 0;
   #needed = 0;
 
-  // Starts the program with these words. `notified` gets the method and the parameters of each notification, `ended` a text when the program has ended by itself.
+  // Starts the program with these words. `notified` gets the method and the parameters of each notification, `ended` a
+  // text when the program has ended by itself.
   constructor(command, words, { notified, ended }) {
     this.process = spawn(command, words, { stdio: ["pipe", "pipe", "inherit"] });
     this.started = new Promise((resolve, reject) => this.process.once("spawn", resolve).once("error", reject));

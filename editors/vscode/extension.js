@@ -3,7 +3,8 @@
 const { commands, window, workspace } = require("vscode");
 const { Client } = require("./client.js");
 
-// The client of the server; the start that is under way or was the last; the restart that has not started its server yet.
+// The client of the server; the start that is under way or was the last; the restart that has not started its server
+// yet.
 let [client, starting, restarting, isActive] = [undefined, Promise.resolve(), undefined, true];
 
 async function stop() {
@@ -12,10 +13,12 @@ async function stop() {
   await running?.stop();
 }
 
-// The words of the server's limits. Without a setting the server has its own. It refuses what is no number from 0 on, so that no wrong limit is dropped.
+// The words of the server's limits. Without a setting the server has its own. It refuses what is no number from 0 on,
+// so that no wrong limit is dropped.
 function limitWords(settings) {
   const limits = { "--recursion": settings.get("recursionLimit"), "--tokens": settings.get("tokenLimit") };
-  return Object.entries(limits).flatMap(([name, limit]) => (limit === null || limit === undefined ? [] : [name, String(limit)]));
+  return Object.entries(limits
+  ).flatMap(([name, limit]) => (limit === null || limit === undefined ? [] : [name, String(limit)]));
 }
 
 async function start() {
@@ -31,7 +34,8 @@ async function start() {
   }
 }
 
-// Ends the server, and when it is gone starts one with the settings of then. Until that one starts, further calls wait for the same: there is never a second.
+// Ends the server, and when it is gone starts one with the settings of then. Until that one starts, further calls wait
+// for the same: there is never a second.
 function restart() {
   restarting ??= (async () => {
     try {

@@ -1,1 +1,1 @@
-"""Parts of tools/promises."""
+"""Parts of tools/evidence."""

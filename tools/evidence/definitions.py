@@ -26,14 +26,17 @@ def is_generated(path):
 
 @cache
 def spec(path):
-    """The file of a module's path, which may be one that a crate passes on; nothing for those of the kit's other libraries and for types of the code."""
+    """The file of a module's path, which may be one that a crate passes on; nothing for those of the kit's other
+    libraries and for types of the code."""
     crate, *rest = path.split(".")
     if not (home(crate) / crate).is_dir() or rest[:1] != ["specs"] or rest[1:2] == ["declared"]:
         return None
     file = home(crate) / crate / "specs" / ("/".join(rest[1:]) + ".antt")
     if file.exists():
         return file
-    for at in re.finditer(r"^pub use Rattle\.(\S+?)(?: as (\S+))?$", (home(crate) / crate / "specs/Lib.antt").read_text(), re.MULTILINE):
+    for at in re.finditer(
+        r"^pub use Rattle\.(\S+?)(?: as (\S+))?$", (home(crate) / crate / "specs/Lib.antt").read_text(), re.MULTILINE
+    ):
         if (at[2] or at[1].split(".")[-1]) == rest[1]:
             return spec(at[1])
     return None
@@ -47,7 +50,9 @@ class Source:
     def __init__(self, path):
         self.uses, self.modules, self.definitions = {}, {}, {}
         text = re.sub(r"--.*", "", path.read_text())
-        for at in re.finditer(r"^\s*(?:pub |ghost )*use Rattle\.([\w.]+?)(?:\.\{(.*?)\}| as (\w+))?;?$", text, re.MULTILINE):
+        for at in re.finditer(
+            r"^\s*(?:pub |ghost )*use Rattle\.([\w.]+?)(?:\.\{(.*?)\}| as (\w+))?;?$", text, re.MULTILINE
+        ):
             for word in (at[2] or "").split(",") if at[2] else []:
                 name, _, other = word.strip().partition(" as ")
                 self.uses[other or name] = (at[1], name)
@@ -62,7 +67,9 @@ class Source:
     def defined(body):
         words = r"(?:pub |abbrev |unfoldable |record |data |ghost )*"
         is_block = re.match(r"(?:abbrev |unfoldable )?mutual|module", body) or re.match(r"(?:pub |abbrev )*data ", body)
-        heads = re.findall(rf"^{words}([^\s:(]+)", body) + (re.findall(rf"^\s+{words}([^\s:(]+)", body, re.MULTILINE) if is_block else [])
+        heads = re.findall(rf"^{words}([^\s:(]+)", body) + (
+            re.findall(rf"^\s+{words}([^\s:(]+)", body, re.MULTILINE) if is_block else []
+        )
         return set(heads)
 
     @classmethod
@@ -76,7 +83,11 @@ class Source:
         for at in re.finditer(r"(\w+)\.([^\s(){}\[\],;.:]+)", text):
             if at[1] in self.modules:
                 yield spec(self.modules[at[1]]), at[2]
-        operators = [name for name in {**self.uses, **self.definitions} if "◌" in name and all(part in text for part in name.split("◌") if part)]
+        operators = [
+            name
+            for name in {**self.uses, **self.definitions}
+            if "◌" in name and all(part in text for part in name.split("◌") if part)
+        ]
         for name in {*NAME.findall(text), *operators}:
             if name in self.definitions:
                 yield path, name
@@ -93,8 +104,8 @@ def used_by(path, name):
 
 
 def used(clauses, spared):
-    """The definitions that clauses use, and those that these use, each a file and a name, without those of the spared files. Clauses are pairs of a text and
-    the file it is in."""
+    """The definitions that clauses use, and those that these use, each a file and a name, without those of the spared
+    files. Clauses are pairs of a text and the file it is in."""
     seen, left = set(), [found for text, file in clauses for found in Source.of(file).named(text, file)]
     while left:
         path, name = left.pop()
@@ -105,7 +116,8 @@ def used(clauses, spared):
 
 
 def lines_by_file(definitions):
-    """How many lines the definitions have in each file, without comments and blank lines. Those that are defined together count once."""
+    """How many lines the definitions have in each file, without comments and blank lines. Those that are defined
+    together count once."""
     bodies = {(path, body) for path, name in definitions for body in Source.of(path).definitions[name]}
     lines = Counter()
     for path, body in bodies:
@@ -120,7 +132,9 @@ def in_order(files):
     def place(path):
         if path not in placed:
             placed.add(path)
-            for module in sorted({module for module, _ in Source.of(path).uses.values()} | set(Source.of(path).modules.values())):
+            for module in sorted(
+                {module for module, _ in Source.of(path).uses.values()} | set(Source.of(path).modules.values())
+            ):
                 used = spec(module)
                 if used in files:
                     place(used)

@@ -57,7 +57,8 @@ def proof(module):
 
 
 def named(path, name, seen=()):
-    """The lemmas of other files that a lemma names, by itself or by the lemmas of its own file: each a file and a name, in their order."""
+    """The lemmas of other files that a lemma names, by itself or by the lemmas of its own file: each a file and a name,
+    in their order."""
     source, found = Source.of(path), []
     for at in re.finditer(r"(?:(\w+)\.)?([^\s(){}\[\],;.:]+)", body(path, name)):
         if at[1] in source.modules and (file := proof(source.modules[at[1]])):
@@ -80,7 +81,8 @@ def of_clause(call, clause):
 
 
 def of_fields(file, fields):
-    """For each field the lemmas of other crates that the lemma of its name in the file rests on. A lemma on which more than five rest says little, and goes."""
+    """For each field the lemmas of other crates that the lemma of its name in the file rests on. A lemma on which more
+    than five rest says little, and goes."""
     names = heads(file)
     found = {field: below(file, name) for field in fields for name in (field, field.replace("_", "-")) if name in names}
     often = Counter(lemma for lemmas in found.values() for lemma in lemmas)

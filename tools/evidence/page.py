@@ -1,4 +1,5 @@
-"""The page docs/EVIDENCE.md: from each clause to its lemmas and to the edits that break it, and what to read in order to believe a clause."""
+"""The page build/EVIDENCE.md: from each clause to its lemmas and to the edits that break it, and what to read in order
+to believe a clause; and docs/DEFINITIONS.md, the number of lines that are to be read."""
 
 import re
 import textwrap
@@ -6,27 +7,45 @@ import textwrap
 from . import contracts, lemmas
 from .definitions import CRATES, KIT, Source, in_order, is_generated, lines_by_file, name_of, spec, used
 
-# The calls that a user reads, by their part: a title, files and folders, and how much of the list of definitions is counted for it.
+# The calls that a user reads, by their part: a title, files and folders, and how much of the list of definitions is
+# counted for it.
 PARTS = {
     "`parse`, and parts of documents": "apollo_parser/src/parser.rt",
-    "trees, typed nodes and values": """apollo_parser/src/syntax_tree.rt apollo_parser/src/borrowed_tree.rt parser_state/src/borrowed_error.rt apollo_tree/src/builder.rt apollo_tree/src/node.rt apollo_tree/src/children.rt
-        apollo_tree/src/pointer.rt apollo_tree/src/subtree.rt apollo_tree/src/range.rt apollo_tree/src/token_text.rt apollo_tree/src/indexed.rt
+    "trees, typed nodes and values": """
+        apollo_parser/src/syntax_tree.rt apollo_parser/src/borrowed_tree.rt parser_state/src/borrowed_error.rt
+        apollo_tree/src/builder.rt apollo_tree/src/node.rt apollo_tree/src/children.rt apollo_tree/src/pointer.rt
+        apollo_tree/src/subtree.rt apollo_tree/src/range.rt apollo_tree/src/token_text.rt apollo_tree/src/indexed.rt
         apollo_cst_core/src/laws.rt apollo_cst_executable/src apollo_cst_type_system/src""",
-    "the lexer": """apollo_lexer/src/lexer.rt apollo_lexer/src/limit.rt apollo_lexer/src/error.rt apollo_lexer/src/token.rt apollo_lexer/src/lex_error.rt""",
+    "the lexer": """
+        apollo_lexer/src/lexer.rt apollo_lexer/src/limit.rt apollo_lexer/src/error.rt apollo_lexer/src/token.rt
+        apollo_lexer/src/lex_error.rt""",
     "`gqlcst`": "byte_devices/src gqlcst_run/src/program.rt gqlcst_run/src/ending.rt program_words/src/gqlcst.rt",
     "`format`": "formatter/src/lib.rt",
-    "`gqlfmt`": """ignore_rules/src/rules.rt unignored_files/src/unignored.rt named_files/src/finding.rt gqlfmt_files/src/settling.rt program_words/src/gqlfmt.rt gqlfmt_run/src/formatting.rt gqlfmt_run/src/input.rt gqlfmt_run/src/paths.rt gqlfmt_run/src/program.rt""",
-    "C, Python and the page": """dumyroke_flat/src/parse.rt dumyroke_flat/src/items.rt dumyroke_flat/src/strings.rt dumyroke_flat/src/format.rt
-        dumyroke_flat/src/laws.rt dumyroke_validation/src/validating.rt dumyroke_validation/src/measuring.rt dumyroke_c/src/lib.rt""",
-    "positions, and `gqlls`": """line_index/src editor_text/src rpc_messages/src rpc_serving/src editor_diagnostics/src
-        editor_validation/src editor_edits/src editor_answers/src embedded_documents/src schema_members/src program_words/src/gqlls.rt gqlls_run/src/server.rt file_uris/src gqlls_files/src/running.rt""",
-    "validation": "apollo_validation/src/validation.rt apollo_validation/src/messages.rt apollo_validation/src/lists.rt",
-    "the cost of operations": "operation_limits/src/measuring.rt operation_limits/src/limiting.rt expansion_figures/src/limits.rt",
+    "`gqlfmt`": """
+        ignore_rules/src/rules.rt unignored_files/src/unignored.rt named_files/src/finding.rt
+        gqlfmt_files/src/settling.rt program_words/src/gqlfmt.rt gqlfmt_run/src/formatting.rt gqlfmt_run/src/input.rt
+        gqlfmt_run/src/paths.rt gqlfmt_run/src/program.rt""",
+    "C, Python and the page": """
+        dumyroke_flat/src/parse.rt dumyroke_flat/src/items.rt dumyroke_flat/src/strings.rt
+        dumyroke_flat/src/format.rt dumyroke_flat/src/laws.rt dumyroke_validation/src/validating.rt
+        dumyroke_validation/src/measuring.rt dumyroke_c/src/lib.rt""",
+    "positions, and `gqlls`": """
+        line_index/src editor_text/src rpc_messages/src rpc_serving/src editor_diagnostics/src editor_validation/src
+        editor_edits/src editor_answers/src embedded_documents/src schema_members/src program_words/src/gqlls.rt
+        gqlls_run/src/server.rt file_uris/src gqlls_files/src/running.rt""",
+    "validation": (
+        "apollo_validation/src/validation.rt apollo_validation/src/messages.rt apollo_validation/src/lists.rt"
+    ),
+    "the cost of operations": (
+        "operation_limits/src/measuring.rt operation_limits/src/limiting.rt expansion_figures/src/limits.rt"
+    ),
     "`gqlcheck`": "document_checks/src/checking.rt program_words/src/gqlcheck.rt gqlcheck_run/src/program.rt",
 }
 # Laws, and calls between crates: the page has their lemmas, and no definitions are listed for them.
-LAWS = """lexical_grammar/src/lib.rt lexical_grammar/src/escapes.rt document_grammar/src/kind.rt document_grammar/src/laws.rt grammar_machine/src/laws.rt
-    apollo_lexer/src/laws.rt apollo_parser/src/laws.rt apollo_cst_core/src/typed.rt apollo_cst_core/src/strings.rt apollo_cst_core/src/kinds.rt
+LAWS = """
+    lexical_grammar/src/lib.rt lexical_grammar/src/escapes.rt document_grammar/src/kind.rt
+    document_grammar/src/laws.rt grammar_machine/src/laws.rt apollo_lexer/src/laws.rt apollo_parser/src/laws.rt
+    apollo_cst_core/src/typed.rt apollo_cst_core/src/strings.rt apollo_cst_core/src/kinds.rt
     format_layout/src/layout.rt format_layout/src/spelling.rt format_layout/src/laws.rt format_layout/src/slot.rt"""
 # The calls and programs for which the lines of definitions are counted.
 COUNTED = {
@@ -40,12 +59,13 @@ COUNTED = {
 }
 # The four clauses of `parse` that are the main theorem.
 MAIN = ["sound", "accepts", "only_derivation", "still_a_sentence"]
-# Generated calls: an accessor has the contract of one of three calls of `apollo_cst_core`, and the law `reading_back` is about all of them.
+# Generated calls: an accessor has the contract of one of three calls of `apollo_cst_core`, and the law `reading_back`
+# is about all of them.
 ACCESSORS = ("apollo_cst_executable", "apollo_cst_type_system")
 HEAD = """\
 # Evidence
 
-`tools/promises` writes this page from the contracts, the proofs and the edits. [PROMISES.md](PROMISES.md) says in words what the clauses mean.
+`./do evidence` writes this page from the contracts, the proofs and the edits. PROMISES.md says in words what the clauses mean.
 """
 CALLS = """\
 ## From a clause to its proof
@@ -59,15 +79,33 @@ edits that break a clause and that `./do gate` checks the prover to refuse: `CRA
 READING = """\
 ## What to read in order to believe it
 
-A clause is as good as the definitions that it uses. A definition that a clause names counts, and so does each that this one names, and no other of its file.
-Comments and blank lines do not count. "Of the kit" are the words for JSON and for headers, which are the kit's own. "Written by a program" are lists of the
-kinds of nodes.
+Below are the files of definitions, each after those that it uses, with the lines that are needed. A definition is in the first list that needs it.
+DEFINITIONS.md has the sum for each program.
+"""
+TABLE = """\
+# What to read in order to believe it
 
+A clause is as good as the definitions that it uses. This table counts their lines, for each program
+and each library. For example, whoever has read the lines of the first row knows what each clause of
+a parse means.
+
+- A definition counts if a clause names it, or if a definition that counts names it.
+- Comments and blank lines do not count.
+- "The kit's" are definitions of JSON and of headers, which come with the kit.
+- "Generated" are lists of the kinds of nodes, which a program writes.
+
+{rows}
+
+`./do generate` writes this page. `./do evidence` writes `build/EVIDENCE.md`, which lists the
+definitions file by file. It also has the lemmas of each clause, and the edits that break it.
 """
 # Files whose definitions a reader may take as they are, and why.
-SPARED = """lexical_grammar/specs/Reads.antt lexical_grammar/specs/NumberStates.antt apollo_parser/specs/ByRules.antt parser_rules/specs/State.antt
-    parser_rules/specs/Nodes.antt parser_rules/specs/RuleLanguage.antt parser_rules/specs/Rules.antt parser_rules/specs/Runs.antt parser_state/specs/Errors.antt
-    grammar_machine/specs/Machine.antt grammar_machine/specs/Symbols.antt grammar_machine/specs/Table.antt document_grammar/specs/Booleans.antt"""
+SPARED = """
+    lexical_grammar/specs/Reads.antt lexical_grammar/specs/NumberStates.antt apollo_parser/specs/ByRules.antt
+    parser_rules/specs/State.antt parser_rules/specs/Nodes.antt parser_rules/specs/RuleLanguage.antt
+    parser_rules/specs/Rules.antt parser_rules/specs/Runs.antt parser_state/specs/Errors.antt
+    grammar_machine/specs/Machine.antt grammar_machine/specs/Symbols.antt grammar_machine/specs/Table.antt
+    document_grammar/specs/Booleans.antt"""
 UNREAD = """\
 ### Not to be read
 
@@ -123,8 +161,8 @@ def all_calls():
 
 
 def fields_of(call, text):
-    """The fields, each with its text, of the record of this repository that a clause says holds, by its name or by an `abbrev` of its file;
-    nothing for a record of one field."""
+    """The fields, each with its text, of the record of this repository that a clause says holds, by its name or by an
+    `abbrev` of its file; nothing for a record of one field."""
     source = Source.of(call.file)
     said = re.match(r"\s*ensures \w* ?\{ (?:IfOk \w+ |IfErr \w+ |\(|λ \w+\. )*(\w+)", text)
     path = spec(source.uses[said[1]][0]) if said and said[1] in source.uses else None
@@ -141,13 +179,17 @@ def by_file(found):
     files = {}
     for file, name in found:
         files.setdefault(file, []).append(name)
-    return "; ".join(f"`{lemmas.module(file)}` " + ", ".join(f"`{name}`" for name in names) for file, names in files.items())
+    return "; ".join(
+        f"`{lemmas.module(file)}` " + ", ".join(f"`{name}`" for name in names) for file, names in files.items()
+    )
 
 
 def said(text, broken, clause=None):
     """What is said of a clause, or of a call: its lemmas, and the edits that break it."""
     edits = [edit for edit, clauses in broken if (clause in clauses if clause else not clauses)]
-    in_gate, others = (names(edit for edit in edits if (folder == "must-fail") == is_in_gate(edit)) for folder in FOLDERS)
+    in_gate, others = (
+        names(edit for edit in edits if (folder == "must-fail") == is_in_gate(edit)) for folder in FOLDERS
+    )
     return (f": {text}" if text else "") + (f" ✗ {in_gate}" if in_gate else "") + (f" (✗) {others}" if others else "")
 
 
@@ -156,8 +198,8 @@ def names(found):
 
 
 def field_lines(fields, file, broken, is_new):
-    """A line for each field of a record that has lemmas of other crates or edits, and one for the others. Where the record had its lines before, those
-    with edits alone."""
+    """A line for each field of a record that has lemmas of other crates or edits, and one for the others. Where the
+    record had its lines before, those with edits alone."""
     rests = lemmas.of_fields(file, fields) if file and is_new else {}
     told = {field: said(by_file(rests.get(field, [])), broken, field) for field in fields}
     for field in fields:
@@ -191,7 +233,10 @@ def lines(call, others, broken, seen):
 
 def wrapped(deep, text):
     """An item of a list, in lines of at most 150 characters."""
-    return textwrap.fill(f"- {text}", 150, initial_indent="  " * deep, subsequent_indent="  " * deep + "  ", break_long_words=False, break_on_hyphens=False)
+    return textwrap.fill(
+        f"- {text}", 150, initial_indent="  " * deep, subsequent_indent="  " * deep + "  ", break_long_words=False,
+        break_on_hyphens=False,
+    )
 
 
 def proofs():
@@ -225,7 +270,11 @@ def edits_wrong():
         else:
             call = named[key]
             known = set(call.clauses) | {field for text in call.clauses.values() for field in fields_of(call, text)}
-            yield from (f"tools/evidence/edits: {call.title} has no clause {clause}" for clause in clauses if clause not in known)
+            yield from (
+                f"tools/evidence/edits: {call.title} has no clause {clause}"
+                for clause in clauses
+                if clause not in known
+            )
 
 
 def wrong_bodies():
@@ -236,7 +285,8 @@ def wrong_bodies():
 
 
 def wrong_bodies_missing():
-    """Wrong bodies that are no edit any more. One is refused by a test, since each clause of a call lets it say that memory is refused."""
+    """Wrong bodies that are no edit any more. One is refused by a test, since each clause of a call lets it say that
+    memory is refused."""
     there = edit_files()
     for body in wrong_bodies():
         crate, is_edit, _ = body.partition("/")
@@ -267,19 +317,29 @@ def main_definitions():
 
 
 def counts(doors):
-    """How many lines of definitions files and folders need: those by hand, those of them that are the kit's, and those that a program wrote."""
+    """How many lines of definitions files and folders need: those by hand, those of them that are the kit's, and those
+    that a program wrote."""
     lines = lines_by_file(definitions_of(doors))
     by_hand = {path: count for path, count in lines.items() if not is_generated(path)}
-    return sum(by_hand.values()), sum(count for path, count in by_hand.items() if KIT in path.parents), sum(lines.values()) - sum(by_hand.values())
+    return (
+        sum(by_hand.values()),
+        sum(count for path, count in by_hand.items() if KIT in path.parents),
+        sum(lines.values()) - sum(by_hand.values()),
+    )
 
 
 def table():
     """The lines that each call and program needs."""
-    yield "| To believe | Read | of it of the kit | Written by a program |"
+    yield "| To believe | Lines to read | of these the kit's | Generated |"
     yield "|---|---|---|---|"
     for title, doors in COUNTED.items():
         by_hand, of_kit, generated = counts(doors.split())
         yield f"| {title} | {by_hand:,} | {of_kit or '–'} | {generated} |"
+
+
+def definitions():
+    """The page docs/DEFINITIONS.md."""
+    return TABLE.format(rows="\n".join(table()))
 
 
 def lists():
@@ -297,14 +357,17 @@ def lists():
 
 
 def reading():
-    made = ["\n".join(table())]
-    made.append("\nBelow are the files, each after those that it uses, with the lines that are needed. A definition is in the first list that needs it.")
+    made = []
     for title, found in lists():
         lines = lines_by_file(found)
         by_hand = sum(count for path, count in lines.items() if not is_generated(path))
         files = in_order(set(lines))
         made.append(f"\n### For {title}: {by_hand:,} lines\n")
-        made.append(textwrap.fill(", ".join(f"`{name_of(path)}`\u00a0{lines[path]}" for path in files), 158, break_on_hyphens=False))
+        made.append(
+            textwrap.fill(
+                ", ".join(f"`{name_of(path)}`\u00a0{lines[path]}" for path in files), 158, break_on_hyphens=False
+            )
+        )
     return "\n".join(made) + "\n"
 
 

@@ -7,7 +7,8 @@ const tree = new Tree("{ a }", parsed);
 const kind: Kind = tree.kind(0);
 const messages: string[] = parsed.errors.map((error) => error.message);
 const measured: Measured = parser.measure("{ a }", { recursion: 10 }, 100);
-export const figures: [bigint[], number | undefined] = [measured.operations.map((operation) => operation.rootFields), measured.place?.start];
+export const figures: [bigint[], number|undefined] =
+  [measured.operations.map((operation) => operation.rootFields), measured.place?.start];
 export const all: [boolean, string[], readonly Kind[], number] = [kind === "DOCUMENT", messages, KINDS, STATUS.OK];
 // @ts-expect-error: no kind has this name
 export const wrong: boolean = kind === "DOCUMENTS";

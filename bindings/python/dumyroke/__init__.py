@@ -11,10 +11,12 @@
     >>> dumyroke.measure("{ a ...F } fragment F on T { b { c } }")[0].figures.depth
     2
 
-`parse` gives a tree of any text, `check` its errors alone, and `format` a document in the layout of the program gqlfmt. `parse_selection_set` and
-`parse_type` give trees of parts of documents, and `lex` the tokens. `validate` has the rules that need no schema, `measure` says how large operations
-are with their fragments expanded, and `check_limits` which limit is exceeded. `nodes` has a class for each kind of node. The parser is a library in C that is in the package; what is proved of it is in docs/BINDINGS.md.
-"""
+`parse` gives a tree of any text, `check` its errors alone, and `format` a document in the layout of the program gqlfmt.
+`parse_selection_set` and
+`parse_type` give trees of parts of documents, and `lex` the tokens. `validate` has the rules that need no schema,
+`measure` says how large operations are with their fragments expanded, and `check_limits` which limit is exceeded.
+`nodes` has a class for each kind of node. The parser is a library in C that is in the package; what is proved of it is
+in docs/BINDINGS.md. """
 
 from . import nodes
 from .calls import NotADocument, check, format, lex, parse, parse_selection_set, parse_type
@@ -26,5 +28,11 @@ from .validation import Exceeded, Figures, NoFigures, Operation, Violation, chec
 
 __version__ = "0.1.0"
 
-__all__ = ["Element", "Error", "Errors", "Item", "Node", "NotADocument", "Position", "Token", "Tree", "check", "format", "lex", "nodes", "parse"]
-__all__ += ["parse_selection_set", "parse_type", "Exceeded", "Figures", "NoFigures", "Operation", "Violation", "check_limits", "measure", "validate"]
+__all__ = [
+    "Element", "Error", "Errors", "Item", "Node", "NotADocument", "Position", "Token", "Tree", "check", "format", "lex",
+    "nodes", "parse",
+]
+__all__ += [
+    "parse_selection_set", "parse_type", "Exceeded", "Figures", "NoFigures", "Operation", "Violation", "check_limits",
+    "measure", "validate",
+]

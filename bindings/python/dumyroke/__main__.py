@@ -1,5 +1,6 @@
-"""python -m dumyroke check FILE..: prints the errors of GraphQL documents as FILE:LINE:COLUMN: message. Columns count characters. The file - is
-standard input. Ends with 0 if there are no errors, with 1 if there are, and with 2 if a file can't be read or is not UTF-8."""
+"""python -m dumyroke check FILE..: prints the errors of GraphQL documents as FILE:LINE:COLUMN: message. Columns count
+characters. The file - is standard input. Ends with 0 if there are no errors, with 1 if there are, and with 2 if a file
+can't be read or is not UTF-8."""
 
 import io
 import sys
@@ -9,8 +10,12 @@ from . import check
 
 
 def shown(text: str) -> str:
-    """A text whose control and format characters and line separators are escapes, so that a terminal obeys none of them."""
-    return "".join(c.encode("unicode_escape").decode() if unicodedata.category(c) in ("Cc", "Cf", "Cs", "Zl", "Zp") else c for c in text)
+    """A text whose control and format characters and line separators are escapes, so that a terminal obeys none of
+    them."""
+    return "".join(
+        c.encode("unicode_escape").decode() if unicodedata.category(c) in ("Cc", "Cf", "Cs", "Zl", "Zp") else c
+        for c in text
+    )
 
 
 def errors_in(name: str) -> int:

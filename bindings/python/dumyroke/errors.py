@@ -22,7 +22,10 @@ class Error(Placed):
     is_eof: bool
     """Whether the error is about the end of the text."""
 
-    def __init__(self, message: str, data: str, range: tuple[int, int], is_limit: bool, is_eof: bool, positions: Positions):
+
+    def __init__(
+        self, message: str, data: str, range: tuple[int, int], is_limit: bool, is_eof: bool, positions: Positions
+    ):
         super().__init__(range, positions)
         self.message, self.data = message, data
         self.is_limit, self.is_eof = is_limit, is_eof
@@ -61,7 +64,8 @@ class Error(Placed):
 
 
 class Errors(Sequence[Error]):
-    """The errors of a text, in the order in which they were found. Each is made when it is looked at: a text may have three for each of its bytes."""
+    """The errors of a text, in the order in which they were found. Each is made when it is looked at: a text may have
+    three for each of its bytes."""
 
     __slots__ = ("_source", "_rows", "_messages", "_positions")
 

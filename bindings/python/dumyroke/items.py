@@ -12,7 +12,8 @@ class Item(Placed):
     __slots__ = ("kind", "text", "error")
 
     kind: str
-    """The kind of a token, as "L_CURLY", which its leaf has in a tree: "IDENT" for each name. "ERROR" for bad text and for the limit."""
+    """The kind of a token, as "L_CURLY", which its leaf has in a tree: "IDENT" for each name. "ERROR" for bad text and
+    for the limit."""
     text: str
     """Its text, which is empty for the limit."""
     error: Error | None

@@ -20,11 +20,15 @@ parse_selection_set = _library.dumyroke_parse_selection_set
 parse_type = _library.dumyroke_parse_type
 for _call in (parse, parse_selection_set, parse_type):
     _call.restype = c_uint32
-    _call.argtypes = [c_char_p, c_size_t, Limits, c_void_p, c_size_t, c_void_p, c_size_t, c_void_p, c_size_t, POINTER(Counts)]
+    _call.argtypes = [
+        c_char_p, c_size_t, Limits, c_void_p, c_size_t, c_void_p, c_size_t, c_void_p, c_size_t, POINTER(Counts),
+    ]
 
 lex = _library.dumyroke_lex
 lex.restype = c_uint32
-lex.argtypes = [c_char_p, c_size_t, c_size_t, c_void_p, c_size_t, c_void_p, c_size_t, c_void_p, c_size_t, POINTER(Counts)]
+lex.argtypes = [
+    c_char_p, c_size_t, c_size_t, c_void_p, c_size_t, c_void_p, c_size_t, c_void_p, c_size_t, POINTER(Counts),
+]
 
 string_value = _library.dumyroke_string_value
 string_value.restype = c_uint32
@@ -36,7 +40,9 @@ format_document.argtypes = [c_char_p, c_size_t, Limits, c_void_p, c_size_t, POIN
 
 validate = _library.dumyroke_validate
 validate.restype = c_uint32
-validate.argtypes = [c_char_p, c_size_t, Limits, c_size_t, c_void_p, c_size_t, c_void_p, c_size_t, POINTER(ViolationCounts)]
+validate.argtypes = [
+    c_char_p, c_size_t, Limits, c_size_t, c_void_p, c_size_t, c_void_p, c_size_t, POINTER(ViolationCounts),
+]
 
 measure = _library.dumyroke_measure
 measure.restype = c_uint32
@@ -44,7 +50,8 @@ measure.argtypes = [c_char_p, c_size_t, Limits, c_void_p, c_size_t, POINTER(Meas
 
 
 def number(name: str, value: SupportsIndex | None) -> int:
-    """A number that a caller gives as an argument of this name. None is no limit, and so is one that needs more than 64 bits, which ctypes would cut off.
+    """A number that a caller gives as an argument of this name. None is no limit, and so is one that needs more than 64
+    bits, which ctypes would cut off.
 
     Raises `TypeError` if it is no int, and `ValueError` if it is below 0."""
     if value is None:

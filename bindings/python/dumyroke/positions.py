@@ -16,8 +16,8 @@ _STEP = 64
 
 
 class Position(NamedTuple):
-    """A position in a text. All count from 1: the line, the column in characters of the str, and the column in bytes of UTF-8. Lines end with
-    LF, CR or CR LF, as GraphQL has it."""
+    """A position in a text. All count from 1: the line, the column in characters of the str, and the column in bytes of
+    UTF-8. Lines end with LF, CR or CR LF, as GraphQL has it."""
 
     line: int
     column: int
@@ -41,7 +41,9 @@ class Positions:
             return offset
         if self._marks is None:
             parts = (self._source[start : start + _STEP] for start in range(0, len(self._source), _STEP))
-            self._marks = array("Q", accumulate((len(part.translate(None, _CONTINUATIONS)) for part in parts), initial=0))
+            self._marks = array(
+                "Q", accumulate((len(part.translate(None, _CONTINUATIONS)) for part in parts), initial=0)
+            )
         mark = offset // _STEP
         return self._marks[mark] + len(self._source[mark * _STEP : offset].translate(None, _CONTINUATIONS))
 

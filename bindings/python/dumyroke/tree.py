@@ -1,8 +1,8 @@
 """Trees, and what nodes and tokens have in common.
 
-A tree is one array of numbers that the library filled. Nodes and tokens are made when they are looked at: each is a reference to the tree and
-an index, and two of the same element are equal. The class of a node says its kind; the classes are in `nodes`.
-"""
+A tree is one array of numbers that the library filled. Nodes and tokens are made when they are looked at: each is a
+reference to the tree and an index, and two of the same element are equal. The class of a node says its kind; the
+classes are in `nodes`. """
 
 from __future__ import annotations
 
@@ -88,7 +88,8 @@ class Element:
 
 
 class Token(Element):
-    """A token: white space, a comment, a comma, a punctuator, a word, a number, a string, or text that was refused (kind ERROR)."""
+    """A token: white space, a comment, a comma, a punctuator, a word, a number, a string, or text that was refused
+    (kind ERROR)."""
 
     __slots__ = ()
 
@@ -152,7 +153,8 @@ class Node(Element):
     @overload
     def find(self, kind: str) -> list[Element]: ...
     def find(self, kind: type[Node] | str) -> Any:
-        """All elements of a kind, the node itself and those below it, in document order. A kind is a class of `nodes`, or a name as "IDENT"."""
+        """All elements of a kind, the node itself and those below it, in document order. A kind is a class of `nodes`,
+        or a name as "IDENT"."""
         tree, number = self._tree, _number_of(kind)
         made, kinds, end = _CLASSES[number], tree._kinds, self._end()
         index, found = kinds.find(number, self._index, end), []
@@ -202,7 +204,8 @@ class Node(Element):
         return node._first(kinds) if node else None
 
     def _all_in(self, kind: int, kinds: tuple[int, ...]) -> list[Any]:
-        """The children whose kind is one of these, of the first child of a kind. There are none if there is no such child."""
+        """The children whose kind is one of these, of the first child of a kind. There are none if there is no such
+        child."""
         node: Node | None = self._first((kind,))
         return node._all(kinds) if node else []
 
@@ -222,9 +225,13 @@ def _number_of(kind: type[Node] | str) -> int:
 
 
 class Tree(Generic[R]):
-    """The tree of a text and its errors. It keeps each byte of the text, also when there are errors. `R` is the class of its root."""
+    """The tree of a text and its errors. It keeps each byte of the text, also when there are errors. `R` is the class
+    of its root."""
 
-    __slots__ = ("errors", "recursion_high", "token_high", "_source", "_string", "_positions", "_starts", "_sizes", "_parents", "_kinds")
+    __slots__ = (
+        "errors", "recursion_high", "token_high", "_source", "_string", "_positions", "_starts", "_sizes", "_parents",
+        "_kinds",
+    )
 
     errors: Errors
     """The errors of the text. There are none exactly if it is a document within both limits."""
@@ -233,14 +240,17 @@ class Tree(Generic[R]):
     token_high: int
     """How many tokens were counted, the end of the text among them: one above the limit where that was met."""
 
+
     def __init__(
-        self, text: Text, source: bytes, elements: bytes | memoryview, errors: Errors, recursion_high: int, token_high: int, positions: Positions
+        self, text: Text, source: bytes, elements: bytes | memoryview, errors: Errors, recursion_high: int,
+        token_high: int, positions: Positions,
     ):
         self.errors, self.recursion_high, self.token_high = errors, recursion_high, token_high
         self._source, self._positions = source, positions
         # where offsets of bytes are those of characters; a subclass of str may have other slices
         self._string = (text if type(text) is str else source.decode()) if source.isascii() else None
-        # the columns of the rows (`dumyroke_element` of dumyroke.h), which a start follows; a walk reads sizes and kinds, so these are copied
+        # the columns of the rows (`dumyroke_element` of dumyroke.h), which a start follows; a walk reads sizes and
+        # kinds, so these are copied
         words = memoryview(elements).cast("I")
         self._starts, sizes, self._parents = (words[column :: ELEMENT_SIZE // 4] for column in range(3))
         self._sizes = array("I", sizes.tobytes())
@@ -249,9 +259,12 @@ class Tree(Generic[R]):
             self._kinds = bytes([_ERROR_NODE]) + self._kinds[1:]
 
     def __reduce__(self) -> tuple[Any, ...]:
-        """The rows are views, which have no copies, so they are handed on as bytes: those of the elements, and the start after them."""
+        """The rows are views, which have no copies, so they are handed on as bytes: those of the elements, and the
+        start after them."""
         rows = memoryview(self._starts.obj)[: len(self) * ELEMENT_SIZE + self._starts.itemsize].tobytes()
-        return type(self), (self._source, self._source, rows, self.errors, self.recursion_high, self.token_high, self._positions)
+        return type(self), (
+            self._source, self._source, rows, self.errors, self.recursion_high, self.token_high, self._positions,
+        )
 
     @property
     def text(self) -> str:

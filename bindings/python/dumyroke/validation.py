@@ -9,7 +9,9 @@ from . import library
 from .calls import NotADocument, Text, check, given
 from .library import number
 from .positions import Placed, Positions
-from .rows import CYCLE, NOT_A_DOCUMENT, OK, RULES, SAME_NAME, UNDEFINED, MeasureCounts, OperationRow, ViolationCounts, ViolationRow
+from .rows import (
+    CYCLE, NOT_A_DOCUMENT, OK, RULES, SAME_NAME, UNDEFINED, MeasureCounts, OperationRow, ViolationCounts, ViolationRow,
+)
 
 # Room for a first call, which is enough for most texts.
 _FEW_ROWS = 16
@@ -17,7 +19,8 @@ _FEW_MESSAGE_BYTES = 1024
 
 
 class Violation(Placed):
-    """A place at which a document breaks a rule. `range` is the node that breaks it. `str(violation)` is `LINE:COLUMN: message`."""
+    """A place at which a document breaks a rule. `range` is the node that breaks it. `str(violation)` is
+    `LINE:COLUMN: message`."""
 
     __slots__ = ("rule", "message", "other")
 
@@ -26,7 +29,8 @@ class Violation(Placed):
     message: str
     """What is wrong."""
     other: Placed | None
-    """The other party: the first of the name, the operation whose variables are meant, or another operation or fragment."""
+    """The other party: the first of the name, the operation whose variables are meant, or another operation or
+    fragment."""
 
     def __init__(self, row: ViolationRow, message: str, positions: Positions):
         super().__init__((row.start, row.end), positions)
@@ -40,11 +44,14 @@ class Violation(Placed):
         return f"<{self.rule} {self.range[0]}..{self.range[1]}>"
 
 
-def validate(text: Text, most: int | None = 1000, recursion_limit: int | None = 500, token_limit: int | None = None) -> list[Violation]:
-    """The places at which a document breaks a rule of the standard's section 5 that needs no schema, in the order of the text: at most so many, or all
-    with None. No two are the same. If there are fewer, they are all, and unless `most` is 0 there are none exactly if it keeps all these rules. A document
-    of the type system is judged only by what one definition may not have twice: fields, arguments, input fields, enum values, union members and
-    interfaces of one name.
+def validate(
+    text: Text, most: int | None = 1000, recursion_limit: int | None = 500, token_limit: int | None = None
+) -> list[Violation]:
+    """The places at which a document breaks a rule of the standard's section 5 that needs no schema, in the order of
+    the text: at most so many, or all with None. No two are the same. If there are fewer, they are all, and unless
+    `most` is 0 there are none exactly if it keeps all these rules. A document of the type system is judged only by what
+    one definition may not have twice: fields, arguments, input fields, enum values, union members and interfaces of one
+    name.
 
     Raises `NotADocument` with the errors if the text is none within both limits, and else as `parse` does."""
     source, limits = given(text, recursion_limit, token_limit)
@@ -59,11 +66,15 @@ def validate(text: Text, most: int | None = 1000, recursion_limit: int | None = 
             break
         rows, room = counts.violations, max(counts.message_bytes, 1)
     positions = Positions(source)
-    return [Violation(row, messages[row.message : row.message + row.message_length].decode(), positions) for row in found[: counts.violations]]
+    return [
+        Violation(row, messages[row.message : row.message + row.message_length].decode(), positions)
+        for row in found[: counts.violations]
+    ]
 
 
 class Figures(NamedTuple):
-    """How large an operation is with the selections of its fragment in place of each fragment spread. A figure stops at 2**64 - 1."""
+    """How large an operation is with the selections of its fragment in place of each fragment spread. A figure stops at
+    2**64 - 1."""
 
     depth: int
     """The greatest number of fields in one another: 2 for `{a{b}}`."""
@@ -74,9 +85,11 @@ class Figures(NamedTuple):
     aliases: int
     """The number of aliases."""
     directives: int
-    """The number of directives: of the operation, its variables, its selections, and its fragments at each of their spreads."""
+    """The number of directives: of the operation, its variables, its selections, and its fragments at each of their
+    spreads."""
     height: int
-    """The number of fields, where each selection set, also of a fragment, counts a response name once. Apollo Router limits it as `max_height`."""
+    """The number of fields, where each selection set, also of a fragment, counts a response name once. Apollo Router
+    limits it as `max_height`."""
     distinct_root_fields: int
     """The number of root fields, counted like `height`."""
 
@@ -104,7 +117,8 @@ class NoFigures(ValueError):
     """The operations of a document have no figures. Its words are `LINE:COLUMN: REASON`."""
 
     reason: str
-    """Why: "two fragments have one name"; or an operation leads to "a cycle of fragments" or to "a spread of no fragment"."""
+    """Why: "two fragments have one name"; or an operation leads to "a cycle of fragments" or to "a spread of no
+    fragment"."""
     place: Placed
     """The second fragment of the name, or the spread."""
     other: Placed | None
@@ -119,7 +133,11 @@ class NoFigures(ValueError):
         return type(self), (self.reason, self.place, self.other), self.__dict__
 
 
-_REASONS = {SAME_NAME: "two fragments have one name", CYCLE: "a cycle of fragments", UNDEFINED: "a spread of no fragment"}
+_REASONS = {
+    SAME_NAME: "two fragments have one name",
+    CYCLE: "a cycle of fragments",
+    UNDEFINED: "a spread of no fragment",
+}
 
 
 def _no_figures(counts: MeasureCounts, positions: Positions) -> NoFigures:
@@ -128,10 +146,11 @@ def _no_figures(counts: MeasureCounts, positions: Positions) -> NoFigures:
 
 
 def measure(text: Text, recursion_limit: int | None = 500, token_limit: int | None = None) -> list[Operation]:
-    """The operations of a document, in order, with their figures. It takes no longer for a document that expands to very many fields.
+    """The operations of a document, in order, with their figures. It takes no longer for a document that expands to
+    very many fields.
 
-    Raises `NotADocument` with the errors if the text is none within both limits; `NoFigures` if two fragments have one name, or if an operation leads to
-    a cycle of fragments or to a spread of no fragment; and else as `parse` does."""
+    Raises `NotADocument` with the errors if the text is none within both limits; `NoFigures` if two fragments have one
+    name, or if an operation leads to a cycle of fragments or to a spread of no fragment; and else as `parse` does."""
     source, limits = given(text, recursion_limit, token_limit)
     rows, positions = _FEW_ROWS, Positions(source)
     while True:
@@ -146,7 +165,8 @@ def measure(text: Text, recursion_limit: int | None = 500, token_limit: int | No
 
 
 class Exceeded(NamedTuple):
-    """A limit that an operation exceeds. `str(exceeded)` is `LINE:COLUMN: LIMIT is FOUND, and at most MOST is allowed`."""
+    """A limit that an operation exceeds. `str(exceeded)` is
+    `LINE:COLUMN: LIMIT is FOUND, and at most MOST is allowed`."""
 
     operation: Operation
     limit: str
@@ -175,18 +195,23 @@ def check_limits(
     recursion_limit: int | None = 500,
     token_limit: int | None = None,
 ) -> Exceeded | None:
-    """The first operation that exceeds a limit, and the first limit that it exceeds, in the order of `Figures`; None if all are within the limits.
+    """The first operation that exceeds a limit, and the first limit that it exceeds, in the order of `Figures`; None if
+    all are within the limits.
 
-    With `operation` only the operations of that name count, since a gateway executes one of several. A limit of 2**64 - 1 or more is none, as None is,
-    since a figure stops there. Exceptions are those of `measure`, and `ValueError` for a limit below 0."""
-    given_limits = (max_depth, max_fields, max_root_fields, max_aliases, max_directives, max_height, max_distinct_root_fields)
+    With `operation` only the operations of that name count, since a gateway executes one of several. A limit of 2**64 -
+    1 or more is none, as None is, since a figure stops there. Exceptions are those of `measure`, and `ValueError` for a
+    limit below 0."""
+    given_limits = (
+        max_depth, max_fields, max_root_fields, max_aliases, max_directives, max_height, max_distinct_root_fields,
+    )
     most = [number(f"max_{figure}", limit) for figure, limit in zip(Figures._fields, given_limits)]
     measured = measure(text, recursion_limit, token_limit)
     return first_exceeded([found for found in measured if operation in (None, found.name)], most)
 
 
 def first_exceeded(operations: Sequence[Operation], most: Sequence[int]) -> Exceeded | None:
-    """The first of the operations that exceeds a limit, and the first limit that it exceeds. The limits are in the order of `Figures`."""
+    """The first of the operations that exceeds a limit, and the first limit that it exceeds. The limits are in the
+    order of `Figures`."""
     for operation in operations:
         for limit, allowed, found in zip(Figures._fields, most, operation.figures):
             if found > allowed:

@@ -17,7 +17,8 @@ def _token_text(node: Node, kind: str) -> str | None:
 
 
 def integer(node: Node) -> int | None:
-    """Python reads numbers of at most 4,300 digits, and raises ValueError for longer ones (`sys.set_int_max_str_digits`)."""
+    """Python reads numbers of at most 4,300 digits, and raises ValueError for longer ones
+    (`sys.set_int_max_str_digits`)."""
     text = _token_text(node, "INT")
     return None if text is None else int(text)
 

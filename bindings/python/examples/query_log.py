@@ -2,10 +2,12 @@
 
     query_log.py FOLDER                      in this process
     query_log.py FOLDER --workers N          in N processes, by Dask
-    query_log.py FOLDER --scheduler ADDRESS  on the workers of a Dask scheduler, which all have the folder and the package dumyroke
+    query_log.py FOLDER --scheduler ADDRESS  on the workers of a Dask scheduler, which all have the folder and the
+                                             package dumyroke
 
-The folder has files NAME.jsonl with a JSON object in each line; its field `query` is a document. The cost of a document is the number of fields of its
-largest operation, with all fragments expanded. A query is given as NAME.jsonl and the byte at which its line begins."""
+The folder has files NAME.jsonl with a JSON object in each line; its field `query` is a document. The cost of a document
+is the number of fields of its largest operation, with all fragments expanded. A query is given as NAME.jsonl and the
+byte at which its line begins."""
 
 from __future__ import annotations
 
@@ -26,8 +28,8 @@ MOST_SHOWN = 10
 
 @dataclass(frozen=True)
 class Summary:
-    """Of some queries: how many there are, how many break which rule first and one of each, how many have a cost with how many binary digits, and the
-    costliest with their places."""
+    """Of some queries: how many there are, how many break which rule first and one of each, how many have a cost with
+    how many binary digits, and the costliest with their places."""
 
     queries: int = 0
     invalid: Counter[str] = field(default_factory=Counter)
@@ -68,7 +70,9 @@ def summary_of(chunk: tuple[Path, int]) -> Summary:
             examples.setdefault(fault, f"{file.name}:{at}")
             continue
         figures = [operation.figures for operation in dumyroke.measure(query)]
-        cost, depth = max((found.fields for found in figures), default=0), max((found.depth for found in figures), default=0)
+        cost, depth = max((found.fields for found in figures), default=0), max(
+            (found.depth for found in figures), default=0
+        )
         digits[cost.bit_length()] += 1
         costs.append((cost, depth, f"{file.name}:{at}"))
     return Summary(queries, invalid, examples, digits, heapq.nlargest(MOST_SHOWN, costs))
@@ -78,12 +82,16 @@ def joined(one: Summary, other: Summary) -> Summary:
     """The summary of the queries of both."""
     costliest = heapq.nlargest(MOST_SHOWN, one.costliest + other.costliest)
     examples = {**other.examples, **one.examples}
-    return Summary(one.queries + other.queries, one.invalid + other.invalid, examples, one.digits + other.digits, costliest)
+    return Summary(
+        one.queries + other.queries, one.invalid + other.invalid, examples, one.digits + other.digits, costliest
+    )
 
 
 def chunks(folder: Path) -> list[tuple[Path, int]]:
     """The files of a folder in chunks: each file with the byte at which one begins."""
-    return [(file, start) for file in sorted(folder.glob("*.jsonl")) for start in range(0, file.stat().st_size, CHUNK_BYTES)]
+    return [
+        (file, start) for file in sorted(folder.glob("*.jsonl")) for start in range(0, file.stat().st_size, CHUNK_BYTES)
+    ]
 
 
 def by_dask(parts: list[tuple[Path, int]], place: Any) -> Summary:
@@ -92,7 +100,12 @@ def by_dask(parts: list[tuple[Path, int]], place: Any) -> Summary:
     from distributed import Client
 
     with Client(place):
-        return dask.bag.from_sequence(parts, npartitions=max(len(parts), 1)).map(summary_of).fold(joined, initial=Summary()).compute()
+        return (
+            dask.bag.from_sequence(parts, npartitions=max(len(parts), 1))
+            .map(summary_of)
+            .fold(joined, initial=Summary())
+            .compute()
+        )
 
 
 def summarized(folder: Path, workers: int | None, scheduler: str | None) -> Summary:

@@ -1,12 +1,15 @@
 #!/usr/bin/env python3
-"""original/run.py ORIGINAL: runs the tests of apollo-parser 0.8.7, its examples and those of its documentation against this crate.
+"""original/run.py ORIGINAL: runs the tests of apollo-parser 0.8.7, its examples and those of its documentation against
+this crate.
 
-ORIGINAL is the folder of the original: README.md, src, and its tests in tests/tests/part1.rs and part2.rs. No line of it is in this repository. The run
-makes packages of them in target/original, and changes nothing but imports, which it prints, and what `ADAPTED`, `FIELDS` and `LEFT_OUT` say.
+ORIGINAL is the folder of the original: README.md, src, and its tests in tests/tests/part1.rs and part2.rs. No line of
+it is in this repository. The run makes packages of them in target/original, and changes nothing but imports, which it
+prints, and what `ADAPTED`, `FIELDS` and `LEFT_OUT` say.
 
-Two of the tests read files that ORIGINAL lacks: texts, and what the original prints of them. The run makes them of the texts that gqlfmt is tried with, by
-the original's own code, which bench/original/build compiles. It leaves out the texts that the original reads differently from gqlcst
-(docs/DIFFERENCES.md), and says how many; without the gqlcst that `rt ci` builds it leaves out both tests."""
+Two of the tests read files that ORIGINAL lacks: texts, and what the original prints of them. The run makes them of the
+texts that gqlfmt is tried with, by the original's own code, which bench/original/build compiles. It leaves out the
+texts that the original reads differently from gqlcst (docs/DIFFERENCES.md), and says how many; without the gqlcst that
+`rt ci` builds it leaves out both tests."""
 
 import os
 import re
@@ -20,6 +23,8 @@ CRATE = HERE.parent
 TOP = CRATE.parent.parent
 MADE = CRATE / "target/original"
 GQLCST = TOP / "crates/gqlcst/out/gqlcst"
+sys.path.append(str(TOP / "tests/format"))
+import corpus  # noqa: E402
 
 # What the module of each file has in scope by `use super::*` in the original.
 SCOPE = """#[allow(unused_imports)]
@@ -46,7 +51,8 @@ IMPORTS = [
     ("src/tests.rs", "use rowan::NodeOrToken;", "use crate::rowan::NodeOrToken;"),
     ("src/cst/node_ext.rs", "use super::split_lines;", ""),
 ]
-# The private fields of this crate that the tests read, since the original has fields of these names. The copy opens them.
+# The private fields of this crate that the tests read, since the original has fields of these names. The copy opens
+# them.
 FIELDS = {"parser.rs": "errors: Vec<Error>,", "error.rs": "message: String,", "token.rs": "data: &'a str,"}
 # The tests that are not run, with the reason.
 LEFT_OUT = {
@@ -115,7 +121,10 @@ def make_crate(tests):
         path.write_text(path.read_text().replace(f"    {field}", f"    pub(crate) {field}", 1))
     for name in ("README.md", "build.rs"):
         shutil.copy(CRATE / name, folder)
-    stand_ins = "".join(f'{name} = {{ path = "{HERE / "stand_ins" / name.replace("-", "_")}" }}\n' for name in ("expect-test", "indexmap"))
+    stand_ins = "".join(
+        f'{name} = {{ path = "{HERE / "stand_ins" / name.replace("-", "_")}" }}\n'
+        for name in ("expect-test", "indexmap")
+    )
     (folder / "Cargo.toml").write_text((CRATE / "Cargo.toml").read_text() + f"\n[dev-dependencies]\n{stand_ins}")
     (folder / "src/original_tests.rs").write_text(tests)
     with (folder / "src/lib.rs").open("a") as root:
@@ -124,19 +133,26 @@ def make_crate(tests):
 
 
 def make_user(original, example):
-    """A package that uses this crate under the name apollo-parser, with the examples of documentation and the example program."""
+    """A package that uses this crate under the name apollo-parser, with the examples of documentation and the example
+    program."""
     folder = MADE / "user"
     (folder / "src").mkdir(parents=True)
     (folder / "tests").mkdir()
     dependency = f'apollo-parser = {{ package = "dumyroke", path = "{CRATE}" }}'
-    (folder / "Cargo.toml").write_text(f'[package]\nname = "user"\nversion = "0.1.0"\nedition = "2021"\n\n[dependencies]\n{dependency}\n\n[workspace]\n')
+    (folder / "Cargo.toml").write_text(
+        '[package]\nname = "user"\nversion = "0.1.0"\nedition ='
+        f' "2021"\n\n[dependencies]\n{dependency}\n\n[workspace]\n'
+    )
     (folder / "src/lib.rs").write_text("#![allow(unused, non_snake_case)]\n" + "".join(documented(original)))
     example = re.sub(r"^//!.*\n", "", example, flags=re.MULTILINE).replace("fn main() {", "#[test]\nfn runs() {")
     (folder / "tests/example.rs").write_text(example)
     # the document that the example reads; the original's own is not in ORIGINAL
     document = folder / "crates/apollo-parser/examples/graph_check_mutation.graphql"
     document.parent.mkdir(parents=True)
-    document.write_text("mutation GraphCheckMutation($id: ID!, $tag: String) { service(id: $id) { checkPartialSchema(tag: $tag) { id } } }\n")
+    document.write_text(
+        "mutation GraphCheckMutation($id: ID!, $tag: String) { service(id: $id) { checkPartialSchema(tag: $tag) { id }"
+        " } }\n"
+    )
     return folder
 
 
@@ -148,9 +164,12 @@ def printed(program, mode, text):
 
 def make_files(original):
     """The files that the tests in `READING` read."""
-    programs = subprocess.run([TOP / "bench/original/build", original], check=True, stdout=subprocess.PIPE).stdout.decode().strip()
-    records = (TOP / "tools/format_trial/records").read_bytes().split(b"\x1e")
-    texts = sorted({record.split(b"\x1f")[1] for record in records if b"\x1f" in record})
+    programs = (
+        subprocess.run([TOP / "bench/original/build", original], check=True, stdout=subprocess.PIPE)
+        .stdout.decode()
+        .strip()
+    )
+    texts = sorted({text.encode() for text in corpus.texts()})
     for name, (folder, mode) in READING.items():
         kept = 0
         for number, text in enumerate(texts):

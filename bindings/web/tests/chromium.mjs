@@ -1,16 +1,25 @@
-// A headless Chromium, which is told what to do by its debugging protocol through two pipes, and a server for the page's files.
+// A headless Chromium, which is told what to do by its debugging protocol through two pipes, and a server for the
+// page's files.
 import { spawn } from "node:child_process";
 import fs from "node:fs";
 import http from "node:http";
 import os from "node:os";
 import path from "node:path";
 
-const TYPES = { ".html": "text/html", ".css": "text/css", ".js": "text/javascript", ".wasm": "application/wasm", ".graphql": "text/plain; charset=utf-8" };
+const TYPES = {
+  ".html": "text/html",
+  ".css": "text/css",
+  ".js": "text/javascript",
+  ".wasm": "application/wasm",
+  ".graphql": "text/plain; charset=utf-8"
+};
 
 // Serves the files of a folder at a port that is free. The answer is the server and its address.
 export async function serve(folder) {
   const server = http.createServer((request, response) => {
-    const file = path.join(folder, path.normalize(new URL(request.url, "http://localhost").pathname).replace(/\/$/, "/index.html"));
+    const file = path.join(
+      folder, path.normalize(new URL(request.url, "http://localhost").pathname).replace(/\/$/, "/index.html")
+    );
     fs.readFile(file, (error, content) => {
       response.writeHead(error ? 404 : 200, { "Content-Type": TYPES[path.extname(file)] ?? "text/plain" });
       response.end(content);
@@ -32,7 +41,10 @@ export class Chromium {
 
   constructor() {
     this.folder = fs.mkdtempSync(path.join(os.tmpdir(), "dumyroke-page-"));
-    const words = ["--headless=new", "--no-sandbox", "--disable-gpu", "--disable-dev-shm-usage", "--no-first-run", "--remote-debugging-pipe", `--user-data-dir=${this.folder}`];
+    const words = [
+      "--headless=new", "--no-sandbox", "--disable-gpu", "--disable-dev-shm-usage", "--no-first-run",
+      "--remote-debugging-pipe", `--user-data-dir=${this.folder}`
+    ];
     this.process = spawn("chromium", words, { stdio: ["ignore", "ignore", "ignore", "pipe", "pipe"] });
     this.waiting = new Map();
     this.count = 0;
@@ -49,7 +61,8 @@ export class Chromium {
   }
 
   #receive({ id, result, error, method, params }) {
-    if (method === "Runtime.exceptionThrown") this.faults.push(params.exceptionDetails.exception?.description ?? params.exceptionDetails.text);
+    if (method === "Runtime.exceptionThrown")
+      this.faults.push(params.exceptionDetails.exception?.description ?? params.exceptionDetails.text);
     const done = this.waiting.get(id);
     this.waiting.delete(id);
     if (error) done?.[1](new Error(error.message));
@@ -64,14 +77,16 @@ export class Chromium {
 
   // The value of an expression in the page, or of what it promises.
   async evaluate(expression) {
-    const { result, exceptionDetails } = await this.send("Runtime.evaluate", { expression, awaitPromise: true, returnByValue: true });
+    const { result, exceptionDetails } =
+      await this.send("Runtime.evaluate", { expression, awaitPromise: true, returnByValue: true });
     if (exceptionDetails) throw new Error(exceptionDetails.exception?.description ?? exceptionDetails.text);
     return result.value;
   }
 
   // Waits until an expression holds, at most some seconds.
   async until(expression, seconds = 10) {
-    for (const end = Date.now() + seconds * 1000; Date.now() < end; await new Promise((done) => setTimeout(done, 20))) if (await this.evaluate(expression)) return;
+    for (const end = Date.now() + seconds * 1000; Date.now() < end; await new Promise((done) => setTimeout(done, 20)))
+      if (await this.evaluate(expression)) return;
     throw new Error(`this did not come to hold: ${expression}`);
   }
 
@@ -87,12 +102,16 @@ export class Chromium {
   }
 
   async press(key, code = 0, modifiers = 0) {
-    for (const type of ["rawKeyDown", "keyUp"]) await this.send("Input.dispatchKeyEvent", { type, key, code: key, windowsVirtualKeyCode: code, modifiers });
+    for (const type of ["rawKeyDown", "keyUp"])
+      await this.send("Input.dispatchKeyEvent", { type, key, code: key, windowsVirtualKeyCode: code, modifiers });
   }
 
-  // Types by keys. Input.insertText is the way of input methods, whose time grows with the square of the lines before the cursor in any text area.
+  // Types by keys. Input.insertText is the way of input methods, whose time grows with the square of the lines before
+  // the cursor in any text area.
   async type(text) {
-    for (const letter of text) for (const type of ["keyDown", "keyUp"]) await this.send("Input.dispatchKeyEvent", { type, key: letter, text: type === "keyDown" ? letter : "" });
+    for (const letter of text)
+      for (const type of ["keyDown", "keyUp"])
+        await this.send("Input.dispatchKeyEvent", { type, key: letter, text: type === "keyDown" ? letter : "" });
   }
 
   async move(x, y) {
@@ -101,7 +120,8 @@ export class Chromium {
 
   async click(x, y) {
     await this.move(x, y);
-    for (const type of ["mousePressed", "mouseReleased"]) await this.send("Input.dispatchMouseEvent", { type, x, y, button: "left", clickCount: 1 });
+    for (const type of ["mousePressed", "mouseReleased"])
+      await this.send("Input.dispatchMouseEvent", { type, x, y, button: "left", clickCount: 1 });
   }
 
   async picture(file) {

@@ -1,5 +1,5 @@
-// The tests of the page in a headless Chromium: node page_test.mjs SITE [PICTURES]. SITE is a folder with the page and the module. With PICTURES, a folder,
-// pictures of the page are put there.
+// The tests of the page in a headless Chromium: node page_test.mjs SITE [PICTURES]. SITE is a folder with the page and
+// the module. With PICTURES, a folder, pictures of the page are put there.
 import assert from "node:assert/strict";
 import { Chromium, serve } from "./chromium.mjs";
 
@@ -20,13 +20,20 @@ const settled = () => page.until("document.getElementById('verdict').dataset.sta
 const summary = () => page.evaluate("document.getElementById('summary').textContent");
 const says = (part) => page.until(`document.getElementById('summary').textContent.includes(${quote(part)})`);
 const text = () => page.evaluate("document.getElementById('text').value");
-const selection = () => page.evaluate("[document.getElementById('text').selectionStart, document.getElementById('text').selectionEnd]");
+const selection = () =>
+  page.evaluate("[document.getElementById('text').selectionStart, document.getElementById('text').selectionEnd]");
 const errors = () => page.evaluate("[...document.querySelectorAll('#errors button')].map((it) => it.textContent)");
 const figures = () => page.evaluate("[...document.querySelectorAll('#figures li')].map((it) => it.textContent)");
-const underlined = () => page.evaluate("[...document.querySelectorAll('.underlines span')].map((it) => it.textContent)");
-const rows = () => page.evaluate("[...document.querySelectorAll('.row')].map((it) => [+it.ariaLevel, ...[...it.children].map((part) => part.textContent)])");
+const underlined = () =>
+  page.evaluate("[...document.querySelectorAll('.underlines span')].map((it) => it.textContent)");
+const rows = () => page.evaluate(
+  "[...document.querySelectorAll('.row')]" +
+    ".map((it) => [+it.ariaLevel, ...[...it.children].map((part) => part.textContent)])"
+);
 const chosen = () => page.evaluate("document.querySelector('.row[aria-selected=true] .kind')?.textContent ?? null");
-const place = (selector) => page.evaluate(`(({ x, y, width, height }) => ({ x: x + width / 2, y: y + height / 2 }))(document.querySelector(${quote(selector)}).getBoundingClientRect())`);
+const place = (selector) =>
+  page.evaluate(`(({ x, y, width, height }) => ({ x: x + width / 2, y: y + height / 2 }))(document.querySelector(${
+    quote(selector)}).getBoundingClientRect())`);
 const row = (number) => place(`.row:nth-child(${number})`);
 const focus = (id) => page.evaluate(`document.getElementById(${quote(id)}).focus()`);
 
@@ -36,7 +43,10 @@ async function put(cursor) {
 }
 
 async function setField(id, value) {
-  await page.evaluate(`(it => { it.value = ${quote(value)}; it.dispatchEvent(new Event("input")); it.dispatchEvent(new Event("change")); })(document.getElementById(${quote(id)}))`);
+  await page.evaluate(`(it => { it.value = ${
+    quote(value
+    )}; it.dispatchEvent(new Event("input")); it.dispatchEvent(new Event("change")); })(document.getElementById(${
+    quote(id)}))`);
 }
 
 const tests = {
@@ -71,7 +81,8 @@ const tests = {
     await show("{ a a }\nquery Q { b: a @d { b ...F } } fragment F on T { c d }");
     await page.until("document.querySelectorAll('#figures button').length === 2");
     assert.deepEqual(await figures(), [
-      "1:1 anonymous operation: depth 1, fields 2, root fields 2, aliases 0, directives 0, height 1, distinct root fields 1",
+      "1:1 anonymous operation: depth 1, fields 2, root fields 2, aliases 0, directives 0, height 1, " +
+        "distinct root fields 1",
       "2:1 Q: depth 2, fields 4, root fields 1, aliases 1, directives 1",
     ]);
     const { x, y } = await place("#figures li:nth-child(2) button");
@@ -86,13 +97,17 @@ const tests = {
   async "operations without figures say why"() {
     await show("{ ...F } fragment F on T { ...F }");
     await page.until("document.querySelector('#figures button') !== null");
-    assert.deepEqual([await summary(), await figures()], ["A GraphQL document", ["1:28 No figures: a cycle of fragments"]]);
+    assert.deepEqual(
+      [await summary(), await figures()], ["A GraphQL document", ["1:28 No figures: a cycle of fragments"]]
+    );
   },
 
   // what README shows of this text
   async "the tree has kinds, texts and ranges"() {
     await show("scalar");
-    assert.deepEqual(await rows(), [[1, "DOCUMENT", "", "0..6"], [2, "SCALAR_TYPE_DEFINITION", "", "0..6"], [3, "scalar_KW", '"scalar"', "0..6"]]);
+    assert.deepEqual(await rows(), [
+      [1, "DOCUMENT", "", "0..6"], [2, "SCALAR_TYPE_DEFINITION", "", "0..6"], [3, "scalar_KW", '"scalar"', "0..6"]
+    ]);
   },
 
   async "white space and commas are shown on demand"() {
@@ -116,8 +131,14 @@ const tests = {
   async "characters that turn others round are seen, and turn nothing"() {
     const turned = '{ a(x: "\u202e} @skip(if: true) { \u2066b") é \u202e}';
     await show(turned);
-    assert.deepEqual((await rows()).filter(([, kind]) => kind === "STRING").map(([, , shown]) => shown), ['"\\"\\u{202e}} @skip(if: true) { \\u{2066}b\\""']);
-    assert.ok((await errors()).every((message) => !/[\u202e\u2066]/.test(message)) && (await errors()).some((message) => message.includes("\\u{202e}")));
+    assert.deepEqual(
+      (await rows()).filter(([, kind]) => kind === "STRING").map(([, , shown]) => shown),
+      ['"\\"\\u{202e}} @skip(if: true) { \\u{2066}b\\""']
+    );
+    assert.ok(
+      (await errors()).every((message) => !/[\u202e\u2066]/.test(message)) &&
+      (await errors()).some((message) => message.includes("\\u{202e}"))
+    );
     const ends = await page.evaluate(`[...document.querySelector(".words").childNodes].flatMap((node) => {
       const walk = document.createTreeWalker(node, NodeFilter.SHOW_TEXT);
       const found = [];
@@ -181,7 +202,10 @@ const tests = {
     await put(9);
     await page.type("c");
     await says("document");
-    await page.until("document.getElementById('text').value === '{ a } { bc }' || document.getElementById('text').value === '{ a } { cb }'");
+    await page.until(
+      "document.getElementById('text').value === '{ a } { bc }' || " +
+        "document.getElementById('text').value === '{ a } { cb }'"
+    );
     assert.equal((await rows()).length, before);
   },
 
@@ -206,7 +230,10 @@ const tests = {
     await page.until("document.getElementById('text').value !== '{a}'");
     assert.equal(await text(), "{\n  a\n}\n");
     await focus("text");
-    await page.send("Input.dispatchKeyEvent", { type: "rawKeyDown", key: "z", code: "KeyZ", windowsVirtualKeyCode: 90, modifiers: CONTROL, commands: ["undo"] });
+    await page.send(
+      "Input.dispatchKeyEvent",
+      { type: "rawKeyDown", key: "z", code: "KeyZ", windowsVirtualKeyCode: 90, modifiers: CONTROL, commands: ["undo"] }
+    );
     await page.until("document.getElementById('text').value === '{a}'");
   },
 
@@ -234,7 +261,9 @@ const tests = {
     const values = await page.evaluate("[...document.getElementById('examples').options].map((it) => it.value)");
     for (const value of values.filter((it) => !it.includes("*"))) {
       await setField("examples", value);
-      await page.until(`fetch('examples/${value}').then((it) => it.text()).then((it) => it === document.getElementById('text').value)`);
+      await page.until(
+        `fetch('examples/${value}').then((it) => it.text()).then((it) => it === document.getElementById('text').value)`
+      );
       await says(value === "errors.graphql" ? " errors" : "A GraphQL document");
     }
   },
@@ -242,20 +271,29 @@ const tests = {
   async "a module whose stack is full is thrown away"() {
     await show("{ a }");
     await setField("recursion", "1000000");
-    await page.evaluate(`(it => { it.value = "{a".repeat(100000); it.dispatchEvent(new Event("input")); })(document.getElementById("text"))`);
+    await page.evaluate(
+      `(it => { it.value = "{a".repeat(100000); it.dispatchEvent(new Event("input")); })` +
+        `(document.getElementById("text"))`
+    );
     await says("too small");
-    await page.evaluate(`(it => { it.value = "{ b }"; it.dispatchEvent(new Event("input")); })(document.getElementById("text"))`);
+    await page.evaluate(
+      `(it => { it.value = "{ b }"; it.dispatchEvent(new Event("input")); })(document.getElementById("text"))`
+    );
     await says("A GraphQL document");
   },
 
   async "a text is never taken for HTML"() {
     await show('<b>&amp;<img src="x"> "<i>"');
-    assert.equal(await page.evaluate("document.querySelectorAll('#editor b, #editor i, img, #tree b, #tree i, #errors b').length"), 0);
+    assert.equal(
+      await page.evaluate("document.querySelectorAll('#editor b, #editor i, img, #tree b, #tree i, #errors b').length"),
+      0
+    );
     assert.equal(await page.evaluate("document.querySelector('.words').textContent"), '<b>&amp;<img src="x"> "<i>"\n');
   },
 
   async "a browser without 64-bit memory is told so"() {
-    const { identifier } = await page.send("Page.addScriptToEvaluateOnNewDocument", { source: "WebAssembly.validate = () => false" });
+    const { identifier } =
+      await page.send("Page.addScriptToEvaluateOnNewDocument", { source: "WebAssembly.validate = () => false" });
     await page.open(`${address}index.html`);
     await says("This browser has no 64-bit memory");
     await page.send("Page.removeScriptToEvaluateOnNewDocument", { identifier });
@@ -273,11 +311,17 @@ const tests = {
   async "a screen reader finds names, roles and levels"() {
     await show("{ a }");
     const { nodes } = await page.send("Accessibility.getFullAXTree");
-    const found = nodes.filter((it) => !it.ignored).map((it) => ({ role: it.role.value, name: it.name?.value ?? "", level: it.properties?.find((one) => one.name === "level")?.value.value }));
+    const found =
+      nodes.filter((it) => !it.ignored).map((it) => ({
+                                              role: it.role.value,
+                                              name: it.name?.value ?? "",
+                                              level: it.properties?.find((one) => one.name === "level")?.value.value
+                                            }));
     const named = (role) => found.filter((it) => it.role === role).map((it) => it.name);
     assert.deepEqual(named("tree"), ["Tree of the text"]);
     assert.deepEqual(found.filter((it) => it.role === "treeitem").map((it) => it.level), [1, 2, 3, 4, 4, 5, 6, 4]);
-    for (const role of ["textbox", "spinbutton", "combobox", "checkbox", "button"]) assert.ok(named(role).every((name) => name !== ""), role);
+    for (const role of ["textbox", "spinbutton", "combobox", "checkbox", "button"])
+      assert.ok(named(role).every((name) => name !== ""), role);
     assert.ok(named("textbox").includes("GraphQL text"));
     assert.equal(found.filter((it) => it.role === "status").length, 1);
   },
@@ -289,20 +333,28 @@ const tests = {
     await page.size(1280, 800);
   },
 
-  // Chromium lays out all lines of a text area when it is filled, and at each letter. So the pauses are compared with those of a bare one.
+  // Chromium lays out all lines of a text area when it is filled, and at each letter. So the pauses are compared with
+  // those of a bare one.
   async "a text of 1 MB does not stop the page"() {
     await show("{ a }");
-    const [file, copies] = (await page.evaluate("[...document.getElementById('examples').options].find((it) => it.value.includes('*')).value")).split("*");
+    const [file, copies] =
+      (await page.evaluate("[...document.getElementById('examples').options].find((it) => it.value.includes('*')).value"
+       )
+      ).split("*");
     const big = (await (await fetch(`${address}examples/${file}`)).text()).repeat(Number(copies));
     // the longest pause in milliseconds from an act until an expression holds and is painted
     const pause = async (act, done) => {
-      await page.evaluate("(window.longest = window.answers = 0, window.last ??= (setInterval(() => { longest = Math.max(longest, performance.now() - last); last = performance.now(); }, 1), performance.now()))");
+      await page.evaluate(
+        "(window.longest = window.answers = 0, window.last ??= (setInterval(() => { " +
+          "longest = Math.max(longest, performance.now() - last); last = performance.now(); }, 1), performance.now()))"
+      );
       await act();
       await page.until(done, 60);
       await page.evaluate("new Promise((done) => requestAnimationFrame(() => setTimeout(done, 20)))");
       return page.evaluate("longest");
     };
-    // of seven letters the pause in the middle, and of two loads the shorter one: other programs of the machine make some longer
+    // of seven letters the pause in the middle, and of two loads the shorter one: other programs of the machine make
+    // some longer
     const letter = async (done) => {
       await put(big.indexOf("enum Episode", big.length / 2));
       const pauses = [];
@@ -311,18 +363,24 @@ const tests = {
     };
     const isFull = `document.getElementById('text').value.length === ${big.length}`;
     const loadBare = async () => {
-      await page.open("data:text/html,<textarea id=text wrap=off spellcheck=false style='position:absolute;width:600px;height:600px;font:14px/22px monospace'></textarea>");
+      await page.open(
+        "data:text/html,<textarea id=text wrap=off spellcheck=false " +
+          "style='position:absolute;width:600px;height:600px;font:14px/22px monospace'></textarea>"
+      );
       return pause(() => page.evaluate(`document.getElementById("text").value = ${quote(big)}; 0`), isFull);
     };
     const loadOurs = async () => {
       await show("{ a }");
-      await page.evaluate("new MutationObserver(() => window.answers++).observe(document.getElementById('details'), { childList: true })");
+      await page.evaluate(
+        "new MutationObserver(() => window.answers++).observe(document.getElementById('details'), { childList: true })"
+      );
       return pause(() => setField("examples", `${file}*${copies}`), `${isFull} && window.answers > 0`);
     };
 
     const bare = { load: Math.min(await loadBare(), await loadBare()), letter: await letter("true") };
     const ours = { load: Math.min(await loadOurs(), await loadOurs()), letter: await letter("window.answers > 0") };
-    console.log(`  the page stood still for ${ours.load.toFixed(0)} ms when it was loaded, and ${ours.letter.toFixed(0)} at a letter; a bare text area ${bare.load.toFixed(0)} and ${bare.letter.toFixed(0)}`);
+    console.log(`  the page stood still for ${ours.load.toFixed(0)} ms when it was loaded, and ${
+      ours.letter.toFixed(0)} at a letter; a bare text area ${bare.load.toFixed(0)} and ${bare.letter.toFixed(0)}`);
     await says("error");
     assert.ok((await rows()).length < 200);
     assert.ok((await page.evaluate("document.querySelector('.words').textContent")).length < 10000);
@@ -346,11 +404,15 @@ const tests = {
 };
 
 async function takePictures(folder) {
-  for (const [name, width, height, scheme] of [["light", 1280, 800, "light"], ["dark", 1280, 800, "dark"], ["narrow", 400, 900, "light"]]) {
+  for (const [name, width, height, scheme] of [
+         ["light", 1280, 800, "light"], ["dark", 1280, 800, "dark"], ["narrow", 400, 900, "light"]]) {
     await page.size(width, height, scheme);
     await page.open(`${address}index.html`);
     await says("errors");
-    await page.evaluate("document.getElementById('text').setSelectionRange(150, 150), document.getElementById('text').focus({ preventScroll: true })");
+    await page.evaluate(
+      "document.getElementById('text').setSelectionRange(150, 150), " +
+        "document.getElementById('text').focus({ preventScroll: true })"
+    );
     await page.until("document.querySelector('.row[aria-selected=true]') !== null");
     const { x, y } = await place(".underlines span");
     await page.move(x, y);

@@ -1,5 +1,6 @@
-// What the module answers in node: node parser_test.mjs MODULE < CASES. CASES is a list in JSON of texts and limits. For each a line is written: what `gqlcst tree`
-// writes of it, as a text in JSON. After that the other calls are tested.
+// What the module answers in node: node parser_test.mjs MODULE < CASES. CASES is a list in JSON of texts and limits.
+// For each a line is written: what `gqlcst tree` writes of it, as a text in JSON. After that the other calls are
+// tested.
 import assert from "node:assert/strict";
 import fs from "node:fs";
 import { Parser } from "../parser.js";
@@ -11,7 +12,10 @@ const ESCAPES = { "\0": "\\0", "\t": "\\t", "\n": "\\n", "\r": "\\r", '"': '\\"'
 
 // A text in quotes, with the escapes that gqlcst has.
 function quoted(text) {
-  return `"${text.replace(/[\0-\x1f"\\\x7f\ufeff]/g, (letter) => ESCAPES[letter] ?? `\\u{${letter.codePointAt(0).toString(16)}}`)}"`;
+  return `"${
+    text.replace(
+      /[\0-\x1f"\\\x7f\ufeff]/g, (letter) => ESCAPES[letter] ?? `\\u{${letter.codePointAt(0).toString(16)}}`
+    )}"`;
 }
 
 // The tree of a text with the places of its UTF-8, as gqlcst prints it.
@@ -23,13 +27,18 @@ function printed(text, { recursion, tokens }) {
   const range = (start, end, between) => `@${bytes(start)}${between}${bytes(end)}`;
   const lines = Array.from({ length: tree.length }, (_, element) => {
     const token = tree.isToken(element) ? ` ${quoted(tree.textOf(element))}` : "";
-    return `${"    ".repeat(tree.depth(element))}- ${tree.kind(element)}${range(tree.start(element), tree.end(element), "..")}${token}\n`;
+    return `${"    ".repeat(tree.depth(element))}- ${tree.kind(element)}${
+      range(tree.start(element), tree.end(element), "..")}${token}\n`;
   });
-  const faults = errors.map(({ start, end, message, isEnd }) => `- ERROR${range(start, end, ":")} ${quoted(message)} ${isEnd ? "EOF" : text.slice(start, end)}\n`);
+  const faults = errors.map(
+    ({ start, end, message, isEnd }) =>
+      `- ERROR${range(start, end, ":")} ${quoted(message)} ${isEnd ? "EOF" : text.slice(start, end)}\n`
+  );
   return `${lines.join("")}${faults.join("")}recursion limit: ${recursion}, high: ${depth}\n`;
 }
 
-for (const { text, limits } of JSON.parse(fs.readFileSync(0, "utf8"))) console.log(JSON.stringify(printed(text, limits)));
+for (const { text, limits } of JSON.parse(fs.readFileSync(0, "utf8")))
+  console.log(JSON.stringify(printed(text, limits)));
 
 const LIMITS = { recursion: 1000000, tokens: null };
 const tests = {
@@ -51,15 +60,22 @@ const tests = {
       assert.deepEqual(parser.format("{a{b}}", limits, number).text, "{\n  a {\n    b\n  }\n}\n", number);
       assert.equal(parser.measure("{a{b}}", limits, number).operations[0].depth, 2n, number);
     }
-    for (const most of [3000, 3000n, Infinity, null]) assert.equal(parser.parse("}".repeat(2000), {}, most).errors.length, 2000);
+    for (const most of [3000, 3000n, Infinity, null])
+      assert.equal(parser.parse("}".repeat(2000), {}, most).errors.length, 2000);
   },
 
   "small numbers are themselves"() {
-    assert.deepEqual([0, 1, 2].map((recursion) => parser.parse("{a{b}}", { recursion }).errorCount > 0), [true, true, false]);
-    assert.deepEqual([0, 6, 7n].map((tokens) => parser.parse("{a{b}}", { tokens }).errorCount > 0), [true, true, false]);
+    assert.deepEqual(
+      [0, 1, 2].map((recursion) => parser.parse("{a{b}}", { recursion }).errorCount > 0), [true, true, false]
+    );
+    assert.deepEqual(
+      [0, 6, 7n].map((tokens) => parser.parse("{a{b}}", { tokens }).errorCount > 0), [true, true, false]
+    );
     assert.deepEqual([0, 1, 2n].map((most) => parser.parse("}}}", {}, most).errors.length), [0, 1, 2]);
     assert.deepEqual([0, 1n].map((most) => parser.measure("{a}", {}, most).operations.length), [0, 1]);
-    assert.deepEqual([0, 7, 8n].map((most) => parser.format("{a}", {}, most).status), [STATUS.NO_ROOM, STATUS.NO_ROOM, STATUS.OK]);
+    assert.deepEqual(
+      [0, 7, 8n].map((most) => parser.format("{a}", {}, most).status), [STATUS.NO_ROOM, STATUS.NO_ROOM, STATUS.OK]
+    );
   },
 
   "what counts nothing is an error"() {
@@ -74,9 +90,14 @@ const tests = {
       assert.throws(() => parser.measure("{a}", {}, number), named("mostOperations"));
     }
     for (const call of [parser.parse, parser.format, parser.measure].map((call) => call.bind(parser))) {
-      assert.throws(() => call("{a}", { tokens: "5" }), { name: "TypeError", message: "tokens is a number, a BigInt or null, and not string" });
-      for (const limits of [null, 5]) assert.throws(() => call("{a}", limits), { name: "TypeError", message: /^limits are an object/ });
-      for (const text of [null, undefined, 5, ["{a}"]]) assert.throws(() => call(text), { name: "TypeError", message: /^a text is a string, and not / });
+      assert.throws(
+        () => call("{a}", { tokens: "5" }),
+        { name: "TypeError", message: "tokens is a number, a BigInt or null, and not string" }
+      );
+      for (const limits of [null, 5])
+        assert.throws(() => call("{a}", limits), { name: "TypeError", message: /^limits are an object/});
+      for (const text of [null, undefined, 5, ["{a}"]])
+        assert.throws(() => call(text), { name: "TypeError", message: /^a text is a string, and not /});
     }
     assert.throws(() => parser.stringValue(null), TypeError);
     assert.equal(parser.parse("{a}").errorCount, 0);
@@ -86,7 +107,8 @@ const tests = {
   "half of a surrogate pair is not UTF-8"() {
     for (const half of ["\ud800", "\udc00", "\udc00\ud800", "\ud83d \ude00"]) {
       const text = `{a(b:"${half}") # ${half}\n}`;
-      for (const call of [parser.parse, parser.format, parser.measure]) assert.equal(call.call(parser, text).status, STATUS.NOT_UTF8);
+      for (const call of [parser.parse, parser.format, parser.measure])
+        assert.equal(call.call(parser, text).status, STATUS.NOT_UTF8);
       assert.deepEqual(parser.format(text), { status: STATUS.NOT_UTF8, text: "" });
       assert.deepEqual(parser.stringValue(`"${half}"`), { status: STATUS.NOT_UTF8, text: "" });
       assert.equal(parser.parse(half).status, STATUS.NOT_UTF8);
@@ -96,20 +118,52 @@ const tests = {
 
   // the layout is that of docs/FORMAT.md
   "formatting"() {
-    assert.deepEqual(parser.format("query Q($id:ID!){hero(id:$id){name}}"), { status: STATUS.OK, text: "query Q($id: ID!) {\n  hero(id: $id) {\n    name\n  }\n}\n" });
+    assert.deepEqual(
+      parser.format("query Q($id:ID!){hero(id:$id){name}}"),
+      { status: STATUS.OK, text: "query Q($id: ID!) {\n  hero(id: $id) {\n    name\n  }\n}\n" }
+    );
     assert.equal(parser.format("{").status, STATUS.NOT_A_DOCUMENT);
     assert.deepEqual(parser.format("{a}", {}, 7), { status: STATUS.NO_ROOM, text: "" });
     assert.equal(parser.format("{a}", {}, 8).text, "{\n  a\n}\n");
     assert.equal(parser.format("{a".repeat(400) + "}".repeat(400)).text.length, 322400);
   },
 
-  // Counted by hand: the second operation is `query Q { b: a @d { b c d } }` with its fragment expanded. A selection set counts the name `a` twice once.
+  // Counted by hand: the second operation is `query Q { b: a @d { b c d } }` with its fragment expanded. A selection
+  // set counts the name `a` twice once.
   "figures of operations"() {
     const text = '{ a(b: "é𝄞") a } query Q { b: a @d { b ...F } } fragment F on T { c d }';
-    const first = { name: null, start: 0, end: 17, depth: 1n, fields: 2n, rootFields: 2n, aliases: 0n, directives: 0n, height: 1n, distinctRootFields: 1n };
-    const second = { name: "Q", start: 18, end: 48, depth: 2n, fields: 4n, rootFields: 1n, aliases: 1n, directives: 1n, height: 4n, distinctRootFields: 1n };
-    assert.deepEqual(parser.measure(text), { status: STATUS.OK, operations: [first, second], operationCount: 2, place: null, other: null });
-    assert.deepEqual(parser.measure("type T { a: B }"), { status: STATUS.OK, operations: [], operationCount: 0, place: null, other: null });
+    const first = {
+      name: null,
+      start: 0,
+      end: 17,
+      depth: 1n,
+      fields: 2n,
+      rootFields: 2n,
+      aliases: 0n,
+      directives: 0n,
+      height: 1n,
+      distinctRootFields: 1n
+    };
+    const second = {
+      name: "Q",
+      start: 18,
+      end: 48,
+      depth: 2n,
+      fields: 4n,
+      rootFields: 1n,
+      aliases: 1n,
+      directives: 1n,
+      height: 4n,
+      distinctRootFields: 1n
+    };
+    assert.deepEqual(
+      parser.measure(text),
+      { status: STATUS.OK, operations: [first, second], operationCount: 2, place: null, other: null }
+    );
+    assert.deepEqual(
+      parser.measure("type T { a: B }"),
+      { status: STATUS.OK, operations: [], operationCount: 0, place: null, other: null }
+    );
   },
 
   "operations without figures"() {
@@ -122,7 +176,8 @@ const tests = {
     assert.deepEqual(none("{a} fragment F on T {a} fragment F on T {b}"), [STATUS.SAME_NAME, second, first]);
     assert.deepEqual(none("{...F} fragment F on T {...F}"), [STATUS.CYCLE, { start: 24, end: 28 }, null]);
     assert.deepEqual(none('{ a(b: "é𝄞") ...F }'), [STATUS.UNDEFINED, { start: 14, end: 18 }, null]);
-    for (const [text, limits] of [["{a"], [""], ["{a{b}}", { recursion: 1 }], ["{a}", { tokens: 2 }]]) assert.deepEqual(none(text, limits), [STATUS.NOT_A_DOCUMENT, null, null]);
+    for (const [text, limits] of [["{a"], [""], ["{a{b}}", { recursion: 1 }], ["{a}", { tokens: 2 }]])
+      assert.deepEqual(none(text, limits), [STATUS.NOT_A_DOCUMENT, null, null]);
   },
 
   "more operations than there is room for at first"() {
@@ -154,7 +209,10 @@ const tests = {
 
   "an instance whose stack was full is replaced"() {
     const { exports } = parser;
-    for (const text of ["{a".repeat(100000), "{a(b:".padEnd(500000, "["), `{a(b:${"{c:".repeat(100000)}`, `type A{b:${"[".repeat(100000)}`]) assert.throws(() => parser.parse(text, LIMITS));
+    for (const text of
+           ["{a".repeat(100000), "{a(b:".padEnd(500000, "["), `{a(b:${"{c:".repeat(100000)}`,
+            `type A{b:${"[".repeat(100000)}`])
+      assert.throws(() => parser.parse(text, LIMITS));
     assert.notEqual(parser.exports, exports);
     assert.equal(parser.parse("{ a }").errorCount, 0);
   },

@@ -72,7 +72,8 @@ function scopeOf(text, piece) {
   return [...found][0]?.replace(/\.graphql$/, "");
 }
 
-const QUERY = `query Hero($id: ID! = "a") @live { name: hero(id: $id, n: -1.5e3) { ...Parts ... on Droid { type } } } # query "x"`;
+const QUERY =
+  `query Hero($id: ID! = "a") @live { name: hero(id: $id, n: -1.5e3) { ...Parts ... on Droid { type } } } # query "x"`;
 const TYPES = `"The hero." type Hero implements Node @key(fields: "id", of: ["a"]) {
   """
   Its name, with \\""" inside. query

@@ -1,5 +1,5 @@
-// Tests how the extension starts and ends servers, and reads long answers, over stand-ins for VS Code and for gqlls: `node restarts.js [FOLDER]`. FOLDER has the
-// extension, if it is not this one.
+// Tests how the extension starts and ends servers, and reads long answers, over stand-ins for VS Code and for gqlls:
+// `node restarts.js [FOLDER]`. FOLDER has the extension, if it is not this one.
 const assert = require("node:assert");
 const processes = require("node:child_process");
 const { readFileSync } = require("node:fs");
@@ -20,15 +20,21 @@ const folder = process.argv[2] ? resolve(process.argv[2]) : join(__dirname, ".."
 const { activate, deactivate } = require(folder);
 const manifest = JSON.parse(readFileSync(join(folder, "package.json"), "utf8"));
 
-const alive = () => servers.filter(({ pid, exitCode, signalCode }) => pid !== undefined && exitCode === null && signalCode === null);
+const alive = () =>
+  servers.filter(({ pid, exitCode, signalCode }) => pid !== undefined && exitCode === null && signalCode === null);
 const pause = (milliseconds) => new Promise((resolve) => setTimeout(resolve, milliseconds));
 const change = () => tell("onDidChangeConfiguration", { affectsConfiguration: (name) => name === "gqlls" });
 const LANGUAGES = ["graphql", "javascript", "javascriptreact", "typescript", "typescriptreact", "python"];
 
-// Waits until the extension has done what it does, for twenty seconds at most: the last server is the only one, and serves.
+// Waits until the extension has done what it does, for twenty seconds at most: the last server is the only one, and
+// serves.
 async function settled() {
   for (let left = 200; alive().length !== 1 || alive()[0] !== servers.at(-1) || !providers.Hover; left--) {
-    assert.ok(left > 0, `${alive().length} of ${servers.length} servers are alive, and hover is ${providers.Hover ? "served" : "not served"}`);
+    assert.ok(
+      left > 0,
+      `${alive().length} of ${servers.length} servers are alive, and hover is ${
+        providers.Hover ? "served" : "not served"}`
+    );
     await pause(100);
   }
 }
@@ -77,7 +83,8 @@ const tests = {
   },
 
   async "a program that is not there is said once, and does not stay in the way"() {
-    for (const [path, why] of [["missing", /^gqlls cannot be started as missing: .*ENOENT/], ["", /^gqlls cannot be started as : /]]) {
+    for (const [path, why] of [
+           ["missing", /^gqlls cannot be started as missing: .*ENOENT/], ["", /^gqlls cannot be started as : /]]) {
       settings.path = path;
       change();
       change();
@@ -99,7 +106,9 @@ const tests = {
       joined += whole.length;
       return whole;
     };
-    const { contents } = await providers.Hover.provider.provideHover(new Document("/a.graphql", "{a}"), new vscode.Position(30_000_000, 0));
+    const { contents } = await providers.Hover.provider.provideHover(
+      new Document("/a.graphql", "{a}"), new vscode.Position(30_000_000, 0)
+    );
     Buffer.concat = concat;
     assert.equal(contents.value.length, 30_000_000);
     assert.ok(joined < 60_000_000, `${joined} bytes are joined for an answer of 30,000,000`);
@@ -130,7 +139,8 @@ const tests = {
 async function main() {
   settings.path = join(__dirname, "stand_in.js");
   await activate({ subscriptions: [] });
-  for (const [name, test] of Object.entries(tests)) await test().catch((error) => Promise.reject(new Error(`${name}: ${error.stack}`)));
+  for (const [name, test] of Object.entries(tests))
+    await test().catch((error) => Promise.reject(new Error(`${name}: ${error.stack}`)));
   console.log(`extension: ${Object.keys(tests).length} tests of its servers passed`);
   process.exit(0);
 }

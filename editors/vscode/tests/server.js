@@ -1,5 +1,5 @@
-// Tests the extension over a stand-in for VS Code and the program gqlls: `node server.js PROGRAM [FOLDER]`. FOLDER has the extension, if it is not this one.
-// Places in the texts were counted by hand.
+// Tests the extension over a stand-in for VS Code and the program gqlls: `node server.js PROGRAM [FOLDER]`. FOLDER has
+// the extension, if it is not this one. Places in the texts were counted by hand.
 const assert = require("node:assert");
 const processes = require("node:child_process");
 const { mkdtempSync, readFileSync, rmSync, unlinkSync, writeFileSync } = require("node:fs");
@@ -17,7 +17,7 @@ const load = Module._load;
 Module._load = (name, ...rest) => (name === "vscode" ? vscode : load(name, ...rest));
 const { activate, deactivate } = require(process.argv[3] ?? "..");
 
-const data = (name) => readFileSync(join(__dirname, "../../../tools/editor/data", name), "utf8");
+const data = (name) => readFileSync(join(__dirname, "../../../tests/editors/data", name), "utf8");
 const query = new Document("/a b/query.graphql", data("query.graphql"));
 const schema = new Document("/schema.graphql", data("schema.graphql"));
 const notes = new Document("/notes.txt", "{", "plaintext");
@@ -57,12 +57,16 @@ const tests = {
     tell("onDidOpenTextDocument", opened);
     await until(() => errorsOf(opened));
     const [{ range, message, severity, source, relatedInformation }] = errorsOf(opened);
-    assert.deepEqual([span(range), message, severity, source, relatedInformation], [[0, 4, 0, 4], "expected }", 0, "gqlls", undefined]);
+    assert.deepEqual(
+      [span(range), message, severity, source, relatedInformation], [[0, 4, 0, 4], "expected }", 0, "gqlls", undefined]
+    );
     tell("onDidChangeTextDocument", { document: opened, contentChanges: [] });
     opened.replace(new vscode.Range(0, 4, 0, 4), "\nfragment F on T { b }");
     await until(() => errorsOf(opened)[0].relatedInformation);
     const [{ location, message: words }] = errorsOf(opened)[0].relatedInformation;
-    assert.deepEqual([location.uri.path, span(location.range), words], ["/new.graphql", [0, 0, 0, 1], "this { is never closed"]);
+    assert.deepEqual(
+      [location.uri.path, span(location.range), words], ["/new.graphql", [0, 0, 0, 1], "this { is never closed"]
+    );
     opened.replace(new vscode.Range(0, 4, 1, 21), "");
     opened.replace(new vscode.Range(0, 4, 0, 4), "}");
     await until(() => errorsOf(opened).length === 0);
@@ -80,22 +84,33 @@ const tests = {
     const folds = await ask("FoldingRange", "provideFoldingRanges", schema, {});
     assert.deepEqual(folds.map(({ start, end, kind }) => [start, end, kind]), [[1, 3, undefined], [6, 7, undefined]]);
     const [name] = await ask("SelectionRange", "provideSelectionRanges", query, [at(3, 26)]);
-    assert.deepEqual([name, name.parent, name.parent.parent].map(({ range }) => span(range)), [[3, 24, 3, 28], [3, 22, 3, 30], [3, 0, 3, 30]]);
+    assert.deepEqual([name, name.parent, name.parent.parent].map(({ range }) => span(range)), [
+      [3, 24, 3, 28], [3, 22, 3, 30], [3, 0, 3, 30]
+    ]);
   },
 
   // the layout is that of docs/FORMAT.md
   async "layout"() {
     const whole = await ask("DocumentFormattingEdit", "provideDocumentFormattingEdits", query, OPTIONS);
-    assert.equal(edited(data("query.graphql"), whole), data("query.graphql").replace("{ ...parts }", "{\n    ...parts\n  }").replace("{ name }", "{\n  name\n}"));
-    const part = await ask("DocumentRangeFormattingEdit", "provideDocumentRangeFormattingEdits", query, new vscode.Range(3, 0, 3, 5), OPTIONS);
-    assert.deepEqual(part.map(({ range, newText }) => [span(range), newText]), [[[3, 23, 3, 23], "\n "], [[3, 28, 3, 29], "\n"]]);
+    assert.equal(
+      edited(data("query.graphql"), whole),
+      data("query.graphql").replace("{ ...parts }", "{\n    ...parts\n  }").replace("{ name }", "{\n  name\n}")
+    );
+    const part = await ask(
+      "DocumentRangeFormattingEdit", "provideDocumentRangeFormattingEdits", query, new vscode.Range(3, 0, 3, 5), OPTIONS
+    );
+    assert.deepEqual(
+      part.map(({ range, newText }) => [span(range), newText]), [[[3, 23, 3, 23], "\n "], [[3, 28, 3, 29], "\n"]]
+    );
   },
 
   async "definition, references and hover"() {
     const found = await ask("Definition", "provideDefinition", query, at(1, 22));
     assert.deepEqual([found.uri.path, span(found.range)], ["/a%20b/query.graphql", [3, 9, 3, 14]]);
     for (const [includeDeclaration, count] of [[true, 2], [false, 1]]) {
-      assert.equal((await ask("Reference", "provideReferences", query, at(1, 22), { includeDeclaration })).length, count);
+      assert.equal(
+        (await ask("Reference", "provideReferences", query, at(1, 22), { includeDeclaration })).length, count
+      );
     }
     const hover = await ask("Hover", "provideHover", schema, at(3, 17));
     assert.match(hover.contents.value, /type Pet/);
@@ -106,13 +121,18 @@ const tests = {
   async "renaming, marks and symbols of the folder"() {
     const places = [[1, 20, 1, 25], [3, 9, 3, 14]];
     const { all } = await ask("Rename", "provideRenameEdits", query, at(1, 22), "some");
-    assert.deepEqual(all.map(({ uri, edits }) => [uri.path, edits.map(({ range }) => span(range))]), [["/a%20b/query.graphql", places]]);
+    assert.deepEqual(
+      all.map(({ uri, edits }) => [uri.path, edits.map(({ range }) => span(range))]), [["/a%20b/query.graphql", places]]
+    );
     assert.deepEqual(all[0].edits.map(({ newText }) => newText), ["some", "some"]);
     assert.equal(await ask("Rename", "provideRenameEdits", query, at(1, 22), "1"), null);
     const marks = await ask("DocumentHighlight", "provideDocumentHighlights", query, at(1, 22));
     assert.deepEqual(marks.map(({ range }) => span(range)), places);
     const symbols = await ask("WorkspaceSymbol", "provideWorkspaceSymbols", "PE");
-    assert.deepEqual(symbols.map(({ name, location }) => [name, location.uri.path, span(location.range)]), [["Pet", "/schema.graphql", [6, 5, 6, 8]]]);
+    assert.deepEqual(
+      symbols.map(({ name, location }) => [name, location.uri.path, span(location.range)]),
+      [["Pet", "/schema.graphql", [6, 5, 6, 8]]]
+    );
   },
 
   async "files of the folder"() {
@@ -129,14 +149,18 @@ const tests = {
 
   async "signature"() {
     assert.deepEqual(providers.SignatureHelp.words, ["(", ","]);
-    const { signatures, activeSignature, activeParameter } = await ask("SignatureHelp", "provideSignatureHelp", query, at(1, 6));
+    const { signatures, activeSignature, activeParameter } =
+      await ask("SignatureHelp", "provideSignatureHelp", query, at(1, 6));
     const [{ label, documentation, parameters }] = signatures;
-    assert.deepEqual([label, documentation, parameters.map((it) => it.label)], ["pet(id: ID!): Pet", "One pet.", ["id: ID!"]]);
+    assert.deepEqual(
+      [label, documentation, parameters.map((it) => it.label)], ["pet(id: ID!): Pet", "One pet.", ["id: ID!"]]
+    );
     assert.deepEqual([signatures.length, activeSignature, activeParameter], [1, 0, 0]);
   },
 
   async "templates"() {
-    for (const [languageId, text] of [["typescript", "const q = gql`{ pet(id: }`\n"], ["python", 'Q = gql(\"\"\"{ pet(id: }\"\"\")\n']]) {
+    for (const [languageId, text] of [
+           ["typescript", "const q = gql`{ pet(id: }`\n"], ["python", 'Q = gql(\"\"\"{ pet(id: }\"\"\")\n']]) {
       const host = new Document(`/host.${languageId}`, text, languageId);
       tell("onDidOpenTextDocument", host);
       await until(() => errorsOf(host));
@@ -160,7 +184,9 @@ const tests = {
   async "colours"() {
     const [{ tokenTypes }] = providers.DocumentSemanticTokens.words;
     const { data: all } = await ask("DocumentSemanticTokens", "provideDocumentSemanticTokens", query);
-    const { data: some } = await ask("DocumentRangeSemanticTokens", "provideDocumentRangeSemanticTokens", query, new vscode.Range(3, 0, 3, 5));
+    const { data: some } = await ask(
+      "DocumentRangeSemanticTokens", "provideDocumentRangeSemanticTokens", query, new vscode.Range(3, 0, 3, 5)
+    );
     assert.deepEqual([[...all.slice(0, 3)], tokenTypes[all[3]]], [[0, 0, 5], "keyword"]);
     assert.deepEqual([[...some.slice(0, 3)], tokenTypes[some[3]]], [[3, 0, 8], "keyword"]);
   },
@@ -223,7 +249,8 @@ async function main() {
   const context = { subscriptions: [] };
   await activate(context);
   assert.equal(context.subscriptions.length, 2);
-  for (const [name, test] of Object.entries(tests)) await test().catch((error) => Promise.reject(new Error(`${name}: ${error.stack}`)));
+  for (const [name, test] of Object.entries(tests))
+    await test().catch((error) => Promise.reject(new Error(`${name}: ${error.stack}`)));
   await deactivate();
   assert.deepEqual([server.exitCode, shown, Object.keys(providers), errors.size], [0, [], [], 0]);
   console.log(`extension: ${Object.keys(tests).length} tests over gqlls passed`);

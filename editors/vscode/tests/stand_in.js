@@ -1,13 +1,15 @@
 #!/usr/bin/env node
-// Stands in for gqlls: it answers `initialize` and `shutdown` after some time, and `textDocument/hover` with a text of as many bytes as the line says.
-// Started with `--recursion 0` it answers nothing, and does not end by itself.
+// Stands in for gqlls: it answers `initialize` and `shutdown` after some time, and `textDocument/hover` with a text of
+// as many bytes as the line says. Started with `--recursion 0` it answers nothing, and does not end by itself.
 let bytes = Buffer.alloc(0);
 const words = process.argv.slice(2);
 const isMute = words[words.indexOf("--recursion") + 1] === "0";
 const answers = {
-  initialize: () => ({ capabilities: { hoverProvider: true, foldingRangeProvider: true, documentFormattingProvider: true } }),
+  initialize: () =>
+    ({ capabilities: { hoverProvider: true, foldingRangeProvider: true, documentFormattingProvider: true } }),
   shutdown: () => null,
-  "textDocument/hover": ({ position }) => ({ contents: { value: "a".repeat(position.line) }, range: { start: position, end: position } }),
+  "textDocument/hover": ({ position }) =>
+    ({ contents: { value: "a".repeat(position.line) }, range: { start: position, end: position } }),
 };
 
 function answer({ id, method, params }) {

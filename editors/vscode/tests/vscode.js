@@ -1,4 +1,5 @@
-// Stands in for VS Code's module `vscode`: the values that the extension makes, the documents that are open, and what the extension registered and showed.
+// Stands in for VS Code's module `vscode`: the values that the extension makes, the documents that are open, and what
+// the extension registered and showed.
 const assert = require("node:assert");
 
 class Position {
@@ -22,7 +23,8 @@ class WorkspaceEdit {
   set = (uri, edits) => this.all.push({ uri, edits });
 }
 
-// A class whose values have these fields, in the order of the constructor's arguments, after a check that VS Code makes too.
+// A class whose values have these fields, in the order of the constructor's arguments, after a check that VS Code makes
+// too.
 function record(fields, check = () => true) {
   return class {
     constructor(...values) {
@@ -40,7 +42,8 @@ class Document {
     Object.assign(this, { uri: Uri.parse(`file://${path}`), text, languageId, version: 1 });
   }
   getText = () => this.text;
-  offset = ({ line, character }) => this.text.split("\n").slice(0, line).join("\n").length + (line > 0 ? 1 : 0) + character;
+  offset = ({ line, character }) =>
+    this.text.split("\n").slice(0, line).join("\n").length + (line > 0 ? 1 : 0) + character;
   // Puts a text in the place of a range, and says so.
   replace(range, text) {
     this.text = this.text.slice(0, this.offset(range.start)) + text + this.text.slice(this.offset(range.end));
@@ -49,7 +52,8 @@ class Document {
   }
 }
 
-const [listeners, commands, providers, shown, errors, settings] = [{}, {}, {}, [], new Map(), { path: "gqlls", recursionLimit: 500, tokenLimit: null }];
+const [listeners, commands, providers, shown, errors, settings] =
+  [{}, {}, {}, [], new Map(), { path: "gqlls", recursionLimit: 500, tokenLimit: null }];
 const tell = (event, given) => [...(listeners[event] ?? [])].forEach((listener) => listener(given));
 
 function listening(event) {
@@ -65,8 +69,14 @@ const registering = (name) => (selector, provider, ...words) => {
   providers[name] = { selector, provider, words };
   return { dispose: () => delete providers[name] };
 };
-const PROVIDERS = ["DocumentSymbol", "FoldingRange", "SelectionRange", "DocumentFormattingEdit", "DocumentRangeFormattingEdit", "Definition", "Reference"];
-PROVIDERS.push("Hover", "CompletionItem", "DocumentSemanticTokens", "DocumentRangeSemanticTokens", "DocumentHighlight", "Rename", "SignatureHelp");
+const PROVIDERS = [
+  "DocumentSymbol", "FoldingRange", "SelectionRange", "DocumentFormattingEdit", "DocumentRangeFormattingEdit",
+  "Definition", "Reference"
+];
+PROVIDERS.push(
+  "Hover", "CompletionItem", "DocumentSemanticTokens", "DocumentRangeSemanticTokens", "DocumentHighlight", "Rename",
+  "SignatureHelp"
+);
 
 const vscode = {
   Position,
@@ -76,7 +86,10 @@ const vscode = {
   TextEdit: record(["range", "newText"]),
   Diagnostic: record(["range", "message", "severity"]),
   DiagnosticRelatedInformation: record(["location", "message"]),
-  DocumentSymbol: record(["name", "detail", "kind", "range", "selectionRange"], ({ name, range, selectionRange }) => name && range.contains(selectionRange)),
+  DocumentSymbol: record(
+    ["name", "detail", "kind", "range", "selectionRange"],
+    ({ name, range, selectionRange }) => name && range.contains(selectionRange)
+  ),
   CompletionItem: record(["label", "kind"]),
   FoldingRange: record(["start", "end", "kind"]),
   DocumentHighlight: record(["range"]),
@@ -99,7 +112,12 @@ const vscode = {
     getConfiguration: () => ({ get: (name) => settings[name] }),
     createFileSystemWatcher: (pattern) => {
       assert.equal(pattern, "**/*.{graphql,graphqls,gql}");
-      return { onDidCreate: listening("create"), onDidChange: listening("change"), onDidDelete: listening("delete"), dispose: () => {} };
+      return {
+        onDidCreate: listening("create"),
+        onDidChange: listening("change"),
+        onDidDelete: listening("delete"),
+        dispose: () => {}
+      };
     },
   },
   languages: {
@@ -114,7 +132,8 @@ for (const name of PROVIDERS) vscode.languages[`register${name}Provider`] = regi
 PROVIDERS.push("WorkspaceSymbol");
 // This is the one that is not about a language.
 vscode.languages.registerWorkspaceSymbolProvider = (provider) => registering("WorkspaceSymbol")(undefined, provider);
-for (const event of ["onDidOpenTextDocument", "onDidChangeTextDocument", "onDidCloseTextDocument", "onDidChangeConfiguration"]) {
+for (const event
+       of ["onDidOpenTextDocument", "onDidChangeTextDocument", "onDidCloseTextDocument", "onDidChangeConfiguration"]) {
   vscode.workspace[event] = listening(event);
 }
 

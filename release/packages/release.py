@@ -1,0 +1,111 @@
+"""What a release holds, each package by its file's name."""
+
+import hashlib
+import importlib.util
+import shutil
+import subprocess
+import tempfile
+from pathlib import Path
+
+from bindings.library import pc_text
+from bindings.shared import BUILD, C, PACKAGE, PYTHON, RUST, SITE, TOP, UNPROVED, need, run, stop, version
+
+from .about import LICENCES, about, licences
+from .archives import File, packed, read, tar, under
+from .deb import deb
+from .installed import glibc, installed
+from .npm import npm
+from .vsix import vsix
+
+
+def archive():
+    """For any Linux of this processor: to be unpacked below any folder."""
+    name = f"dumyroke-{version()}-linux-x86_64"
+    found_by = pc_text("${pcfiledir}/../..", "${prefix}/include", "${prefix}/lib")
+    files = installed() | {"lib/pkgconfig/dumyroke.pc": File(found_by.encode())}
+    return f"{name}.tar.gz", packed(tar(under(name, files)))
+
+
+def wheel():
+    """The Python package, for each Linux whose glibc has the symbols that the library names."""
+    described = importlib.util.spec_from_file_location("backend", PYTHON / "backend.py")
+    backend = importlib.util.module_from_spec(described)
+    described.loader.exec_module(backend)
+    major, minor = glibc(PACKAGE / "libdumyroke.so")
+    backend.tag = lambda: f"py3-none-manylinux_{major}_{minor}_x86_64"
+    with tempfile.TemporaryDirectory() as folder:
+        name = backend.build_wheel(folder)
+        return name, Path(folder, name).read_bytes()
+
+
+def crate():
+    """The Rust crate as cargo packages it, with the static library inside."""
+    with tempfile.TemporaryDirectory() as name:
+        folder = Path(name, "rust")
+        shutil.copytree(RUST, folder, ignore=shutil.ignore_patterns("target", "original", "Cargo.lock"))
+        for document in (*LICENCES, "CHANGELOG.md"):
+            shutil.copy(TOP / document, folder)
+        library = folder / "lib/x86_64-unknown-linux-gnu"
+        library.mkdir(parents=True)
+        shutil.copy(BUILD / "libdumyroke.a", library)
+        said = run(
+            "cargo", "package", "--offline", "--no-verify", "--allow-dirty", cwd=folder, stderr=subprocess.PIPE
+        ).stderr.decode()
+        if "warning" in said:
+            stop(f"cargo warns of the crate:\n{said}")
+        file = folder / f"target/package/dumyroke-{version()}.crate"
+        return file.name, file.read_bytes()
+
+
+def page():
+    """The page, a folder for any static server."""
+    name = f"dumyroke-page-{version()}"
+    files = {str(path.relative_to(SITE)): read(path) for path in sorted(SITE.rglob("*")) if path.is_file()}
+    if not files:
+        stop(f"there is no page in {SITE}: `./do bindings pages` makes it")
+    return f"{name}.tar.gz", packed(tar(under(name, files | licences())))
+
+
+def proved():
+    """What the release is made of, and where its proof ends."""
+    words = {"stdout": subprocess.PIPE, "text": True, "check": True}
+    commit = subprocess.run(["git", "-C", TOP, "rev-parse", "HEAD"], **words).stdout.strip()
+    changed = subprocess.run(["git", "-C", TOP, "status", "--porcelain", "--untracked-files=no"], **words).stdout
+    kit = subprocess.run(["rt", "version"], **words).stdout.strip()
+    unproved = "NOT PROVED: the library was made without a proof, to try the packages.\n\n" if UNPROVED.exists() else ""
+    return f"""{unproved}Dumyroke {version()}, from commit {commit}{" with changes" if changed else ""}, proved by {kit}.
+
+Programs: `run` of gqlcheck_run, gqlcst_run, gqlfmt_run and gqlls_files is proved, with the devices of byte_devices; the system below them is trusted.
+libdumyroke, and so the Rust crate and the Python package; the page's module, which is the npm package's: each exported call is proved. Headers, Rust,
+Python, JavaScript, the module's memory, and the extension for VS Code are tested only.
+docs/PROMISES.md says what is proved, and EVIDENCE.md which lemmas prove it. The provers and compilers of the kit, LLVM and the C library are trusted.
+"""
+
+
+def release():
+    """All files of a release, by their names."""
+    need("objdump", "strip", "git", "rt")
+    if not BUILD.exists():
+        stop("there is no build/: `./do gate` comes first")
+    for library in (BUILD / "libdumyroke.a", PACKAGE / "libdumyroke.so"):
+        read(library, made_by="./do bindings build")
+    if f"## {version()}" not in read(TOP / "CHANGELOG.md").content.decode().splitlines():
+        stop(f"CHANGELOG.md has no entry `## {version()}`")
+    if about()["homepage"].endswith(".example"):
+        print("the addresses in about.json are placeholders: whoever publishes these packages puts real ones there")
+    run(TOP / "tools/evidence/run", stdout=subprocess.DEVNULL)
+    if run(TOP / "tools/kinds", "--print", stdout=subprocess.PIPE).stdout != (C / "released_kinds.txt").read_bytes():
+        print(
+            "bindings/c/released_kinds.txt is of another release: run `tools/kinds` when these packages are published"
+        )
+    makers = [archive, deb, wheel, npm, vsix, page]
+    if shutil.which("cargo"):
+        makers.append(crate)
+    else:
+        print("there is no cargo: the Rust crate is left out")
+    files = dict(make() for make in makers) | {
+        "PROVED.txt": proved().encode(),
+        "EVIDENCE.md": (BUILD / "EVIDENCE.md").read_bytes(),
+    }
+    sums = "".join(f"{hashlib.sha256(content).hexdigest()}  {name}\n" for name, content in sorted(files.items()))
+    return files | {"SHA256SUMS": sums.encode()}
