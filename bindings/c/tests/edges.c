@@ -435,11 +435,12 @@ static uint32_t validate(const char *text, size_t most, dumyroke_violation *viol
     return dumyroke_validate(bytes_of(text), strlen(text), dumyroke_default_limits(), most, violations, room, said, sizeof said, counts);
 }
 
-/* The standard forbids the spread of a fragment that is not defined (5.5.2.1) and a variable that is not used (5.8.4). */
+/* The standard forbids the spread of a fragment that is not defined (5.5.2.1) and a variable that is not used (5.8.4). The variable comes first in the
+ * text. */
 static void violations(void)
 {
     const char *text = "query Q($a: Int) { a ...F }";
-    const char *messages = "Unknown fragment \"F\".Variable \"$a\" is never used in operation \"Q\".\xee";
+    const char *messages = "Variable \"$a\" is never used in operation \"Q\".Unknown fragment \"F\".\xee";
     dumyroke_violation found[2], untouched;
     dumyroke_violation_counts counts;
     dumyroke_limits shallow = {0, SIZE_MAX};
@@ -447,16 +448,16 @@ static void violations(void)
     CHECK(validate(text, 9, NULL, 0, &counts) == DUMYROKE_OK && counts.violations == 2 && counts.status == DUMYROKE_OK);
     memset(found, UNTOUCHED, sizeof found);
     CHECK(validate(text, 9, found, 1, &counts) == DUMYROKE_OK && counts.violations == 2);
-    CHECK(found[0].rule == DUMYROKE_KNOWN_FRAGMENT_NAMES && !memcmp(&found[1], &untouched, sizeof untouched));
+    CHECK(found[0].rule == DUMYROKE_NO_UNUSED_VARIABLES && !memcmp(&found[1], &untouched, sizeof untouched));
     CHECK(validate(text, 9, found, 2, &counts) == DUMYROKE_OK && counts.violations == 2);
-    CHECK(found[0].start == 21 && found[0].end == 25 && !found[0].has_other && !found[0].other_start && !found[0].other_end);
-    CHECK(found[1].rule == DUMYROKE_NO_UNUSED_VARIABLES && found[1].start == 8 && found[1].end == 15);
-    CHECK(found[1].has_other && found[1].other_start == 0 && found[1].other_end == 27);
+    CHECK(found[0].start == 8 && found[0].end == 15 && found[0].has_other && found[0].other_start == 0 && found[0].other_end == 27);
+    CHECK(found[1].rule == DUMYROKE_KNOWN_FRAGMENT_NAMES && found[1].start == 21 && found[1].end == 25);
+    CHECK(!found[1].has_other && !found[1].other_start && !found[1].other_end);
     CHECK(counts.message_bytes == 66 && !memcmp(said, messages, 67));
-    CHECK(found[0].message == 0 && found[0].message_length == 21 && found[1].message == 21 && found[1].message_length == 45);
+    CHECK(found[0].message == 0 && found[0].message_length == 45 && found[1].message == 45 && found[1].message_length == 21);
     memset(said, UNTOUCHED, sizeof said);
     CHECK(dumyroke_validate(bytes_of(text), 27, dumyroke_default_limits(), 9, NULL, 0, said, 7, &counts) == DUMYROKE_OK && counts.message_bytes == 66);
-    CHECK(!memcmp(said, "Unknown\xee", 8));
+    CHECK(!memcmp(said, "Variabl\xee", 8));
     CHECK(validate("union U = A | A", 9, found, 2, &counts) == DUMYROKE_OK && counts.violations == 1);
     CHECK(found[0].rule == DUMYROKE_UNIQUE_UNION_MEMBER_TYPES && found[0].start == 14 && found[0].other_start == 10);
     CHECK(validate("extend type T implements I & I", 9, found, 2, &counts) == DUMYROKE_OK && counts.violations == 1);
