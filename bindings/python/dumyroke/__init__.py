@@ -7,7 +7,7 @@
     >>> [str(error) for error in dumyroke.check("{ hero(id) { name }")]
     ['1:10: expected COLON, got )', '1:20: expected R_CURLY, got EOF']
     >>> [violation.rule for violation in dumyroke.validate("query Q($id: ID) { a ...F }")]
-    ['KnownFragmentNames', 'NoUnusedVariables']
+    ['NoUnusedVariables', 'KnownFragmentNames']
     >>> dumyroke.measure("{ a ...F } fragment F on T { b { c } }")[0].figures.depth
     2
 
