@@ -370,7 +370,7 @@ def fragments_of_others():
     expect(
         "two errors elsewhere",
         codes(client.open("file:///c.graphql", "{ ...F ...H a(b: 1, b: 2) }")),
-        ["UniqueArgumentNames", "KnownFragmentNames"],
+        ["KnownFragmentNames", "UniqueArgumentNames"],
     )
     expect("in a file with a syntax error", codes(client.open(other, "fragment F on A { a } {")), ["syntax"])
     expect("F is known, and G is not", codes(client.change(URI, 3, [])), ["KnownFragmentNames"])
