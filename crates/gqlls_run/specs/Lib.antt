@@ -4,9 +4,11 @@ pub mod Layout
 pub mod Parameters
 pub mod Registration
 pub mod Dialogue
+pub mod Edits
 pub mod Files
 pub mod Kept
 pub mod Parsing
 pub mod Same
+pub mod Renaming
 pub mod State
 pub mod Told
