@@ -24,12 +24,13 @@ readme = SourceFileLoader("readme", str(TOP / "tests/readme")).load_module()
 
 def examples(page, *programs):
     """The commands that a page shows with these programs: each with its folder, and the text that it writes. `rt try`
-    in a program's folder is that program."""
+    in a program's folder is that program, and so is `./do try` with its name."""
     for block in readme.blocks((TOP / page).read_text()):
         folder = "."
         for command, written in readme.commands(block):
             if command.startswith("cd "):
                 folder = command[3:]
+            command = re.sub(r"\./do try (\w+)( --)?", r"\1", command)
             command = re.sub(r"\brt try( --)?", Path(folder).name, command)
             if not command.startswith("cd ") and set(programs) & set(command.split()):
                 yield folder, command, written

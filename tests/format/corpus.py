@@ -1,10 +1,13 @@
 """Texts that gqlfmt and the libraries are tried with: the examples of docs/FORMAT.md, in which a text and its layout
-follow one another; the documents below, each with its layout; and the texts of crates/tests_parser, without a
-layout."""
+follow one another; the documents below, each with its layout; the texts of crates/tests_parser, without a layout; and
+documents at random."""
 
+import random
 import re
 import sys
 from pathlib import Path
+
+from documents import Documents, commented, shaken
 
 TOP = Path(__file__).resolve().parent.parent.parent
 DOCUMENT = re.compile(
@@ -12,6 +15,8 @@ DOCUMENT = re.compile(
     r"(query|mutation|subscription|fragment|extend|schema|scalar|type|interface|union|enum|input|directive)\b)"
 )
 WIDE = "語" * 31
+# How many documents at random have no comments, and the seed of their numbers.
+COUNT, SEED = 80, 1
 
 # What a page can't show, or what random documents seldom have: why, the text, and its layout by docs/FORMAT.md.
 NAMED = {
@@ -92,6 +97,19 @@ def known():
     return [*(("docs/FORMAT.md", *pair) for pair in examples()), *((title, *pair) for title, pair in NAMED.items())]
 
 
+def at_random():
+    """Documents at random with white space at random, and a third as many with comments too."""
+    numbers = random.Random(SEED)
+    made = Documents(numbers)
+    plain = [shaken(made.document(), numbers) for _ in range(COUNT)]
+    return plain + [commented(shaken(made.document(), numbers), numbers) for _ in range(COUNT // 3)]
+
+
+def layouts():
+    """All texts, each with its title and its layout, or an empty one where none is known."""
+    unknown = {"crates/tests_parser": tested(), "at random": at_random()}
+    return [*known(), *((title, text, "") for title, found in unknown.items() for text in found)]
+
+
 def texts():
-    """All texts."""
-    return [*(text for _, text, _ in known()), *tested()]
+    return [text for _, text, _ in layouts()]

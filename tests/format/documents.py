@@ -1,4 +1,6 @@
-"""Documents at random."""
+"""Documents at random, and other texts with the tokens of a document."""
+
+import re
 
 KEYWORDS = [
     "type", "query", "mutation", "subscription", "fragment", "on", "input", "enum", "union", "scalar", "schema",
@@ -41,6 +43,11 @@ LOCATIONS = [
 ]
 OPERATIONS = ["query", "mutation", "subscription"]
 LF = "\n"
+# The tokens and the comments of a document.
+TOKEN = re.compile(
+    r'"""(?:\\"""|(?!""").)*"""|"(?:\\.|[^"\\\n\r])*"|#[^\n\r]*|\.\.\.|[!$&()\[\]{}|:=@]|-?\d[\w.+-]*|[_A-Za-z]\w*',
+    re.ASCII | re.DOTALL,
+)
 
 
 class Documents:
@@ -229,3 +236,49 @@ class Documents:
             f"{self.description()}directive"
             f" @{self.name()}{arguments}{self.maybe(lambda: ' repeatable')} on{self.lead('|')}{locations}"
         )
+
+
+def shaken(text, random):
+    """The same tokens with other white space and commas between them, and block strings with other indents."""
+    result = previous = ""
+    for token in TOKEN.finditer(text):
+        word = token[0]
+        if word.startswith('"""') and random.random() < 0.5:
+            more = random.choice(["", " ", "     ", "\t"])
+            word = random.choice(["\n", "\n", "\r\n"]).join(
+                more * (number > 0) + part for number, part in enumerate(word.split("\n"))
+            )
+        gap = random.choice(
+            ["", "", " ", " ", "\n", " , ", "\n\n  ", "\t", "\r\n", "\n\n\n", ",", "\ufeff", "\n, \n", "\r"]
+        )
+        if gap == "" and re.search(r'[\w."-]$', previous) and re.match(r'[\w."-]', word):
+            gap = " "
+        is_comment = word.startswith("#")
+        result += ("\n" if is_comment else gap) + word + ("\n" if is_comment else "")
+        previous = word
+    return result
+
+
+def commented(text, random, rate=5):
+    """The same tokens, with comments and blank lines at every fifth place."""
+    count = 0
+
+    def comment():
+        nonlocal count
+        count += 1
+        return f"#{random.choice([' comment ', '', '!', ' a, {b} '])}{count}"
+
+    makers = [
+        lambda: f"{comment()}\n", lambda: f" {comment()}\n", lambda: f"\n{comment()}\n", lambda: f"\n\n{comment()}\n\n",
+        lambda: f" {comment()}\n{comment()}\n", lambda: "#\n", lambda: f"\n{comment()}\r\n\r\n",
+        lambda: f"\ufeff{comment()}\n", lambda: f", {comment()}\n,", lambda: f"\n\n\n{comment()}\r{comment()}\n",
+        lambda: f"{comment()} \n", lambda: "\n# gqlfmt-ignore\n",
+    ]
+    result, last = "", 0
+    for token in TOKEN.finditer(text):
+        result += text[last : token.start()]
+        if random.randrange(rate) == 0:
+            result += random.choice(makers)()
+        result += token[0] + ("\n" if token[0].startswith("#") else "")
+        last = token.end()
+    return result + text[last:] + (f"\n{comment()}" if random.randrange(3) == 0 else "")

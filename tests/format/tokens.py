@@ -1,6 +1,4 @@
-"""The tokens of a document by graphql-core, and other texts with the same tokens."""
-
-import re
+"""The tokens of a document by graphql-core."""
 
 from graphql import Lexer, Source, TokenKind, parse
 
@@ -35,49 +33,3 @@ def meaning(text):
     gone = optional_signs(text)
     words = ((it, it.value if it.kind is TokenKind.BLOCK_STRING else text[it.start : it.end]) for it in tokens_of(text))
     return [(it.kind, word) for it, word in words if it.start not in gone]
-
-
-def shaken(text, random):
-    """The same tokens with other white space and commas between them, and block strings with other indents."""
-    result = previous = ""
-    for token in tokens_of(text):
-        word = text[token.start : token.end]
-        if token.kind is TokenKind.BLOCK_STRING and random.random() < 0.5:
-            more = random.choice(["", " ", "     ", "\t"])
-            word = random.choice(["\n", "\n", "\r\n"]).join(
-                more * (number > 0) + part for number, part in enumerate(word.split("\n"))
-            )
-        gap = random.choice(
-            ["", "", " ", " ", "\n", " , ", "\n\n  ", "\t", "\r\n", "\n\n\n", ",", "\ufeff", "\n, \n", "\r"]
-        )
-        if gap == "" and re.search(r'[\w."-]$', previous) and re.match(r'[\w."-]', word):
-            gap = " "
-        is_comment = token.kind is TokenKind.COMMENT
-        result += ("\n" if is_comment else gap) + word + ("\n" if is_comment else "")
-        previous = word
-    return result
-
-
-def commented(text, random, rate=5):
-    """The same tokens, with comments and blank lines at every fifth place."""
-    count = 0
-
-    def comment():
-        nonlocal count
-        count += 1
-        return f"#{random.choice([' comment ', '', '!', ' a, {b} '])}{count}"
-
-    makers = [
-        lambda: f"{comment()}\n", lambda: f" {comment()}\n", lambda: f"\n{comment()}\n", lambda: f"\n\n{comment()}\n\n",
-        lambda: f" {comment()}\n{comment()}\n", lambda: "#\n", lambda: f"\n{comment()}\r\n\r\n",
-        lambda: f"\ufeff{comment()}\n", lambda: f", {comment()}\n,", lambda: f"\n\n\n{comment()}\r{comment()}\n",
-        lambda: f"{comment()} \n", lambda: "\n# gqlfmt-ignore\n",
-    ]
-    result, last = "", 0
-    for token in tokens_of(text):
-        result += text[last : token.start]
-        if random.randrange(rate) == 0:
-            result += random.choice(makers)()
-        result += text[token.start : token.end] + ("\n" if token.kind is TokenKind.COMMENT else "")
-        last = token.end
-    return result + text[last:] + (f"\n{comment()}" if random.randrange(3) == 0 else "")

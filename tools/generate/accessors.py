@@ -53,7 +53,8 @@ def accessors(grammar, kind):
 
     The accessor of a node that is there at most once has the name of its kind, in lower case; the accessor of one that
     may repeat has an `s` after it. The choices have the names of `ENUMS`. A leaf's has the name of its kind, without
-    `_KW`, and then `_token`. A choice that is no enum has one accessor for each kind. """
+    `_KW`, and then `_token`. A choice that is no enum has one accessor for each kind.
+    """
     found, pattern = [], grammar.rows[kind]
     enum_of = {tuple(grammar.lists[choice.listed]): enum for enum, choice in ENUMS.items()}
     for kinds in choices(pattern):

@@ -2,7 +2,8 @@
 generator's own lists make together. Each message names the file to mend, and the kind.
 
 Misspelled kinds and rows that are missing are refused where the files are read (grammar.py), and rows of which two
-tokens do not say which child comes next in lookahead.py. """
+tokens do not say which child comes next in lookahead.py.
+"""
 
 import re
 from collections import Counter

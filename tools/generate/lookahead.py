@@ -1,7 +1,8 @@
 """What each symbol begins with, what may follow it, and how each row can be brought to its end.
 
 A class is the number of a leaf: a Name that is a keyword has the class of the keyword. The end of the tokens has class
-0. """
+0.
+"""
 
 import heapq
 from functools import cached_property

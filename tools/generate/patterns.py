@@ -1,7 +1,8 @@
 """Patterns of children, as specs/Pattern.antt defines them, and how they are read from specs/Rows.antt.
 
 A pattern is a tuple: ("any_of", kinds), ("nothing",), ("then", p, q), ("or_else", p, q) or ("many", p). The kinds of
-`any_of` are a tuple. """
+`any_of` are a tuple.
+"""
 
 import re
 from dataclasses import dataclass

@@ -3,7 +3,8 @@
 A rule of Rules.antt has its production in the first line of the comment above it, as `-- Alias (2.7) : Name :`. The
 function that runs the rule has it in the last line of its own comment, further in. Only these lines are written: all
 else in the files is by hand. A function `default_value`, which runs `OptionalDefaultValue`, has the production of
-DefaultValue. """
+DefaultValue.
+"""
 
 import re
 

@@ -1,7 +1,8 @@
 """The symbols of the machine, and the pattern of each.
 
 Most are the kinds. Where a rule of Derivation.antt makes a place differ from others, a symbol of its own has that
-place: the machine's rows then need no rule beside them. Such a symbol is shown in trees as a kind. """
+place: the machine's rows then need no rule beside them. Such a symbol is shown in trees as a kind.
+"""
 
 from .patterns import NOTHING, any_of, renamed
 

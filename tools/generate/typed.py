@@ -1,7 +1,8 @@
 """The text of the typed nodes: a struct for each kind of node, with its casts and accessors; and the types of leaves.
 
 The names of accessors are those of accessors.py. A struct's documentation is its kind's; the other words are in
-typed_docs.py. """
+typed_docs.py.
+"""
 
 import re
 

@@ -12,11 +12,11 @@
     2
 
 `parse` gives a tree of any text, `check` its errors alone, and `format` a document in the layout of the program gqlfmt.
-`parse_selection_set` and
-`parse_type` give trees of parts of documents, and `lex` the tokens. `validate` has the rules that need no schema,
-`measure` says how large operations are with their fragments expanded, and `check_limits` which limit is exceeded.
-`nodes` has a class for each kind of node. The parser is a library in C that is in the package; what is proved of it is
-in docs/BINDINGS.md. """
+`parse_selection_set` and `parse_type` give trees of parts of documents, and `lex` the tokens. `validate` has the rules
+that need no schema, `measure` says how large operations are with their fragments expanded, and `check_limits` which
+limit is exceeded. `nodes` has a class for each kind of node. The parser is a library in C that is in the package; what
+is proved of it is in docs/BINDINGS.md.
+"""
 
 from . import nodes
 from .calls import NotADocument, check, format, lex, parse, parse_selection_set, parse_type

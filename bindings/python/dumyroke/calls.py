@@ -198,7 +198,8 @@ def parse(text: Text, recursion_limit: int | None = 500, token_limit: int | None
     Without a limit on nesting, a text that nests deeper than the stack holds ends the process.
 
     Raises `UnicodeDecodeError` or `UnicodeEncodeError` for a text that is not Unicode, `MemoryError`, and `ValueError`
-    for one of 2**31 bytes, or for a limit below 0. """
+    for one of 2**31 bytes, or for a limit below 0.
+    """
     return _parsed(library.parse, text, recursion_limit, token_limit)
 
 

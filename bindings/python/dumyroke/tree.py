@@ -2,7 +2,8 @@
 
 A tree is one array of numbers that the library filled. Nodes and tokens are made when they are looked at: each is a
 reference to the tree and an index, and two of the same element are equal. The class of a node says its kind; the
-classes are in `nodes`. """
+classes are in `nodes`.
+"""
 
 from __future__ import annotations
 
