@@ -10,7 +10,8 @@ use Rattle.gqlls_run.specs.State.{entry_of, is_stored, known_of}
 use Rattle.gqlls_run.specs.declared.documents.Document.{Document}
 use Rattle.gqlls_run.proofs.Maps.{passed_more, passed_over}
 use Rattle.gqlls_run.proofs.documents.push_stored.Goals as goal
-use Rattle.gqlls_run.proofs.documents.push_stored.Goals.{else-not-contains-via-then-not-contains+else-not-contains_key, else-not-contains-via-else-not-contains}
+use Rattle.gqlls_run.proofs.documents.push_stored.Goals.{else-not-contains-via-then-not-contains+else-not-contains_key}
+use Rattle.gqlls_run.proofs.documents.push_stored.Goals.{else-not-contains-via-else-not-contains}
 
 both : (own opens : Bool) → own ≡ false → opens ≡ false → (not own && not opens) ≡ true
 both own opens one two = rw (one, two) refl
