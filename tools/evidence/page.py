@@ -60,7 +60,8 @@ READING = """\
 ## What to read in order to believe it
 
 A clause is as good as the definitions that it uses. A definition that a clause names counts, and so does each that this one names, and no other of its file.
-Comments and blank lines do not count. "Of the kit" are the words for JSON and for headers, which are the kit's own. "Written by a program" are lists of the
+Comments and blank lines do not count. Nor do constants of the code that a definition names: the tables of a program's options, and what it prints of itself
+for `--help`. "Of the kit" are the words for JSON and for headers, which are the kit's own. "Written by a program" are lists of the
 kinds of nodes.
 
 """
