@@ -49,6 +49,7 @@ quick() {
     must "Put the crates of crates.txt in order, or run ./do generate." tools/crates --check
     must "Give the function the name of its rule." tools/rule_names
     must "Run ./do generate." tools/format_texts --check
+    must "Give the option the same name, letter and value in all three." tools/options
     must "Run ./do generate, or mend the page or the list that it names." tools/promises --check
     must "Write the sentence in other words." tools/words
     must "Mend the Python." tools/lint
