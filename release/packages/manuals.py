@@ -1,10 +1,13 @@
-"""The manual pages, and what shells complete: the words that the pages list."""
+"""The manual pages, and what shells complete: the words that the pages list.
+
+A page of `manuals/` lists the options of which it has more to say than `--help`. The others are put in as `--help` has
+them."""
 
 import re
 from dataclasses import dataclass
 from pathlib import Path
 
-from bindings.shared import version
+from bindings.shared import TOP, version
 
 from .archives import File
 
@@ -12,6 +15,10 @@ FOLDER = Path(__file__).resolve().parent / "manuals"
 # A word in a list of a page: `.It Fl -NAME`, maybe with a letter before it, or `.It Cm NAME`; maybe with an argument;
 # and the sentence about it.
 LISTED = re.compile(r"^\.It (?:Fl (\w) , )?(Fl -|Cm )(\S+)( Ar \S+)?\n(.*)\.$", re.MULTILINE)
+
+# An option in the text for `--help`: maybe a letter, its name, maybe an argument, and what it does, maybe on lines of
+# their own.
+SAID = re.compile(r"^  (?:-(\w), )?--([a-z-]+)(?: ([A-Z]+|\S+\|\S+))?((?: +\S.*)?(?:\n {10,}\S.*)*)$", re.MULTILINE)
 
 
 @dataclass(frozen=True)
@@ -31,8 +38,32 @@ class Word:
         return [f"-{self.letter}", self.name] if self.letter else [self.name]
 
 
+def said(program):
+    """The options in a program's text for `--help`, in its order: the letter or nothing, the name, the argument or
+    nothing, and what it does."""
+    crate = "gqlls_files" if program == "gqlls" else f"{program}_run"
+    text = (TOP / f"crates/{crate}/src/command.rt").read_text()
+    text = re.search(r'^pub const HELP: &str = "(.*?)";$', text, re.DOTALL | re.MULTILINE)[1]
+    return [(letter, name, argument, " ".join(about.split())) for letter, name, argument, about in SAID.findall(text)]
+
+
+def with_options(text, program):
+    """A page with the options that it lacks, each before the one that follows it in the text for `--help`."""
+    following, synopsis = ".El", next(line for line in (".Op Ar\n", ".Sh DESCRIPTION\n") if line in text)
+    for letter, name, argument, about in reversed(said(program)):
+        listed = re.search(rf"^\.It (?:Fl \w , )?Fl -{name}(?: Ar .*)?$", text, re.MULTILINE)
+        called = f"Fl -{name}" + (f" Ar {argument}" if argument else "")
+        if not listed:
+            item = f".It {f'Fl {letter} , ' if letter else ''}{called}"
+            text = text.replace(f"{following}\n", f"{item}\n{about[:1].upper()}{about[1:]}.\n{following}\n", 1)
+            text = text.replace(synopsis, f".Op {called}\n{synopsis}", 1)
+            synopsis = f".Op {called}\n"
+        following = listed[0] if listed else item
+    return text
+
+
 def page(program):
-    return (FOLDER / f"{program}.1").read_text().replace("@VERSION@", version())
+    return with_options((FOLDER / f"{program}.1").read_text(), program).replace("@VERSION@", version())
 
 
 def words(program):

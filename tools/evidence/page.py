@@ -93,6 +93,8 @@ a parse means.
 - Comments and blank lines do not count.
 - "The kit's" are definitions of JSON and of headers, which come with the kit.
 - "Generated" are lists of the kinds of nodes, which a program writes.
+- Two constants of the code do not count. One is the table of a program's options, with a row for
+  each option. The other is what the program prints for `--help`.
 
 {rows}
 

@@ -1,5 +1,5 @@
 -- What a run of the program does, by the request in its words.
-use Rattle.std.specs.Prelude.{◌≡◌, ◌⊎◌, ℕ, Bool, List, [], ◌∷◌, Option, Some, None, Result, Err}
+use Rattle.std.specs.Prelude.{◌≡◌, ◌⊎◌, ℕ, Bool, List, [], ◌∷◌, codes, Option, Some, None, Result, Err}
 use Rattle.std.specs.declared.io.Error.{Error}
 use Rattle.byte_devices.specs.Devices.{Account}
 use Rattle.byte_devices.specs.Runs.{Reads, Writes}
@@ -8,13 +8,14 @@ use Rattle.document_checks.specs.Checking.{Asked}
 use Rattle.gqlfmt_files.specs.Listing.{Listing}
 use Rattle.named_files.specs.Finding.{FoundPath, file, unreadable, path_of}
 use Rattle.named_files.specs.Handling.{Desk, HandlesNamed, InTurn, ReadsAndWrites, State, desk, streams}
-use Rattle.program_words.specs.Gqlcheck.{Run, request_of}
+use Rattle.program_words.specs.Gqlcheck.{most_of, operation_of, request_of}
 use Rattle.program_words.specs.Misuse.{IsAmong}
+use Rattle.program_words.specs.Options.{Given, is_set, limits_of}
 use Rattle.program_words.specs.Streams.{Streams, OnlyPrints, OnlySays, OnlyExplains, no_memory}
 use Rattle.program_words.specs.declared.complaints.FileFault.{FileFault}
 use Rattle.program_words.specs.declared.complaints.FileFault.TheVariants.{NotRead}
-use Rattle.program_words.specs.declared.gqlfmt.Request.{Request}
-use Rattle.program_words.specs.declared.gqlfmt.Request.TheVariants.{Print, Process}
+use Rattle.program_words.specs.declared.information.Request.{Request}
+use Rattle.program_words.specs.declared.information.Request.TheVariants.{Print, Process}
 use Rattle.program_words.specs.declared.information.Information.{Information}
 use Rattle.program_words.specs.declared.information.Information.TheVariants.{Help, Version}
 use Rattle.gqlcheck_run.specs.declared.command.TheConstants.{PROGRAM, USAGE, HELP, VERSION}
@@ -27,12 +28,12 @@ information_text Help = HELP.now
 information_text Version = VERSION.now
 
 -- what a run is about
-abbrev pub asked_by : Run → Asked
-asked_by run = record { limits = run.limits; most = run.most; operation = run.operation }
+abbrev pub asked_by : Given → Asked
+asked_by given = record { limits = limits_of given; most = most_of given; operation = operation_of given }
 
 -- what it prints of texts
-abbrev pub printing_of : Run → Printing
-printing_of run = record { figures = run.figures; json = run.json }
+abbrev pub printing_of : Given → Printing
+printing_of given = record { figures = is_set (codes "--figures") given; json = is_set (codes "--json") given }
 
 -- Standard input is read and checked, what comes of that is written, and why it was not checked is said.
 pub record ChecksInput (asked : Asked) (printing : Printing) (status : ℕ) (old new : Streams) : Type 0 where
@@ -70,9 +71,9 @@ module _ {S : Type 0} (lists : S → List ℕ → Listing → S → Type 0) (rea
   ChecksTexts asked printing (path ∷ paths) status old new = ChecksPaths asked printing (path ∷ paths) status (desk old) (desk new) × (new.input ≡ old.input)
 
   -- What a run does for the request in its words. Where there is none, a word is wrong.
-  abbrev pub Does : List (List ℕ) → Option (Request Run) → ℕ → State S → State S → Type 0
+  abbrev pub Does : List (List ℕ) → Option (Request Given) → ℕ → State S → State S → Type 0
   Does words (Some (Print page)) status old new = OnlyPrints PROGRAM.now (information_text page) status (streams old) (streams new) × (new.files ≡ old.files)
-  Does words (Some (Process run)) status old new = ChecksTexts (asked_by run) (printing_of run) run.files status old new
+  Does words (Some (Process given)) status old new = ChecksTexts (asked_by given) (printing_of given) given.files status old new
   Does words None status old new = OnlyExplains PROGRAM.now USAGE.now (IsAmong words) status (streams old) (streams new) × (new.files ≡ old.files)
 
   -- What a run does: that, or it says that memory was refused before the last of its words was read, and nothing else.

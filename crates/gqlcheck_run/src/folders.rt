@@ -1,6 +1,6 @@
 // Checking the files that paths of the command line name.
 ghost use Rattle.document_checks.specs.Checking.{as_asked};
-ghost use Rattle.program_words.specs.Gqlfmt.{texts};
+ghost use Rattle.program_words.specs.Words.{texts};
 ghost use Rattle.named_files.specs.Handling.{HandlesNamed};
 ghost use Rattle.gqlcheck_run.specs.Program.{ChecksFound, ChecksPaths};
 

@@ -1,18 +1,19 @@
 // A run of the program.
 ghost use Rattle.std.specs.Prelude.{◌≡◌};
 ghost use Rattle.document_checks.specs.Checking.{as_asked};
-ghost use Rattle.program_words.specs.Gqlfmt.{texts};
-ghost use Rattle.gqlcheck_run.specs.Program.{ChecksTexts, Runs, information_text};
+ghost use Rattle.program_words.specs.Words.{texts};
+ghost use Rattle.program_words.specs.Reading.{as_given};
+ghost use Rattle.gqlcheck_run.specs.Program.{ChecksTexts, Runs, asked_by, information_text, printing_of};
 
 use crate::command::{HELP, PROGRAM, USAGE, VERSION};
 use crate::job::{Job, Printing};
 use byte_devices::{Sink, Source};
 use document_checks::{Checks, DocumentChecker};
 use gqlfmt_files::Files;
-use program_words::gqlcheck::{Plan, options};
-use program_words::gqlfmt::Request;
-use program_words::information::Information;
+use program_words::gqlcheck::options;
+use program_words::information::{Information, Request};
 use program_words::misuse::WordsError;
+use program_words::options::Plan;
 use program_words::streams::{explain, print, say_no_memory};
 use std::alloc::Allocator;
 
@@ -34,23 +35,25 @@ fn information_text(page: Information) -> &'static str
 impl<'c, 'w, A: Allocator + Copy, C: DocumentChecker> Job<'c, 'w, A, C> {
     // What a run of this plan does with each text.
     fn of(alloc: A, checker: &'c C, plan: &Plan<'w, A>) -> Job<'c, 'w, A, C>
-        ensures limits { result.checks.limits ≡ plan.now.limits }
-        ensures most { result.checks.most ≡ plan.now.most }
-        ensures operation { result.checks.operation ≡ plan.now.operation }
-        ensures printing { result.printing ≡ record { figures = plan.now.figures; json = plan.now.json } }
+        ensures asked { as_asked result.checks ≡ asked_by (as_given plan.now) }
+        ensures printing { result.printing ≡ printing_of (as_given plan.now) }
     {
         Job {
             alloc,
             checker,
             checks: Checks {
-                limits: plan.limits,
-                most: plan.most,
-                operation: plan.operation,
-                findings: if plan.json { JSON_FINDINGS } else { FINDINGS },
+                limits: plan.limits(),
+                most: plan.most(),
+                operation: plan.operation(),
+                findings: if plan.is_set("--json") {
+                    JSON_FINDINGS
+                } else {
+                    FINDINGS
+                },
             },
             printing: Printing {
-                figures: plan.figures,
-                json: plan.json,
+                figures: plan.is_set("--figures"),
+                json: plan.is_set("--json"),
             },
         }
     }

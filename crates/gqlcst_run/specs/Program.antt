@@ -11,8 +11,8 @@ use Rattle.gqlcst_run.specs.Parsing.{finding_of, IsFound}
 use Rattle.gqlcst_run.specs.Rendering.{AreLines, IsAnswerForm, IsVerdict, error_count}
 use Rattle.program_words.specs.Gqlcst.{request_of}
 use Rattle.program_words.specs.Streams.{OnlyExplains, OnlyPrints, OnlySays, Streams, no_memory}
-use Rattle.program_words.specs.declared.gqlfmt.Request.{Request}
-use Rattle.program_words.specs.declared.gqlfmt.Request.TheVariants.{Print, Process}
+use Rattle.program_words.specs.declared.information.Request.{Request}
+use Rattle.program_words.specs.declared.information.Request.TheVariants.{Print, Process}
 use Rattle.program_words.specs.declared.information.Information.{Information}
 use Rattle.program_words.specs.declared.information.Information.TheVariants.{Help, Version}
 use Rattle.program_words.specs.declared.gqlcst.Mode.{Mode}

@@ -1,7 +1,7 @@
 // A run of the program: it reads, parses and writes.
 ghost use Rattle.std.specs.Prelude.{◌≡◌, List, ℕ, IfOk, OnErr};
 ghost use Rattle.byte_devices.specs.Runs.{Reads, Writes};
-ghost use Rattle.program_words.specs.Gqlfmt.{texts};
+ghost use Rattle.program_words.specs.Words.{texts};
 ghost use Rattle.gqlcst_run.specs.Buffering.{PutsSome};
 ghost use Rattle.gqlcst_run.specs.Program.{IsOutput, Runs, information_text};
 
@@ -14,8 +14,7 @@ use crate::rendering::{put_errors, put_tokens, put_tree};
 use apollo_parser::Limits;
 use byte_devices::{Fault, Sink, Source, read_to_end};
 use program_words::gqlcst::{Mode, options};
-use program_words::gqlfmt::Request;
-use program_words::information::Information;
+use program_words::information::{Information, Request};
 use program_words::misuse::WordsError;
 use program_words::streams::{explain, print, say_no_memory};
 use std::alloc::{AllocError, Allocator};
@@ -96,7 +95,7 @@ pub fn run<A: Allocator + Copy, R: Source, W: Sink, E: Sink>(
         (record { input = R.account reader.old; output = W.account writer.old; complaints = E.account complaints.old })
         (record { input = R.account reader.new; output = W.account writer.new; complaints = E.account complaints.new }) }
 {
-    match options(words) {
+    match options(alloc, words) {
         Ok(Request::Print(page)) => print(PROGRAM, writer, complaints, information_text(page)),
         Ok(Request::Process((mode, limits))) => {
             let ended = process(alloc, reader, writer, mode, limits);

@@ -4,7 +4,7 @@ use Rattle.std.specs.declared.io.Error.{Error}
 use Rattle.gqlfmt_files.specs.Listing.{Listing}
 use Rattle.gqlfmt_files.specs.declared.settling.Mode.{Mode}
 use Rattle.named_files.specs.Handling.{State, desk}
-use Rattle.program_words.specs.Gqlfmt.{texts}
+use Rattle.program_words.specs.Words.{texts}
 use Rattle.gqlfmt_run.specs.declared.job.Bounds.{Bounds}
 use Rattle.gqlfmt_run.specs.Folders.{HandlesPaths}
 use Rattle.gqlfmt_run.specs.Program.{Formats}

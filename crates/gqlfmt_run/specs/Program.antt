@@ -4,8 +4,9 @@ use Rattle.std.specs.declared.io.Error.{Error}
 use Rattle.byte_devices.specs.Runs.{Reads, Writes}
 use Rattle.byte_devices.specs.declared.fault.Fault.{Fault}
 use Rattle.program_words.specs.Complaints.{TellsOfFile}
-use Rattle.program_words.specs.Gqlfmt.{Run, request_of}
+use Rattle.program_words.specs.Gqlfmt.{line_endings_of, mode_of, most_output_of, name_of, request_of}
 use Rattle.program_words.specs.Misuse.{IsAmong}
+use Rattle.program_words.specs.Options.{Given, limits_of}
 use Rattle.program_words.specs.Streams.{Streams, OnlyPrints, OnlySays, OnlyExplains, no_memory}
 use Rattle.program_words.specs.declared.complaints.FileFault.TheVariants.{NotRead}
 use Rattle.gqlfmt_files.specs.declared.settling.Mode.{Mode}
@@ -13,8 +14,8 @@ use Rattle.gqlfmt_files.specs.declared.settling.Settled.{Settled}
 use Rattle.program_words.specs.declared.gqlfmt.TheConstants.{INPUT}
 use Rattle.program_words.specs.declared.information.Information.{Information}
 use Rattle.program_words.specs.declared.information.Information.TheVariants.{Help, Version}
-use Rattle.program_words.specs.declared.gqlfmt.Request.{Request}
-use Rattle.program_words.specs.declared.gqlfmt.Request.TheVariants.{Print, Process}
+use Rattle.program_words.specs.declared.information.Request.{Request}
+use Rattle.program_words.specs.declared.information.Request.TheVariants.{Print, Process}
 use Rattle.gqlfmt_run.specs.declared.job.Bounds.{Bounds}
 use Rattle.gqlfmt_run.specs.declared.command.TheConstants.{PROGRAM, USAGE, HELP, VERSION}
 use Rattle.gqlfmt_run.specs.Status.{status_of}
@@ -29,8 +30,8 @@ information_text Help = HELP.now
 information_text Version = VERSION.now
 
 -- what a run keeps to
-abbrev pub bounds_of : Run → Bounds
-bounds_of run = record { limits = run.limits; most_output = run.most_output; line_endings = run.line_endings }
+abbrev pub bounds_of : Given → Bounds
+bounds_of given = record { limits = limits_of given; most_output = most_output_of given; line_endings = line_endings_of given }
 
 -- Standard input is read, what comes of it is written, and why it is refused or was not formatted is said, under this name.
 pub record FormatsInput (mode : Mode) (bounds : Bounds) (name : List ℕ) (status : ℕ) (old new : Streams) : Type 0 where
@@ -80,9 +81,9 @@ module _ {S : Type 0} (lists : S → List ℕ → Listing → S → Type 0) (omi
       (new.input ≡ old.input) × HandlesPaths lists omits reads replaces mode bounds (path ∷ paths) status (desk old) (desk new)
 
   -- What a run does for the request in its words. Where there is none, a word is wrong.
-  abbrev pub Does : List (List ℕ) → Option (Request Run) → ℕ → State S → State S → Type 0
+  abbrev pub Does : List (List ℕ) → Option (Request Given) → ℕ → State S → State S → Type 0
   Does words (Some (Print page)) status old new = OnlyPrints PROGRAM.now (information_text page) status (streams old) (streams new) × (new.files ≡ old.files)
-  Does words (Some (Process run)) status old new = Formats run.mode (bounds_of run) run.name run.files status old new
+  Does words (Some (Process given)) status old new = Formats (mode_of given) (bounds_of given) (name_of given) given.files status old new
   Does words None status old new = OnlyExplains PROGRAM.now USAGE.now (IsAmong words) status (streams old) (streams new) × (new.files ≡ old.files)
 
   -- What a run does: that, or it says that memory was refused before the last of its words was read, and nothing else.

@@ -1,5 +1,5 @@
 // Formatting the files that paths of the command line name.
-ghost use Rattle.program_words.specs.Gqlfmt.{texts};
+ghost use Rattle.program_words.specs.Words.{texts};
 ghost use Rattle.gqlfmt_run.specs.Folders.{FormatsNamed, HandlesPath, HandlesPaths};
 
 use crate::command::PROGRAM;

@@ -1,6 +1,6 @@
 // A run of the program.
 ghost use Rattle.std.specs.Prelude.{◌≡◌};
-ghost use Rattle.program_words.specs.Gqlfmt.{texts};
+ghost use Rattle.program_words.specs.Words.{texts};
 ghost use Rattle.gqlfmt_run.specs.Program.{information_text, FormatsInput, Formats, HandlesInput, KeepsInput, Runs};
 
 use crate::command::{HELP, PROGRAM, USAGE, VERSION};
@@ -10,8 +10,8 @@ use byte_devices::{Sink, Source};
 use formatter::DocumentFormatter;
 use gqlfmt_files::Files;
 use program_words::complaints::{FileFault, tell_of_file};
-use program_words::gqlfmt::{INPUT, Request, options};
-use program_words::information::Information;
+use program_words::gqlfmt::{INPUT, options};
+use program_words::information::{Information, Request};
 use program_words::misuse::WordsError;
 use program_words::streams::{explain, print, say_no_memory};
 use std::alloc::Allocator;
@@ -127,11 +127,11 @@ pub fn run<A: Allocator + Copy, L: DocumentFormatter, R: Source, W: Sink, E: Sin
             let job = Job {
                 alloc,
                 formatter,
-                mode: plan.mode,
+                mode: plan.mode(),
                 bounds: Bounds {
-                    limits: plan.limits,
-                    most_output: plan.most_output,
-                    line_endings: plan.line_endings,
+                    limits: plan.limits(),
+                    most_output: plan.most_output(),
+                    line_endings: plan.line_endings(),
                 },
             };
             job.format(
@@ -139,7 +139,7 @@ pub fn run<A: Allocator + Copy, L: DocumentFormatter, R: Source, W: Sink, E: Sin
                 writer,
                 complaints,
                 files,
-                plan.name,
+                plan.name(),
                 plan.files.as_slice(),
             )
         }

@@ -8,8 +8,8 @@ use Rattle.byte_devices.specs.declared.fault.Fault.TheVariants.{Read, Utf8, Memo
 use Rattle.gqlfmt_files.specs.Listing.{Listing}
 use Rattle.program_words.specs.Gqlls.{request_of}
 use Rattle.program_words.specs.Streams.{IsSaid, OnlyExplains, OnlyPrints, OnlySays, Streams, no_memory}
-use Rattle.program_words.specs.declared.gqlfmt.Request.{Request}
-use Rattle.program_words.specs.declared.gqlfmt.Request.TheVariants.{Print, Process}
+use Rattle.program_words.specs.declared.information.Request.{Request}
+use Rattle.program_words.specs.declared.information.Request.TheVariants.{Print, Process}
 use Rattle.program_words.specs.declared.information.Information.{Information}
 use Rattle.program_words.specs.declared.information.Information.TheVariants.{Help, Version}
 use Rattle.gqlls_files.specs.FolderDialogues.{Fails, Serves}

@@ -1,6 +1,6 @@
 // A whole run.
 ghost use Rattle.std.specs.Prelude.{◌≡◌, IfErr, IfOk};
-ghost use Rattle.program_words.specs.Gqlfmt.{texts};
+ghost use Rattle.program_words.specs.Words.{texts};
 ghost use Rattle.gqlls_files.specs.FolderDialogues.{Fails, Serves};
 ghost use Rattle.gqlls_files.specs.Program.{FailsClient, Runs, ServesClient, complaint_of, information_text};
 
@@ -9,9 +9,8 @@ use crate::folder::FolderServer;
 use byte_devices::{Fault, Sink, Source};
 use gqlfmt_files::Files;
 use gqlls_run::{Limits, Server};
-use program_words::gqlfmt::Request;
 use program_words::gqlls::options;
-use program_words::information::Information;
+use program_words::information::{Information, Request};
 use program_words::misuse::WordsError;
 use program_words::streams::{explain, print, say, say_no_memory};
 use rpc_serving::serve;
@@ -66,7 +65,7 @@ pub fn run<R: Source, W: Sink, E: Sink, F: Files + Drop>(
         (record { input = R.account reader.old; output = W.account writer.old; complaints = E.account complaints.old })
         (record { input = R.account reader.new; output = W.account writer.new; complaints = E.account complaints.new }) }
 {
-    match options(words) {
+    match options(alloc, words) {
         Ok(Request::Print(page)) => print(PROGRAM, writer, complaints, information_text(page)),
         Ok(Request::Process(limits)) => match serve_client(alloc, reader, writer, files, limits) {
             Ok(status) => status,

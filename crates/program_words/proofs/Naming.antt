@@ -3,7 +3,7 @@ use Rattle.std.proofs.Common.{◌≡◌, ℕ, suc, ◌-◌, ◌≤◌, List, [],
 use Rattle.std.proofs.lemmas.List.{take_all}
 use Rattle.std.specs.Prelude.{◌⊎◌}
 use Rattle.std.specs.List.{Contains}
-use Rattle.program_words.specs.Gqlfmt.{texts}
+use Rattle.program_words.specs.Words.{texts}
 use Rattle.program_words.specs.Misuse.{IsAbout}
 use Rattle.program_words.specs.declared.misuse.WordsError.{WordsError}
 use Rattle.program_words.specs.declared.misuse.WordsError.TheVariants.{Usage, Memory}

@@ -1,10 +1,9 @@
--- The words of a program taken one after another. `run` is the program's definition: its run of words after others that gave something.
-use Rattle.std.proofs.Common.{◌≡◌, ℕ, ◌+◌, ◌-◌, ◌<◌, ◌≤◌, List, [], ◌∷◌, length, take, drop, get_or, Bor, sym, ap, ◌∙◌, subst, arith}
+-- The words of a program taken one after another. `run` is the definition: what words give after others that gave something.
+use Rattle.std.proofs.Common.{◌≡◌, ℕ, ◌+◌, ◌-◌, ◌<◌, ◌≤◌, List, ◌∷◌, length, take, drop, get_or, Bor, sym, ap, ◌∙◌, arith}
 use Rattle.std.proofs.Common.{add-one, drop-cons, length-drop}
-use Rattle.std.proofs.lemmas.List.{take_rest, drop-drop, drop_all}
-use Rattle.std.specs.Prelude.{Option, Result}
-use Rattle.program_words.specs.Gqlfmt.{IsRead, texts}
-use Rattle.program_words.specs.declared.misuse.WordsError.{WordsError}
+use Rattle.std.proofs.lemmas.List.{take_rest, drop-drop}
+use Rattle.std.specs.Prelude.{Option}
+use Rattle.program_words.specs.Words.{texts}
 
 -- a word is taken, and some of those after it
 pub goes-on : {G R : Type 0} (run : G → List (List ℕ) → Option R) (words : List (Bor (List ℕ))) (i count : ℕ) (d : Bor (List ℕ))
@@ -27,11 +26,3 @@ pub stays-within : (words : List (Bor (List ℕ))) (i count : ℕ) → i < lengt
     → i + (1 + count) ≤ length words
 stays-within words i count some few =
     let rest = ap (λ (l : List (Bor (List ℕ))). length l) (take_rest words (i + 1)) in omega (arith, rest, length-drop (i + 1) words)
-
--- all words are taken
-pub ends : {G R P : Type 0} (run : G → List (List ℕ) → Option R) (seen : P → R) (words : List (Bor (List ℕ))) (i : ℕ) (given : G)
-    (all : Option R) (result : Result P WordsError) → length words ≤ i → run given (texts (drop i words)) ≡ all
-    → IsRead seen (run given []) result → IsRead seen all result
-ends run seen words i given all result end left read =
-    subst (λ wanted. IsRead seen wanted result) left
-    (subst (λ (l : List (Bor (List ℕ))). IsRead seen (run given (texts l)) result) (sym (drop_all i words end)) read)

@@ -1,12 +1,13 @@
 -- The words of `gqlcst`: a mode, and then options in any order, each at most once; or a page of the program.
-use Rattle.std.specs.Prelude.{ℕ, List, [], ◌∷◌, codes, bytes_eq, if◌then◌else◌, Option, Some, None, option_and_then, option_map}
+use Rattle.std.specs.Prelude.{ℕ, false, List, [], ◌∷◌, codes, bytes_eq, map, if◌then◌else◌, Option, Some, None, option_and_then, option_map}
 use Rattle.apollo_lexer.specs.declared.limits.Limits.{Limits}
-use Rattle.program_words.specs.Gqlfmt.{information_or_run}
 use Rattle.program_words.specs.Information.{information_of}
-use Rattle.program_words.specs.LimitOptions.{limits_of}
+use Rattle.program_words.specs.Options.{given_from, limits_of, nothing_given}
+use Rattle.program_words.specs.Words.{information_or_run}
 use Rattle.program_words.specs.declared.gqlcst.Mode.{Mode}
 use Rattle.program_words.specs.declared.gqlcst.Mode.TheVariants.{Check, Tokens, Tree}
-use Rattle.program_words.specs.declared.gqlfmt.Request.{Request}
+use Rattle.program_words.specs.declared.gqlcst.TheConstants.{OPTIONS}
+use Rattle.program_words.specs.declared.information.Request.{Request}
 
 -- the modes that the program has
 abbrev pub mode_of : List ℕ → Option Mode
@@ -18,7 +19,9 @@ mode_of word =
 
 abbrev pub command_of : List (List ℕ) → Option (Mode × Limits)
 command_of [] = None
-command_of (first ∷ more) = option_and_then (λ mode. option_map (λ limits. (mode, limits)) (limits_of None more)) (mode_of first)
+command_of (first ∷ more) =
+    option_and_then (λ mode. option_map (λ given. (mode, limits_of given))
+    (given_from (map (λ row. (row.0.now, row.1.now, row.2)) OPTIONS) false nothing_given more)) (mode_of first)
 
 abbrev pub request_of : List (List ℕ) → Option (Request (Mode × Limits))
 request_of words = information_or_run (information_of words) (command_of words)

@@ -1,14 +1,13 @@
 -- The words of `gqlls`: options in any order, each limit at most once, or a page of the program. Editors add `--stdio`, which changes nothing.
-use Rattle.std.specs.Prelude.{ℕ, List, codes, Option, Some}
+use Rattle.std.specs.Prelude.{ℕ, false, List, map, Option, option_map}
 use Rattle.apollo_lexer.specs.declared.limits.Limits.{Limits}
-use Rattle.program_words.specs.Gqlfmt.{information_or_run}
 use Rattle.program_words.specs.Information.{information_of}
-use Rattle.program_words.specs.LimitOptions as options
-use Rattle.program_words.specs.declared.gqlfmt.Request.{Request}
+use Rattle.program_words.specs.Options.{given_from, limits_of, nothing_given}
+use Rattle.program_words.specs.Words.{information_or_run}
+use Rattle.program_words.specs.declared.gqlls.TheConstants.{OPTIONS}
+use Rattle.program_words.specs.declared.information.Request.{Request}
 
--- The limits that the words set: nothing where the program is not called so.
-abbrev pub limits_of : List (List ℕ) → Option Limits
-limits_of words = options.limits_of (Some (codes "--stdio")) words
-
+-- The request of the words: the limits that they set, or nothing where the program is not called so.
 abbrev pub request_of : List (List ℕ) → Option (Request Limits)
-request_of words = information_or_run (information_of words) (limits_of words)
+request_of words = information_or_run (information_of words)
+    (option_map limits_of (given_from (map (λ row. (row.0.now, row.1.now, row.2)) OPTIONS) false nothing_given words))

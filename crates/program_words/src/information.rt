@@ -11,6 +11,13 @@ pub enum Information {
     Version,
 }
 
+/// The request in the words: a page, or the work of this plan.
+#[derive(Drop)]
+pub enum Request<P> {
+    Print(Information),
+    Process(P),
+}
+
 fn is_help(word: &str) -> bool
     ensures { result ≡ is_help word.now }
 {

@@ -1,7 +1,7 @@
 //! What the words of a command line have the programs do.
 //!
-//! `gqlcst_run`, `gqlfmt_run` and `gqlcheck_run` call `options` of the module that has their program's name, on the words after it, and so does `gqlls`.
-//! All take the options `--recursion N` and `--tokens N`, which are read by the same code, and know `--help` and `--version`, by `information_of`.
+//! Each program calls `options` of the module that has its name, on the words after that name. The module has the table of the program's options, and what is
+//! made of their values. `options` reads the words by any such table, and `information` knows `--help` and `--version`.
 //! `streams` has what `gqlfmt` and `gqlcheck` write of themselves and of a wrong word, and `complaints` what they say of a text that they could not read.
 //! Nothing here knows the parser, so a check of the words takes seconds.
 #![tactic(auto)]
@@ -12,8 +12,8 @@ pub mod gqlcst;
 pub mod gqlfmt;
 pub mod gqlls;
 pub mod information;
-mod limits;
 pub mod misuse;
 mod numbers;
+pub mod options;
 mod own_value;
 pub mod streams;

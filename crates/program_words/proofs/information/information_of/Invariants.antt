@@ -1,5 +1,5 @@
 use Rattle.std.proofs.Common.{◌≡◌, drop}
-use Rattle.program_words.specs.Gqlfmt.{texts}
+use Rattle.program_words.specs.Words.{texts}
 use Rattle.program_words.specs.Information.{information_of}
 use Rattle.program_words.proofs.information.information_of.Given as goal
 
