@@ -1,7 +1,11 @@
 pub mod Announced
 pub mod Changes
+pub mod Distinct
+pub mod Edits
+pub mod Found
 pub mod Layouts
 pub mod Maps
+pub mod Meanings
 pub mod Messages
 pub mod Numbers
 pub mod Others

@@ -3,8 +3,8 @@ use Rattle.std.proofs.Common.{◌≡◌, ℕ, List, Option, Some, None, true, fa
 use Rattle.std.specs.Prelude.{MatchOption, is_none, option_map}
 use Rattle.json.specs.Json.{Json}
 use Rattle.rpc_messages.specs.declared.reply.Reply.{Reply}
-use Rattle.gqlls_run.specs.Conversation.{Changes, Closes, IsIgnored, Opens, Publishes, PublishesChanges, Withdraws, opened}
-use Rattle.gqlls_run.specs.Dialogue.{Dialogue}
+use Rattle.gqlls_run.specs.Conversation.{Changes, Closes, IsIgnored, Opens, Publishes, PublishesChanges, Withdraws}
+use Rattle.gqlls_run.specs.Dialogue.{Dialogue, opened}
 use Rattle.gqlls_run.specs.Files.{OpenFile}
 use Rattle.gqlls_run.specs.Parameters.{Edit, edits_in, host_in, text_in, uri_in}
 

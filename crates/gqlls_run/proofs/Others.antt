@@ -25,6 +25,7 @@ publishes_again uri file params reply old middle new takes published = record {
     documents = again uri _ _ _ _ _ takes.documents published.sets.documents;
     fragments = again uri _ _ _ _ _ takes.fragments published.sets.fragments;
     files = published.sets.files ∙ takes.files;
+    file_fragments = published.sets.file_fragments ∙ takes.file_fragments;
     stage = published.sets.stage ∙ takes.stage;
     encoding = published.sets.encoding ∙ takes.encoding;
     may_register = published.sets.may_register ∙ takes.may_register;

@@ -49,7 +49,7 @@ passes test name (one ∷ names) h passed = elim (one_of (bytes_eq name one) (li
 
 -- ---- open documents
 
-some_of : {X Y : Type 0} (f : X → Y) (o : Option X) → is_some (option_map f o) ≡ is_some o
+pub some_of : {X Y : Type 0} (f : X → Y) (o : Option X) → is_some (option_map f o) ≡ is_some o
 some_of f None = refl
 some_of f (Some x) = refl
 
@@ -114,7 +114,7 @@ module _ {A : Type 0} (uri : List ℕ) (value : Fragments) (documents : BTreeMap
         (one.0, stays_open one.0 (open_by documents one.0 ∙ one.1), named (normalized one.0) name one.2)
   ]
 
-  is_own_by : (name : List ℕ) → IsOwn new name → is_own uri documents name ≡ true
+  pub is_own_by : (name : List ℕ) → IsOwn new name → is_own uri documents name ≡ true
   is_own_by name (other, opened, is) = elim (cases_Bool (bytes_eq other uri)) [
     | inl same ↦
         first _ _ (subst (λ (u : List ℕ). is_of name u ≡ true) ((bytes_eq-Decides other uri).0 same) (names (normalized other) name is))
@@ -124,7 +124,7 @@ module _ {A : Type 0} (uri : List ℕ) (value : Fragments) (documents : BTreeMap
         (names (normalized other) name is))
   ]
 
-  not_own : (name : List ℕ) → (own : Bool) → own ≡ is_own uri documents name → ¬ IsOwn new name → own ≡ false
+  pub not_own : (name : List ℕ) → (own : Bool) → own ≡ is_own uri documents name → ¬ IsOwn new name → own ≡ false
   not_own name true is others = absurd (others (own_is name (sym is)))
   not_own name false is others = refl
 

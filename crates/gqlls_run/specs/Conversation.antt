@@ -7,7 +7,6 @@ use Rattle.editor_diagnostics.specs.Publication.{IsNoticeAbout}
 use Rattle.editor_validation.specs.Fragments.{Fragments}
 use Rattle.line_index.specs.declared.PositionEncoding.{PositionEncoding}
 use Rattle.line_index.specs.declared.PositionEncoding.TheVariants.{Utf8, Utf16}
-use Rattle.embedded_documents.specs.declared.scanning.HostLanguage.{HostLanguage}
 use Rattle.rpc_messages.specs.Messages.{IsResult}
 use Rattle.rpc_messages.specs.declared.reply.Reply.{Reply}
 use Rattle.rpc_messages.specs.declared.reply.Reply.TheVariants.{Nothing, Answer, Notice, Request, Exit}
@@ -17,7 +16,8 @@ use Rattle.gqlls_run.specs.Layout.{IsFormattingIn, IsRangeFormattingIn, IsRefusa
 use Rattle.gqlls_run.specs.Parameters.{Edit, IsVersionIn, Offers, asks_before_renaming_in, edits_in, host_in, may_register_in, takes_related_in, text_in}
 use Rattle.gqlls_run.specs.Parameters.{uri_in}
 use Rattle.gqlls_run.specs.Registration.{IsRegistration}
-use Rattle.gqlls_run.specs.Dialogue.{AreOthers, Dialogue, IsChanged, Sets}
+use Rattle.gqlls_run.specs.Renaming.{IsRenaming}
+use Rattle.gqlls_run.specs.Dialogue.{AreOthers, Dialogue, IsChanged, Sets, opened}
 use Rattle.gqlls_run.specs.Told.{IsTold, Notifies}
 use Rattle.gqlls_run.specs.declared.server.Stage.{Stage}
 use Rattle.gqlls_run.specs.declared.server.Stage.TheVariants.{New, Running, ShutDown}
@@ -71,8 +71,16 @@ FormatsRange id params dialogue body =
     MatchOption (uri_in params) (LacksDocument id body)
     (λ uri. MatchOption (dialogue.documents uri) (IsResult id json.null body) (λ file. IsRangeFormattingIn dialogue.limits id file body))
 
+-- `textDocument/rename`: the body has edits that give what is at a position another name, in that document and all others
+abbrev pub Renames : Json → Json → Dialogue → List ℕ → Type 0
+Renames id params dialogue body =
+    MatchOption (uri_in params) (LacksDocument id body)
+    (λ uri. MatchOption (dialogue.documents uri) (IsResult id json.null body)
+    (λ file. IsRenaming dialogue.documents dialogue.files id params uri file body))
+
 -- The outcome of a request, by the stage and the method: the conversation begins, or the request is refused as `ServerNotInitialized`; it is shut
--- down; or nothing changes, and a layout is the document's, or a part's. After that each request is refused as `InvalidRequest`.
+-- down; or nothing changes, a layout is the document's, or a part's, and a name is changed in all documents. After that each request is refused as
+-- `InvalidRequest`.
 pub record IsAsked (id : Json) (method : List ℕ) (params : Json) (reply : Reply) (old new : Dialogue) : Type 0 where
   pub initialize : old.stage ≡ New → method ≡ codes "initialize" → Initializes id params reply old new
   pub too_early : old.stage ≡ New → method ≢ codes "initialize" → IsRefused id (neg_ℤ (pos 32002)) reply old new
@@ -80,6 +88,7 @@ pub record IsAsked (id : Json) (method : List ℕ) (params : Json) (reply : Repl
   pub others : old.stage ≡ Running → method ≢ codes "shutdown" → new ≡ old
   pub formatting : old.stage ≡ Running → method ≡ codes "textDocument/formatting" → Answers (Formats id params old) reply
   pub range_formatting : old.stage ≡ Running → method ≡ codes "textDocument/rangeFormatting" → Answers (FormatsRange id params old) reply
+  pub renaming : old.stage ≡ Running → method ≡ codes "textDocument/rename" → Answers (Renames id params old) reply
   pub too_late : old.stage ≡ ShutDown → IsRefused id (neg_ℤ (pos 32600)) reply old new
 
 -- ---- notifications
@@ -108,14 +117,10 @@ pub record Publishes (uri : List ℕ) (file : OpenFile) (params : Json) (reply :
   pub fragments : Fragments
   pub sets : Sets uri (Some file) (Some fragments) old new
   pub others : List Fragments
-  pub elsewhere : AreOthers uri new.fragments new.files others
+  pub elsewhere : AreOthers uri new.fragments new.file_fragments others
   pub version : Option ℤ
   pub versioned : IsVersionIn params version
   pub told : Notifies (IsTold old.takes_related uri version file fragments others) reply
-
--- a text in a language that is opened, in the encoding and within the limits of the conversation
-abbrev pub opened : Dialogue → List ℕ → Option HostLanguage → OpenFile
-opened dialogue text host = record { content = record { encoding = dialogue.encoding; text = text }; host = host; limits = dialogue.limits }
 
 -- `textDocument/didOpen`: the document has the text and the language of the message. Without a name or a text the message is ignored.
 abbrev pub Opens : Json → Reply → Dialogue → Dialogue → Type 0

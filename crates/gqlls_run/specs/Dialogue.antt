@@ -1,11 +1,12 @@
 -- What a client and the server have in common during a conversation.
-use Rattle.std.specs.Prelude.{◌≡◌, ◌≢◌, ◌↔◌, ◌⊎◌, ℕ, Bool, false, List, fold, Option, Some, None, is_some, true}
+use Rattle.std.specs.Prelude.{◌≡◌, ◌≢◌, ◌↔◌, ◌⊎◌, ℕ, Bool, false, List, fold, Option, Some, None, is_some, option_map, true}
 use Rattle.std.specs.List.{Contains}
 use Rattle.apollo_parser.specs.declared.Limits.{Limits}
 use Rattle.line_index.specs.Positions.{units}
 use Rattle.line_index.specs.declared.PositionEncoding.{PositionEncoding}
 use Rattle.line_index.specs.declared.PositionEncoding.TheVariants.{Utf16}
 use Rattle.editor_text.specs.Client.{replaced}
+use Rattle.embedded_documents.specs.declared.scanning.HostLanguage.{HostLanguage}
 use Rattle.editor_validation.specs.Fragments.{Fragments}
 use Rattle.file_uris.specs.Uris.{normalized}
 use Rattle.gqlls_run.specs.Files.{OpenFile}
@@ -14,8 +15,8 @@ use Rattle.gqlls_run.specs.declared.server.Stage.{Stage}
 use Rattle.gqlls_run.specs.declared.server.Stage.TheVariants.{New}
 
 -- How far the conversation is, how columns are counted, whether the server may register for the events of files, whether diagnostics may have related
--- information, and the limits of each parse; each file that the client has open, by its name, and the names of fragments in it; and those in files, as
--- far as the server has read them, by the URIs of their paths.
+-- information, and the limits of each parse; each file that the client has open, by its name, and the names of fragments in it; and the files that the server
+-- has read, by the URIs of their paths, and the names of fragments in them.
 pub record Dialogue : Type 0 where
   pub stage : Stage
   pub encoding : PositionEncoding
@@ -24,7 +25,8 @@ pub record Dialogue : Type 0 where
   pub limits : Limits
   pub documents : List ℕ → Option OpenFile
   pub fragments : List ℕ → Option Fragments
-  pub files : List ℕ → Option Fragments
+  pub files : List ℕ → Option OpenFile
+  pub file_fragments : List ℕ → Option Fragments
 
 -- no message was read
 abbrev pub begun : Limits → Dialogue
@@ -37,7 +39,12 @@ begun limits = record {
   documents = λ name. None;
   fragments = λ name. None;
   files = λ name. None;
+  file_fragments = λ name. None;
 }
+
+-- a text in a language, in the encoding and within the limits of the conversation
+abbrev pub opened : Dialogue → List ℕ → Option HostLanguage → OpenFile
+opened dialogue text host = record { content = record { encoding = dialogue.encoding; text = text }; host = host; limits = dialogue.limits }
 
 -- one document is opened, changed or closed, and the others stay
 pub record Updates {A : Type 0} (uri : List ℕ) (value : Option A) (old new : List ℕ → Option A) : Type 0 where
@@ -49,6 +56,7 @@ pub record Sets (uri : List ℕ) (file : Option OpenFile) (names : Option Fragme
   pub documents : Updates uri file old.documents new.documents
   pub fragments : Updates uri names old.fragments new.fragments
   pub files : new.files ≡ old.files
+  pub file_fragments : new.file_fragments ≡ old.file_fragments
   pub stage : new.stage ≡ old.stage
   pub encoding : new.encoding ≡ old.encoding
   pub may_register : new.may_register ≡ old.may_register
@@ -56,16 +64,17 @@ pub record Sets (uri : List ℕ) (file : Option OpenFile) (names : Option Fragme
   pub limits : new.limits ≡ old.limits
 
 abbrev pub without_files : Dialogue → Dialogue
-without_files dialogue = record dialogue { files = λ name. None }
+without_files dialogue = record dialogue { files = λ name. None; file_fragments = λ name. None }
 
--- the names of fragments in one file that is not open are these from now on, and nothing else changes
-pub record Learns (name : List ℕ) (names : Option Fragments) (old new : Dialogue) : Type 0 where
-  pub files : Updates name names old.files new.files
+-- one file that is not open is this from now on, with these names of fragments, and nothing else changes
+pub record Learns (name : List ℕ) (value : Option (OpenFile × Fragments)) (old new : Dialogue) : Type 0 where
+  pub files : Updates name (option_map (λ (v : OpenFile × Fragments). v.0) value) old.files new.files
+  pub fragments : Updates name (option_map (λ (v : OpenFile × Fragments). v.1) value) old.file_fragments new.file_fragments
   pub others : without_files new ≡ without_files old
 
 -- A file is the client's own where an open document's URI names it, however that is spelled: it counts as the client has it.
-abbrev pub IsOwn : (List ℕ → Option Fragments) → List ℕ → Type 0
-IsOwn fragments name = (uri : List ℕ) × (is_some (fragments uri) ≡ true) × (normalized uri ≡ Some name)
+abbrev pub IsOwn : {A : Type 0} → (List ℕ → Option A) → List ℕ → Type 0
+IsOwn documents name = (uri : List ℕ) × (is_some (documents uri) ≡ true) × (normalized uri ≡ Some name)
 
 -- these are the names of fragments in the open documents but one, and in the files that are no open document's own
 abbrev pub AreOthers : List ℕ → (List ℕ → Option Fragments) → (List ℕ → Option Fragments) → List Fragments → Type 0

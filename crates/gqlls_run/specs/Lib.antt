@@ -4,8 +4,10 @@ pub mod Layout
 pub mod Parameters
 pub mod Registration
 pub mod Dialogue
+pub mod Edits
 pub mod Files
 pub mod Kept
 pub mod Parsing
+pub mod Renaming
 pub mod State
 pub mod Told

@@ -1,14 +1,18 @@
 -- What the parameters of a message say, where they are those of the Language Server Protocol 3.17.
-use Rattle.std.specs.Prelude.{◌≡◌, ℕ, ℤ, ◌^◌, Bool, ◌&&◌, false, nat_lt, if◌then◌else◌, List, [], ◌∷◌, codes, filter_map}
+use Rattle.std.specs.Prelude.{◌≡◌, ℕ, ℤ, ◌^◌, Bool, ◌&&◌, false, nat_lt, if◌then◌else◌, List, [], ◌∷◌, codes, filter_map, length, take}
 use Rattle.std.specs.Prelude.{Option, Some, None, MatchOption, ok_or, option_and_then, option_map, unwrap_or}
 use Rattle.std.specs.Option.{option_zip}
 use Rattle.std.specs.Char.{is_digit}
+use Rattle.std.specs.Str.{IsCharBoundary}
 use Rattle.std.specs.Int.{w64}
 use Rattle.std.specs.List.{Contains, list_all}
 use Rattle.std.specs.Str.Parse.{ParsesSigned, digits_value, without_leading_plus}
 use Rattle.json.specs.Json.{Json, string, Items, no_items, item}
 use Rattle.json.specs.Find.{as_array, as_bool, as_number, as_str, get, is_null}
+use Rattle.lexical_grammar.specs.Characters.{is_name_continue, is_name_start}
+use Rattle.line_index.specs.Positions.{offset_of, units}
 use Rattle.line_index.specs.declared.Position.{Position}
+use Rattle.line_index.specs.declared.PositionEncoding.{PositionEncoding}
 use Rattle.editor_text.specs.declared.Change.{Change}
 use Rattle.editor_text.specs.declared.PositionRange.{PositionRange}
 use Rattle.embedded_documents.specs.declared.scanning.HostLanguage.{HostLanguage}
@@ -103,6 +107,23 @@ edits_in params = option_and_then (each edit_in) (items_at (codes "contentChange
 -- what a change tells
 abbrev pub told : Change → Edit
 told change = (change.range, change.text.now)
+
+-- the byte offset that a client means by a position in a text
+pub record IsOffset (encoding : PositionEncoding) (text : List ℕ) (position : Position) (offset : ℕ) : Type 0 where
+  pub boundary : IsCharBoundary text offset
+  pub meant : length (units encoding (take offset text)) ≡ offset_of encoding (units encoding text) position
+
+-- ---- names
+
+-- whether a text is a Name (GraphQL, October 2021, section 2.1.9)
+abbrev pub is_name : List ℕ → Bool
+is_name [] = false
+is_name (first ∷ rest) = is_name_start first && list_all is_name_continue rest
+
+-- the name of GraphQL that something gets
+abbrev pub new_name_in : Json → Option (List ℕ)
+new_name_in params =
+    option_and_then (λ name. if is_name name then Some name else None) (option_and_then as_str (get (codes "newName") params))
 
 -- ---- folders and files
 

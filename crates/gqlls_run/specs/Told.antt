@@ -1,12 +1,12 @@
 -- What is published of the documents that a client has open, and known of files that are not.
-use Rattle.std.specs.Prelude.{◌≡◌, ℕ, ℤ, Bool, List, [], Option, Some, length}
+use Rattle.std.specs.Prelude.{◌≡◌, ℕ, ℤ, Bool, List, [], Option, Some, None, length}
 use Rattle.apollo_parser.specs.Parsed.{Parsed}
 use Rattle.editor_diagnostics.specs.Publication.{IsPublication}
 use Rattle.editor_diagnostics.specs.Remarks.{Remarked}
 use Rattle.editor_validation.specs.Fragments.{Fragments}
 use Rattle.editor_validation.specs.Remarks.{AreRemarksOn}
 use Rattle.formatter.specs.Comments.{HasNoDefinitions}
-use Rattle.gqlls_run.specs.Dialogue.{Dialogue, Learns}
+use Rattle.gqlls_run.specs.Dialogue.{Dialogue, Learns, opened}
 use Rattle.gqlls_run.specs.Files.{IsSource, OpenFile}
 use Rattle.gqlls_run.specs.Parsing.{IsParse, fragments_of}
 use Rattle.rpc_messages.specs.declared.reply.Reply.{Reply}
@@ -18,12 +18,12 @@ abbrev pub AreRemarksOf : Bool → List Fragments → Parsed → List Remarked �
 AreRemarksOf takes_related others parsed remarks =
     AreRemarksOn takes_related others (record { whole = parsed.tree; index = 0 }) parsed.errors remarks
 
--- A file that is not open has this text, whose fragments are those of a parse within the limits. The parse has this number of errors.
+-- A file in GraphQL that is not open has this text, whose fragments are those of a parse within the limits. The parse has this number of errors.
 pub record Keeps (name text : List ℕ) (errors : ℕ) (old new : Dialogue) : Type 0 where
   pub parsed : Parsed
   pub counted : errors ≡ length parsed.errors
   pub promise : IsParse old.limits text parsed
-  pub learns : Learns name (Some (fragments_of parsed)) old new
+  pub learns : Learns name (Some (opened old text None, fragments_of parsed)) old new
 
 -- The body publishes the remarks on a parse of this file within its limits, at their positions as the client counts them. There are none where
 -- the text that is parsed has no definitions. The parse has these fragments.

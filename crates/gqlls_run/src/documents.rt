@@ -1,8 +1,7 @@
 // The open documents.
-ghost use Rattle.std.specs.Prelude.{◌≡◌, ◌||◌, [], ℕ, List, IfOk, IfSome, MatchBool, None, OnOk, Some, false, length, map, option_map, string_bytes, true, unwrap_or};
-ghost use Rattle.std.specs.BTreeMap.{IsOrdered, values};
+ghost use Rattle.std.specs.Prelude.{◌≡◌, ◌||◌, ◌++◌, ◌∷◌, [], ℕ, List, IfOk, IfSome, MatchBool, None, OnOk, Some, false, length, map, option_map, string_bytes, true, unwrap_or};
+ghost use Rattle.std.specs.BTreeMap.{IsOrdered, get_by_text, values};
 ghost use Rattle.std.specs.BTreeSet.{contains_text};
-ghost use Rattle.std.specs.Map.{values_of};
 ghost use Rattle.std.specs.String.{string_cmp};
 ghost use Rattle.apollo_tree.specs.References.{node_place};
 ghost use Rattle.editor_diagnostics.specs.Remarks.{as_remarked};
@@ -13,7 +12,8 @@ ghost use Rattle.gqlls_run.specs.Parameters.{told};
 ghost use Rattle.gqlls_run.specs.Dialogue.{IsChanged, Updates};
 ghost use Rattle.gqlls_run.specs.Files.{IsSource};
 ghost use Rattle.gqlls_run.specs.Parsing.{IsMended, IsParse, IsParsed};
-ghost use Rattle.gqlls_run.specs.State.{AreBeside, entries_beside, file_of, files, is_of, is_own, names_in, names_of};
+ghost use Rattle.gqlls_run.specs.Renaming.{AreKnown, AreParsed, KnownFile};
+ghost use Rattle.gqlls_run.specs.State.{AreBeside, entries_beside, entries_that, entry_of, file_of, files, is_of, is_other, is_own, is_stored, known_of, names_in, names_of};
 ghost use Rattle.gqlls_run.specs.Told.{AreRemarksOf, IsTold};
 
 use apollo_parser::{DocumentRoot, Limits, Parser, SyntaxNode, SyntaxTree};
@@ -299,26 +299,75 @@ pub(crate) struct Known<'a> {
     pub document: &'a Document,
 }
 
+impl Document {
+    // The document by its name.
+    fn known_as<'a>(&'a self, uri: &'a str) -> Known<'a>
+        ensures known { known_of result ≡ (uri.now, self.now) }
+        ensures parsed { IsParsed self.now }
+    {
+        // read, so that what holds of each document is known of this one
+        let _ = &self.tree;
+        Known {
+            uri,
+            document: self,
+        }
+    }
+}
+
+// Adds the open documents but one.
+fn push_opened<'a>(
+    found: &mut Vec<Known<'a>>,
+    opened: &'a BTreeMap<String, Document>,
+    uri: &str,
+) -> Result<(), AllocError>
+    ensures all { OnOk result (map known_of found.new.items ≡ map known_of found.old.items ++ map entry_of (entries_that (is_other uri.now) opened.now)) }
+    ensures parsed { OnOk result (AreParsed (map known_of found.old.items) → AreParsed (map known_of found.new.items)) }
+    ensures ordered { OnOk result (IsOrdered string_cmp opened.now) }
+{
+    for (name, document) in opened.iter() {
+        if name.as_str() != uri {
+            found.push(document.known_as(name.as_str()))?;
+        }
+    }
+    Ok(())
+}
+
+// Adds the files that are no open document's own, by the names of those that are.
+fn push_stored<'a>(
+    found: &mut Vec<Known<'a>>,
+    files: &'a BTreeMap<String, Document>,
+    own: &BTreeSet<String>,
+    opened: &BTreeMap<String, Document>,
+) -> Result<(), AllocError>
+    ensures all { OnOk result (map known_of found.new.items ≡ map known_of found.old.items ++ map entry_of (entries_that (is_stored own.now opened.now) files.now)) }
+    ensures parsed { OnOk result (AreParsed (map known_of found.old.items) → AreParsed (map known_of found.new.items)) }
+    ensures ordered { OnOk result (IsOrdered string_cmp files.now) }
+{
+    for (name, document) in files.iter() {
+        if !own.contains(name.as_str()) && !opened.contains_key(name.as_str()) {
+            found.push(document.known_as(name.as_str()))?;
+        }
+    }
+    Ok(())
+}
+
 impl<'a> Documents<'a> {
     /// Each of them, with its name.
     pub(crate) fn iter(self) -> Chain<Iter<'a, String, Document>, Iter<'a, String, Document>> {
         self.opened.iter().chain(self.files.iter())
     }
 
-    /// One of them, and then the others.
-    pub(crate) fn from(
-        self,
-        alloc: Global,
-        first: Known<'a>,
-    ) -> Result<Vec<Known<'a>>, AllocError> {
-        let mut known = Vec::new(alloc);
-        known.push(first)?;
-        for (uri, document) in self.iter() {
-            let uri = uri.as_str();
-            if uri != first.uri {
-                known.push(Known { uri, document })?;
-            }
-        }
+    /// An open document, and then the other open ones, and the files that are no open document's own.
+    pub(crate) fn from(self, alloc: Global, first: &Known<'a>) -> Result<Vec<Known<'a>>, AllocError>
+        ensures { get_by_text self.entry.opened.now first.now.uri.now ≡ Some first.now.document.now
+            → IfOk result (λ known. (others : List KnownFile) × (map known_of known.items ≡ known_of first.now ∷ others)
+            × AreKnown (files self.entry.opened.now) (files self.entry.files.now) (known_of first.now ∷ others)) }
+    {
+        let own = own_files(alloc, self.opened, first.uri)?;
+        let mut known: Vec<Known<'a>> = Vec::new(alloc);
+        known.push(first.document.known_as(first.uri))?;
+        push_opened(&mut known, self.opened, first.uri)?;
+        push_stored(&mut known, self.files, &own, self.opened)?;
         Ok(known)
     }
 }
@@ -385,7 +434,7 @@ fn file_fragments<'d>(
     files: &'d BTreeMap<String, Document>,
     own: &BTreeSet<String>,
 ) -> Result<Vec<&'d FragmentNames>, AllocError>
-    ensures all { IfOk result (λ found. map (λ f. as_fragments f.now) found.items ≡ map names_of (values_of (entries_beside own.now files.now))) }
+    ensures all { IfOk result (λ found. map (λ f. as_fragments f.now) found.items ≡ map (λ entry. names_of entry.1) (entries_beside own.now files.now)) }
     ensures ordered { IfOk result (λ found. IsOrdered string_cmp files.now) }
 {
     let mut found = Vec::new(alloc);

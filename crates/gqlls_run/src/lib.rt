@@ -14,6 +14,7 @@ mod layout;
 mod naming;
 mod parameters;
 mod questions;
+mod renaming;
 mod searching;
 mod server;
 mod signature;

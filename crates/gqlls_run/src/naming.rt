@@ -1,20 +1,31 @@
-// Where the documents have a name: references, marks, renaming.
+// Where the documents have a name: references and marks.
+ghost use Rattle.std.specs.Prelude.{◌≡◌, IfOk, bytes_eq, map, option_map};
+ghost use Rattle.apollo_tree.specs.Order.{range_at};
+ghost use Rattle.editor_answers.specs.Names.{holds};
+ghost use Rattle.editor_answers.specs.Parts.{bounds};
+ghost use Rattle.gqlls_run.specs.Renaming.{definer_of, defines};
+ghost use Rattle.gqlls_run.specs.State.{known_of, places_of, text_of};
+
 use crate::documents::{Document, Known};
-use apollo_parser::{SyntaxKind, SyntaxNode};
 use editor_answers::{
-    NameKind, Span, definition_elsewhere, identifier_at, meaning_of, push_changes, push_locations,
-    push_marks, references, references_elsewhere, span_of,
+    Span, definition, definition_elsewhere, push_locations, push_marks, references,
+    references_elsewhere, span_of,
 };
 use editor_diagnostics::Positions;
 use rpc_messages::Piece;
 use schema_members::Uses;
 use std::alloc::{AllocError, Global};
 
-/// A name in a document, which means what its text says: the document's name, the root of its tree, the name's byte offset, and which document defines it.
+/// Why what no document defines may not have another name.
+pub(crate) const UNDEFINED: &str = "no document defines this name";
+
+// Why a member may not have another name that other types may have to have.
+const SHARED: &str = "other types may have to have this name, by an interface";
+
+/// A name in a document, which means what its text says: the document, the name's byte offset, and the document whose definition counts.
 #[derive(Clone, Copy)]
 pub(crate) struct Occurrence<'a> {
-    pub uri: &'a str,
-    pub root: SyntaxNode<'a>,
+    pub asked: Known<'a>,
     pub offset: usize,
     pub definer: Option<&'a str>,
 }
@@ -28,8 +39,34 @@ pub(crate) enum Sought<'s, 'a> {
     Name(Occurrence<'a>),
 }
 
+// Whether a document defines the name at a byte offset of another.
+fn defines(asked: &Known<'_>, offset: usize, other: &Known<'_>) -> bool
+    ensures { result ≡ defines (known_of asked.now) offset (known_of other.now) }
+{
+    definition_elsewhere(asked.document.root(), offset, other.document.root()).is_some()
+}
+
+/// The document whose definition of the name at a byte offset counts: the document itself where it has one, or else the first that has one.
+pub(crate) fn definer_of<'a>(
+    asked: &Known<'a>,
+    offset: usize,
+    known: &[Known<'a>],
+) -> Option<&'a str>
+    ensures { option_map text_of result ≡ definer_of (known_of asked.now) offset (map known_of known.now) }
+{
+    if definition(asked.document.root(), offset).is_some() {
+        return Some(asked.uri);
+    }
+    for one in known {
+        if defines(asked, offset, one) {
+            return Some(one.uri);
+        }
+    }
+    None
+}
+
 // Where a document, the one with an index, names a member.
-fn uses_in(
+pub(crate) fn uses_in(
     alloc: Global,
     uses: &Uses<'_, '_>,
     index: usize,
@@ -43,86 +80,71 @@ fn uses_in(
         .collect(alloc)
 }
 
+/// Why a member may not have another name, by how many documents there are: none of them defines it, or another type may have to have it too. `None` where
+/// it may.
+pub(crate) fn objection_to(uses: &Uses<'_, '_>, documents: usize) -> Option<&'static str> {
+    if uses.member.document >= documents {
+        Some(UNDEFINED)
+    } else if uses.is_shared() {
+        Some(SHARED)
+    } else {
+        None
+    }
+}
+
 impl Occurrence<'_> {
-    // Whether it is a fragment's.
-    fn is_fragments(self) -> bool {
-        match identifier_at(self.root, self.offset) {
-            Some(leaf) => match meaning_of(leaf) {
-                Some(meaning) => meaning.kind == NameKind::Fragment,
-                None => false,
-            },
+    // Whether a document's definition counts.
+    fn is_defined_by(&self, other: &Known<'_>) -> bool
+        ensures { result ≡ holds (bytes_eq other.now.uri.now) (option_map text_of self.now.definer) }
+    {
+        match self.definer {
+            Some(uri) => other.uri == uri,
             None => false,
         }
     }
 
-    // Whether a document has names that mean the same: not where it defines the name itself, and another definition counts.
-    fn is_shared_with(self, uri: &str, root: SyntaxNode<'_>) -> bool {
-        self.definer == Some(uri) || definition_elsewhere(self.root, self.offset, root).is_none()
-    }
-
-    // Where a document has the name.
-    fn references_in(
-        self,
+    /// Where a document has the name.
+    pub(crate) fn references_in(
+        &self,
         alloc: Global,
-        uri: &str,
-        root: SyntaxNode<'_>,
+        other: &Known<'_>,
         with_definition: bool,
-    ) -> Result<Vec<Span>, AllocError> {
-        if uri == self.uri {
-            references(alloc, self.root, self.offset, with_definition)
-        } else if self.is_shared_with(uri, root) {
-            references_elsewhere(alloc, self.root, self.offset, root, with_definition)
-        } else {
-            Ok(Vec::new(alloc))
+    ) -> Result<Vec<Span>, AllocError>
+        ensures { IfOk result (λ found. map bounds found.items ≡ map range_at (places_of with_definition self.now (known_of other.now))) }
+    {
+        let root = self.asked.document.root();
+        if other.uri == self.asked.uri {
+            return references(alloc, root, self.offset, with_definition);
         }
+        if !self.is_defined_by(other) && defines(&self.asked, self.offset, other) {
+            return Ok(Vec::new(alloc));
+        }
+        let other = other.document.root();
+        references_elsewhere(alloc, root, self.offset, other, with_definition)
     }
 }
 
 impl Sought<'_, '_> {
-    // Where a document has it, by its index, its name and the root of its tree.
+    // Where a document has it, by its index.
     fn spans_in(
         &self,
         alloc: Global,
         index: usize,
-        uri: &str,
-        root: SyntaxNode<'_>,
+        known: &Known<'_>,
         with_definition: bool,
     ) -> Result<Vec<Span>, AllocError> {
         match self {
             Sought::Member(uses) => uses_in(alloc, uses, index, with_definition),
-            Sought::Name(name) => name.references_in(alloc, uri, root, with_definition),
+            Sought::Name(name) => name.references_in(alloc, known, with_definition),
         }
     }
 
-    /// Why it may not have another name, by how many documents there are: none of them defines it, or it is a member that another type may have to have
-    /// too. `None` where it may.
+    /// Why it may not have another name, by how many documents there are. `None` where it may.
     pub(crate) fn objection(&self, documents: usize) -> Option<&'static str> {
-        let (is_defined, is_shared) = match self {
-            Sought::Member(uses) => (uses.member.document < documents, uses.is_shared()),
-            Sought::Name(name) => (name.definer.is_some(), false),
-        };
-        if !is_defined {
-            Some("no document defines this name")
-        } else if is_shared {
-            Some("other types may have to have this name, by an interface")
-        } else {
-            None
-        }
-    }
-
-    /// Whether the grammar lets it have this name: a fragment may not be called `on` (section 2.8, FragmentName), and an enum value not `true`, `false`
-    /// or `null` (section 2.9.6, EnumValue).
-    pub(crate) fn may_be_called(&self, name: &str) -> bool {
         match self {
-            Sought::Member(uses) => {
-                !uses
-                    .member
-                    .node
-                    .kind()
-                    .is(SyntaxKind::ENUM_VALUE_DEFINITION)
-                    || !(name == "true" || name == "false" || name == "null")
-            }
-            Sought::Name(occurrence) => name != "on" || !occurrence.is_fragments(),
+            Sought::Member(uses) => objection_to(uses, documents),
+            Sought::Name(name) if name.definer.is_some() => None,
+            Sought::Name(_) => Some(UNDEFINED),
         }
     }
 
@@ -136,50 +158,25 @@ impl Sought<'_, '_> {
     ) -> Result<(), AllocError> {
         pieces.extend_from_slice(&[Piece::Array])?;
         for (index, known) in documents.iter().enumerate() {
-            let root = known.document.root();
-            let found = self.spans_in(alloc, index, known.uri, root, with_definition)?;
+            let found = self.spans_in(alloc, index, known, with_definition)?;
             push_found(alloc, pieces, known.uri, known.document, found.as_slice())?;
         }
         pieces.extend_from_slice(&[Piece::EndArray])
     }
 
-    /// Adds the result of documentHighlight: the parts of a document that have it, by its index, its name, the root of its tree and its positions.
+    /// Adds the result of documentHighlight: the parts of a document that have it, by its index and its positions.
     pub(crate) fn push_highlights(
         &self,
         alloc: Global,
         pieces: &mut Vec<Piece<'_>>,
         index: usize,
-        uri: &str,
-        root: SyntaxNode<'_>,
+        known: &Known<'_>,
         positions: &Positions<'_>,
     ) -> Result<(), AllocError> {
-        let found = self.spans_in(alloc, index, uri, root, true)?;
+        let found = self.spans_in(alloc, index, known, true)?;
         pieces.extend_from_slice(&[Piece::Array])?;
         push_marks(pieces, positions, found.as_slice())?;
         pieces.extend_from_slice(&[Piece::EndArray])
-    }
-
-    /// Adds the result of rename: the changes that give it another name wherever the documents have it.
-    pub(crate) fn push_changes<'p>(
-        &self,
-        alloc: Global,
-        pieces: &mut Vec<Piece<'p>>,
-        documents: &[Known<'p>],
-        name: &'p str,
-    ) -> Result<(), AllocError> {
-        pieces.extend_from_slice(&[Piece::Object, Piece::Key("changes"), Piece::Object])?;
-        for (index, known) in documents.iter().enumerate() {
-            let found = self.spans_in(alloc, index, known.uri, known.document.root(), true)?;
-            push_changed(
-                alloc,
-                pieces,
-                known.uri,
-                known.document,
-                found.as_slice(),
-                name,
-            )?;
-        }
-        pieces.extend_from_slice(&[Piece::EndObject, Piece::EndObject])
     }
 }
 
@@ -196,22 +193,4 @@ fn push_found<'p>(
     }
     let positions = document.positions(alloc)?;
     push_locations(pieces, &positions, uri, found)
-}
-
-// Adds the changes of parts of a document, if there are some.
-fn push_changed<'p>(
-    alloc: Global,
-    pieces: &mut Vec<Piece<'p>>,
-    uri: &'p str,
-    document: &Document,
-    found: &[Span],
-    name: &'p str,
-) -> Result<(), AllocError> {
-    if found.is_empty() {
-        return Ok(());
-    }
-    let positions = document.positions(alloc)?;
-    pieces.extend_from_slice(&[Piece::Key(uri), Piece::Array])?;
-    push_changes(pieces, &positions, found, name)?;
-    pieces.extend_from_slice(&[Piece::EndArray])
 }

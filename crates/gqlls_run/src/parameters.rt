@@ -1,14 +1,16 @@
 // What the parameters of a message say. There is nothing where they are not those of the protocol.
-ghost use Rattle.std.specs.Prelude.{◌≡◌, IfOk, IfSome, IsTrue, MatchOption, None, codes, filter_map, map, ok_or, option_and_then, option_map};
-ghost use Rattle.std.specs.List.{Contains};
+ghost use Rattle.std.specs.Prelude.{◌≡◌, IfOk, IfSome, IsTrue, MatchOption, None, Some, ℕ, codes, filter_map, map, ok_or, option_and_then, option_map};
+ghost use Rattle.std.specs.List.{Contains, list_all};
 ghost use Rattle.std.specs.Str.Parse.{ParsesUnsigned};
 ghost use Rattle.json.specs.Find.{as_array, as_number, get};
 ghost use Rattle.json.specs.Json.{string};
 ghost use Rattle.json.specs.Value.{value_view};
+ghost use Rattle.lexical_grammar.specs.Characters.{is_name_continue, is_name_start};
 ghost use Rattle.line_index.specs.declared.PositionEncoding.TheVariants.{Utf8};
 ghost use Rattle.gqlls_run.specs.Parameters.{IsVersionIn, Offers, OffersAll, number_at, position_at, position_in, range_in, text_in, uri_in};
 ghost use Rattle.gqlls_run.specs.Parameters.{asks_before_renaming_in, changed_files, may_register_in, prepared_in, registration_in, name_in, names_at, opened_folders, related_in, root_in, takes_related_in};
 ghost use Rattle.gqlls_run.specs.Files.{host_named};
+ghost use Rattle.gqlls_run.specs.Parameters.{IsOffset, is_name, new_name_in};
 ghost use Rattle.gqlls_run.specs.Parameters.{each, edit_in, edits_in, extent_in, host_in, items_at, list_of, told};
 
 use editor_answers::{Markup, Span};
@@ -71,8 +73,12 @@ fn extent_of(value: Option<&Value<'_>>) -> Option<Option<PositionRange>>
 }
 
 /// The byte offset that a message is about.
-pub(crate) fn offset_of(positions: &Positions<'_>, params: &Value<'_>) -> Option<usize> {
-    Some(positions.offset(position_at(params, "position")?))
+pub(crate) fn offset_of(positions: &Positions<'_>, params: &Value<'_>) -> Option<usize>
+    ensures { MatchOption (position_at (codes "position") (value_view params.now)) (result ≡ None)
+        (λ position. (offset : ℕ) × (result ≡ Some offset) × IsOffset positions.now.encoding positions.now.text.now position offset) }
+{
+    let position = position_at(params, "position")?;
+    Some(positions.offset(position))
 }
 
 /// The byte offsets that a message is about.
@@ -313,22 +319,41 @@ pub(crate) fn asks_for_definition(params: &Value<'_>) -> bool {
     include_declaration(params) == Some(true)
 }
 
+// Whether a name may begin with a byte.
+fn starts_name(byte: u8) -> bool
+    ensures { result ≡ is_name_start byte }
+{
+    byte.is_ascii_alphabetic() || byte == b'_'
+}
+
+// Whether a name may go on with a byte.
+fn continues_name(byte: u8) -> bool
+    ensures { result ≡ is_name_continue byte }
+{
+    byte.is_ascii_alphanumeric() || byte == b'_'
+}
+
+// Whether a name may go on with these bytes.
+fn continue_name(bytes: &[u8]) -> bool
+    ensures { result ≡ list_all is_name_continue bytes.now }
+{
+    bytes.iter().all(|b| continues_name(*b))
+}
+
 // Whether a text is a Name (GraphQL, October 2021, section 2.1.9).
-fn is_name(text: &str) -> bool {
-    let bytes = text.as_bytes();
-    match bytes.first() {
-        Some(first) => {
-            !first.is_ascii_digit()
-                && bytes
-                    .iter()
-                    .all(|b| b.is_ascii_alphanumeric() || *b == b'_')
-        }
+fn is_name(text: &str) -> bool
+    ensures { result ≡ is_name text.now }
+{
+    match text.as_bytes().split_first() {
+        Some((first, rest)) => starts_name(*first) && continue_name(rest),
         None => false,
     }
 }
 
 /// The name that something gets, if it is one of GraphQL.
-pub(crate) fn new_name_of<'a>(params: &Value<'a>) -> Option<&'a str> {
+pub(crate) fn new_name_of<'a>(params: &Value<'a>) -> Option<&'a str>
+    ensures { option_map (λ name. name.now) result ≡ new_name_in (value_view params.now) }
+{
     let name = params.get("newName")?.as_str()?;
     if is_name(name) { Some(name) } else { None }
 }

@@ -7,8 +7,8 @@ ghost use Rattle.rpc_messages.specs.Messages.{IsAnswer};
 use crate::completing::{call_around, push_completions};
 use crate::documents::{Document, Documents, Known};
 use crate::formatting::{REQUEST_FAILED, answer_null};
-use crate::naming::{Occurrence, Sought};
-use crate::parameters::{asks_for_definition, new_name_of, offset_of, offsets_of, span_of};
+use crate::naming::{Occurrence, Sought, definer_of};
+use crate::parameters::{asks_for_definition, offset_of, offsets_of, span_of};
 use crate::signature::answer_signature;
 use apollo_parser::{Limits, Parser, SyntaxNode};
 use editor_answers::{
@@ -32,13 +32,12 @@ pub(crate) enum Question {
     References,
     Highlight,
     PrepareRename,
-    Rename,
     Hover,
     Completion,
     Signature,
 }
 
-const QUESTIONS: [(&str, Question); 13] = [
+const QUESTIONS: [(&str, Question); 12] = [
     ("textDocument/documentSymbol", Question::Symbols),
     ("textDocument/foldingRange", Question::Folds),
     ("textDocument/selectionRange", Question::Selections),
@@ -48,7 +47,6 @@ const QUESTIONS: [(&str, Question); 13] = [
     ("textDocument/references", Question::References),
     ("textDocument/documentHighlight", Question::Highlight),
     ("textDocument/prepareRename", Question::PrepareRename),
-    ("textDocument/rename", Question::Rename),
     ("textDocument/hover", Question::Hover),
     ("textDocument/completion", Question::Completion),
     ("textDocument/signatureHelp", Question::Signature),
@@ -56,9 +54,6 @@ const QUESTIONS: [(&str, Question); 13] = [
 
 // The index of the document that is asked about, among those in which names are looked for.
 const FIRST: usize = 0;
-
-// Why something may not have a name that other things may have.
-const NO_NAME_OF_ITS_KIND: &str = "the grammar does not allow this name here";
 
 // For how many positions a client gets the parts of the text around them: each answer is as long as the tree is deep there.
 const MOST_POSITIONS: usize = 100;
@@ -103,13 +98,17 @@ struct Searched<'a> {
 }
 
 impl<'a> Asked<'a, '_, '_> {
-    // The documents in which names are looked for.
-    fn searched(self) -> Result<Searched<'a>, AllocError> {
-        let first = Known {
+    // The document that is asked about, by its name.
+    fn first(self) -> Known<'a> {
+        Known {
             uri: self.uri,
             document: self.document,
-        };
-        let known = self.documents.from(self.alloc, first)?;
+        }
+    }
+
+    // The documents in which names are looked for.
+    fn searched(self) -> Result<Searched<'a>, AllocError> {
+        let known = self.documents.from(self.alloc, &self.first())?;
         let mut roots = Vec::new(self.alloc);
         for one in &known {
             roots.push(one.document.root())?;
@@ -199,14 +198,6 @@ impl<'a> Asked<'a, '_, '_> {
         }))
     }
 
-    // The name of the document that defines the name at a byte offset by its text, if one does.
-    fn definer_uri(self, searched: &Searched<'a>, offset: usize) -> Option<&'a str> {
-        if definition(self.root, offset).is_some() {
-            return Some(self.uri);
-        }
-        Some(self.definer(searched, offset)?.document?.uri)
-    }
-
     // What the name at a byte offset means: a member by the types in these trees, or what its text says.
     fn sought<'s>(
         self,
@@ -221,11 +212,12 @@ impl<'a> Asked<'a, '_, '_> {
         {
             return Ok(Sought::Member(Uses::new(self.alloc, schema, member)?));
         }
+        let asked = self.first();
+        let definer = definer_of(&asked, offset, searched.known.as_slice());
         Ok(Sought::Name(Occurrence {
-            uri: self.uri,
-            root: self.root,
+            asked,
             offset,
-            definer: self.definer_uri(searched, offset),
+            definer,
         }))
     }
 
@@ -246,14 +238,7 @@ impl<'a> Asked<'a, '_, '_> {
     fn push_highlights(self, pieces: &mut Vec<Piece<'a>>, offset: usize) -> Result<(), AllocError> {
         let searched = self.searched()?;
         let sought = self.sought(&searched, offset)?;
-        sought.push_highlights(
-            self.alloc,
-            pieces,
-            FIRST,
-            self.uri,
-            self.root,
-            self.positions,
-        )
+        sought.push_highlights(self.alloc, pieces, FIRST, &self.first(), self.positions)
     }
 
     // The answer that lacks a parameter.
@@ -368,37 +353,6 @@ impl<'a> Asked<'a, '_, '_> {
         answer(self.alloc, id, pieces.as_slice())
     }
 
-    // The answer to rename, with a name of GraphQL.
-    fn renamed(self, id: &Value<'_>, offset: usize, name: &'a str) -> Result<Vec<u8>, AllocError>
-        requires { HasNumbers (value_view id.now) }
-        ensures { IfOk result (λ body. IsAnswer (value_view id.now) body.items) }
-    {
-        let searched = self.searched()?;
-        let sought = self.sought(&searched, offset)?;
-        if let Some(reason) = sought.objection(searched.known.len()) {
-            return refusal(self.alloc, id, REQUEST_FAILED, reason);
-        }
-        if !sought.may_be_called(name) {
-            return refusal(self.alloc, id, code::INVALID_PARAMS, NO_NAME_OF_ITS_KIND);
-        }
-        let mut pieces: Vec<Piece<'a>> = Vec::new(self.alloc);
-        sought.push_changes(self.alloc, &mut pieces, searched.known.as_slice(), name)?;
-        answer(self.alloc, id, pieces.as_slice())
-    }
-
-    fn rename(self, id: &Value<'_>) -> Result<Vec<u8>, AllocError>
-        requires { HasNumbers (value_view id.now) }
-        ensures { IfOk result (λ body. IsAnswer (value_view id.now) body.items) }
-    {
-        let Some(offset) = offset_of(self.positions, self.params) else {
-            return self.refused(id);
-        };
-        match new_name_of(self.params) {
-            Some(name) => self.renamed(id, offset, name),
-            None => refusal(self.alloc, id, code::INVALID_PARAMS, "no name of GraphQL"),
-        }
-    }
-
     fn hover(self, id: &Value<'_>) -> Result<Vec<u8>, AllocError>
         requires { HasNumbers (value_view id.now) }
         ensures { IfOk result (λ body. IsAnswer (value_view id.now) body.items) }
@@ -486,7 +440,6 @@ impl<'a> Asked<'a, '_, '_> {
             Question::References => self.references(id),
             Question::Highlight => self.highlights(id),
             Question::PrepareRename => self.prepare_rename(id),
-            Question::Rename => self.rename(id),
             Question::Hover => self.hover(id),
             Question::Completion => self.completion(id),
             Question::Signature => self.signature(id),

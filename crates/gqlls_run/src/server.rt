@@ -5,7 +5,7 @@ ghost use Rattle.json.specs.Value.{value_view};
 ghost use Rattle.rpc_messages.specs.Messages.{IsAnswer};
 ghost use Rattle.rpc_messages.specs.Replies.{EndsOnlyIf, Replies};
 ghost use Rattle.rpc_messages.specs.declared.reply.Reply.TheVariants.{Answer};
-ghost use Rattle.gqlls_run.specs.Conversation.{Begins, Changes, Closes, Formats, FormatsRange, IsAsked, IsHeard, Opens, Publishes, exit_status};
+ghost use Rattle.gqlls_run.specs.Conversation.{Begins, Changes, Closes, Formats, FormatsRange, IsAsked, IsHeard, Opens, Publishes, Renames, exit_status};
 ghost use Rattle.gqlls_run.specs.Dialogue.{Learns, begun};
 ghost use Rattle.gqlls_run.specs.Layout.{IsRefusalOf};
 ghost use Rattle.gqlls_run.specs.State.{StepsOf, dialogue_of, file_of};
@@ -19,6 +19,7 @@ use crate::parameters::{
     uri_of, version_of,
 };
 use crate::questions::{answer_question, question_of};
+use crate::renaming::answer_rename;
 use crate::searching::answer_search;
 use apollo_parser::Limits;
 use editor_answers::Markup;
@@ -141,6 +142,28 @@ impl Server {
         answer_range_formatting(alloc, id, document, params, self.limits)
     }
 
+    // The answer to a request to rename what is at a position of an open document.
+    fn rename(
+        &self,
+        alloc: Global,
+        id: &Value<'_>,
+        params: &Value<'_>,
+    ) -> Result<Vec<u8>, AllocError>
+        requires { HasNumbers (value_view id.now) }
+        ensures answers { IfOk result (λ body. IsAnswer (value_view id.now) body.items) }
+        ensures renames { IfOk result (λ body. Renames (value_view id.now) (value_view params.now) (dialogue_of self.now) body.items) }
+    {
+        let Some(uri) = uri_of(params) else {
+            return refused(alloc, id, code::INVALID_PARAMS, NO_DOCUMENT);
+        };
+        let Some(document) = self.documents.get(uri) else {
+            return answer_null(alloc, id);
+        };
+        // bound to a name, so that its clauses on `Ok` are found
+        let body = answer_rename(alloc, id, uri, document, self.known(), params)?;
+        Ok(body)
+    }
+
     // The answer to a question about an open document.
     fn answered(
         &self,
@@ -155,6 +178,8 @@ impl Server {
             → Formats (value_view id.now) (value_view params.now) (dialogue_of self.now) body.items) }
         ensures formats_range { IfOk result (λ body. method.now ≡ codes "textDocument/rangeFormatting"
             → FormatsRange (value_view id.now) (value_view params.now) (dialogue_of self.now) body.items) }
+        ensures renames { IfOk result (λ body. method.now ≡ codes "textDocument/rename"
+            → Renames (value_view id.now) (value_view params.now) (dialogue_of self.now) body.items) }
     {
         if method == "initialize" {
             return refused(alloc, id, code::INVALID_REQUEST, "initialized before");
@@ -164,6 +189,9 @@ impl Server {
         }
         if method == "textDocument/rangeFormatting" {
             return self.range_layout(alloc, id, params);
+        }
+        if method == "textDocument/rename" {
+            return self.rename(alloc, id, params);
         }
         if method == "workspace/symbol" {
             return answer_search(alloc, id, self.known(), query_of(params));

@@ -1,7 +1,6 @@
 use Rattle.std.proofs.Common.{◌≡◌, ◌++◌, String, map}
 use Rattle.std.specs.Prelude.{filter, not, string_bytes}
 use Rattle.std.specs.BTreeSet.{contains_text}
-use Rattle.std.specs.Map.{values_of}
 use Rattle.editor_validation.specs.Fragments.{as_fragments}
 use Rattle.gqlls_run.specs.State.{entries_beside, names_of}
 use Rattle.gqlls_run.proofs.documents.file_fragments.Given as goal
@@ -10,5 +9,5 @@ use Rattle.gqlls_run.proofs.documents.file_fragments.Given as goal
 abbrev pub invariant-loop-name : goal.invariant-loop-name
 invariant-loop-name l =
     map (λ f. as_fragments f.now) l.found.items
-    ++ map names_of (values_of (filter (λ entry. not (contains_text l.own (string_bytes entry.0))) l.name-iterator))
-    ≡ map names_of (values_of (entries_beside l.own l.files))
+    ++ map (λ entry. names_of entry.1) (filter (λ entry. not (contains_text l.own (string_bytes entry.0))) l.name-iterator)
+    ≡ map (λ entry. names_of entry.1) (entries_beside l.own l.files)

@@ -1,13 +1,13 @@
-use Rattle.std.proofs.Common.{◌≡◌, ◌++◌, ℕ, List, Some, false, ap, map, subst, sym, ◌∙◌}
+use Rattle.std.proofs.Common.{Global, String, ◌≡◌, ◌++◌, ℕ, List, Some, false, ap, map, subst, sym, ◌∙◌}
 use Rattle.std.specs.Prelude.{◌↔◌, ◌⊎◌}
 use Rattle.std.proofs.lemmas.List.{map-append}
 use Rattle.std.specs.BTreeMap.{values}
 use Rattle.std.specs.List.{Contains}
-use Rattle.std.specs.Map.{values_of}
 use denote.Ref.{Bor}
 use Rattle.editor_validation.specs.Fragments.{Fragments, as_fragments}
 use Rattle.editor_validation.specs.declared.fragments.FragmentNames.{FragmentNames}
 use Rattle.gqlls_run.specs.State.{entries_beside, is_own, names_in, names_of}
+use Rattle.gqlls_run.specs.declared.documents.Document.{Document}
 use Rattle.gqlls_run.proofs.Maps.{all_beside, all_of, in_either}
 use Rattle.gqlls_run.proofs.documents.told_beside.Goals as goal
 
@@ -17,7 +17,7 @@ returns-clause-told c =
     let all_names = λ (fs : List (Bor FragmentNames)). map (λ (f : Bor FragmentNames). as_fragments f.now) fs in
     let names = all_names c.as_slice-2.result.now in
     let in_opened = map names_of (values others.opened.now) in
-    let in_files = map names_of (values_of (entries_beside c.in_ok-own.own others.files.now)) in
+    let in_files = map (λ (entry : String Global × Document). names_of entry.1) (entries_beside c.in_ok-own.own others.files.now) in
     let same =
     ap all_names (c.as_slice-2.ensures.value ∙ c.in_ok-extend_from_slice.ensures.items) ∙ map-append (λ (f : Bor FragmentNames). as_fragments f.now) _ _
     ∙ ap (λ (x : List Fragments). x ++ all_names c.as_slice.result.now) c.in_ok-names.ensures.all

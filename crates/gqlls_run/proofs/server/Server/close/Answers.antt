@@ -19,6 +19,7 @@ returns-clause-closes c =
         documents = updated file_of _ _ c.args.self.now.documents c.remove.new.self _ _ refl c.remove.ensures.updates refl;
         fragments = updated names_of _ _ c.args.self.now.documents c.remove.new.self _ _ refl c.remove.ensures.updates refl;
         files = refl;
+        file_fragments = refl;
         stage = refl;
         encoding = refl;
         may_register = refl;

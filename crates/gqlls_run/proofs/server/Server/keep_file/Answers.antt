@@ -3,7 +3,7 @@ use Rattle.editor_validation.specs.Fragments.{Fragments}
 use Rattle.gqlls_run.specs.Dialogue.{Updates}
 use Rattle.gqlls_run.specs.Files.{IsSource, OpenFile}
 use Rattle.gqlls_run.specs.Parsing.{IsParse}
-use Rattle.gqlls_run.specs.State.{names_in}
+use Rattle.gqlls_run.specs.State.{files, names_in}
 use Rattle.gqlls_run.proofs.server.Server.keep_file.Goals as goal
 
 pub returns : goal.returns
@@ -20,6 +20,9 @@ returns c =
           (subst (λ (file : OpenFile). IsParse file.limits document.source document.parsed) file parsed.promise);
       learns = record {
         files =
+            subst (λ (file : OpenFile). Updates c.args.uri.now (Some file) (files c.args.self.now.files) (files c.insert.new.documents)) file
+            c.in_ok-insert.ensures.files;
+        fragments =
             subst (λ (names : Fragments). Updates c.args.uri.now (Some names) (names_in c.args.self.now.files) (names_in c.insert.new.documents)) parsed.named
             c.in_ok-insert.ensures.names;
         others = refl;

@@ -1,6 +1,6 @@
 use Rattle.std.proofs.Common.{ap, ◌∙◌}
 use Rattle.json.specs.Value.{value_view}
-use Rattle.gqlls_run.specs.Conversation.{opened}
+use Rattle.gqlls_run.specs.Dialogue.{opened}
 use Rattle.gqlls_run.specs.State.{dialogue_of, file_of}
 use Rattle.gqlls_run.proofs.Messages.{found_in, opens}
 use Rattle.gqlls_run.proofs.server.Server.open.Goals as goal

@@ -21,6 +21,7 @@ returns-clause-publishes c =
         documents = again _ _ _ _ _ _ files_without c.in_ok-insert.ensures.files;
         fragments = again _ _ _ _ _ _ names_without c.in_ok-insert.ensures.names;
         files = refl;
+        file_fragments = refl;
         stage = refl;
         encoding = refl;
         may_register = refl;
