@@ -1,8 +1,12 @@
-use Rattle.std.proofs.Common.{List, ap, map, ◌∙◌, sym}
+use Rattle.std.proofs.Common.{ap, map, ◌∙◌, sym}
+use Rattle.document_grammar.specs.declared.kind.SyntaxKind.TheVariants.{IDENT}
+use Rattle.apollo_tree.specs.AtOffset.{leaves_at}
 use Rattle.apollo_tree.specs.Order.{Place}
-use Rattle.apollo_tree.specs.References.{node_place, token_place}
+use Rattle.apollo_tree.specs.References.{token_place}
+use Rattle.apollo_cst_core.specs.Kinds.{is_of}
 use Rattle.editor_answers.specs.Names.{identifier_at}
 use Rattle.json.specs.Value.{value_view}
+use Rattle.gqlls_run.specs.Renaming.{root_of}
 use Rattle.gqlls_run.specs.State.{known_of}
 use Rattle.gqlls_run.proofs.Meanings.{chosen, found_passes, meaningless}
 use Rattle.gqlls_run.proofs.Messages.{found_in}
@@ -14,5 +18,6 @@ returns-in_ok-body-in-None-clause-renames c =
     let leaf = token_place c.in-Some.leaf in
     let found = ap (λ (p : Place). identifier_at p c.args.offset) (sym c.root.ensures.place)
     ∙ found_in token_place _ _ _ c.identifier_at.ensures c.in-Some.is in
+    let passes = found_passes (is_of IDENT) (leaves_at c.args.offset (root_of asked)) leaf found in
     meaningless (value_view c.args.id.now) asked c.args.offset c.args.name.now (map known_of c.args.known.now) c.in_ok-body-in-None.body.items leaf found
-    (sym (chosen _ _ _ _ (found_passes _ _ leaf found) c.meaning_of.ensures) ∙ c.in-None.is)
+    (sym (chosen _ _ _ _ passes c.meaning_of.ensures) ∙ c.in-None.is)
