@@ -1,5 +1,6 @@
 pub mod Announced
 pub mod Changes
+pub mod Definers
 pub mod Distinct
 pub mod Edits
 pub mod Found

@@ -31,3 +31,9 @@ module _ (id : Json) (asked : KnownFile) (offset : ℕ) (name : List ℕ) (known
   pub meaningless : (leaf : Place) → identifier_at (root_of asked) offset ≡ Some leaf → meaning_at leaf ≡ None → IsRenamedAt id asked offset name known body
   meaningless leaf found none =
       subst (λ (o : Option Place). MatchOption o (IsFailed id body) (λ leaf. Renamed (meaning_at leaf))) (sym found) (subst Renamed (sym none) tt)
+
+  -- one with a meaning is renamed by it
+  pub meant : (leaf : Place) (meaning : Meaning) → identifier_at (root_of asked) offset ≡ Some leaf → meaning_at leaf ≡ Some meaning
+      → IsRenamed id meaning.kind asked offset name known body → IsRenamedAt id asked offset name known body
+  meant leaf meaning found is renamed =
+      subst (λ (o : Option Place). MatchOption o (IsFailed id body) (λ leaf. Renamed (meaning_at leaf))) (sym found) (subst Renamed (sym is) renamed)
