@@ -1,6 +1,6 @@
 -- The document whose definition of a name counts: the first of those that are left.
-use Rattle.std.proofs.Common.{◌≡◌, ℕ, ◌+◌, ◌<◌, ◌≤◌, suc, Bool, true, false, List, [], ◌∷◌, length, map, drop, get_or, Option, Some, None, arith, ap, refl, sym, ◌∙◌}
-use Rattle.std.specs.Prelude.{if◌then◌else◌, cond}
+use Rattle.std.proofs.Common.{◌≡◌, ℕ, ◌<◌, ◌≤◌, suc, Bool, true, false, List, ◌∷◌, length, map, drop, get_or, Option, Some, None, ap, refl, sym, ◌∙◌}
+use Rattle.std.specs.Prelude.{if◌then◌else◌}
 use Rattle.std.specs.List.{find}
 use Rattle.std.proofs.Math.Seq.{drop-cons}
 use Rattle.std.proofs.lemmas.List.{drop_all}
