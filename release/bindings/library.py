@@ -15,9 +15,9 @@ CALLS += ["dumyroke_string_value", "dumyroke_validate"]
 
 
 def make_archive(archive):
-    """Has rattle prove dumyroke_c once more, over the libraries that `rt ci` proved, and make the static library.
+    """Has rattle prove c_exports once more, over the libraries that `rt ci` proved, and make the static library.
     `rt ci` itself makes none, and `rt lib` would prove all libraries again, since it takes nothing from `rt ci`."""
-    return rattle("dumyroke_c", TOP / "crates/dumyroke_c", archive, *static_library())
+    return rattle("c_exports", TOP / "crates/c_exports", archive, *static_library())
 
 
 def pc_text(prefix, include, library):

@@ -85,7 +85,7 @@ def library_words(name, crates, made):
         if not (folder / f"{library}.rlib").exists():
             stop(
                 f"there is no {folder / library}.rlib: run `rt ci` first; for C this also takes the archive that `rt"
-                " lib` makes in crates/dumyroke_c"
+                " lib` makes in crates/c_exports"
             )
         words += (
             ["--extern", f"{library}={folder}/{library}.rlib"]

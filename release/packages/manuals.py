@@ -41,7 +41,7 @@ class Word:
 def said(program):
     """The options in a program's text for `--help`, in its order: the letter or nothing, the name, the argument or
     nothing, and what it does."""
-    crate = "gqlls_files" if program == "gqlls" else f"{program}_run"
+    crate = "gqlls_program" if program == "gqlls" else f"{program}_run"
     text = (TOP / f"crates/{crate}/src/command.rt").read_text()
     text = re.search(r'^pub const HELP: &str = "(.*?)";$', text, re.DOTALL | re.MULTILINE)[1]
     return [(letter, name, argument, " ".join(about.split())) for letter, name, argument, about in SAID.findall(text)]

@@ -75,7 +75,7 @@ def proved():
     unproved = "NOT PROVED: the library was made without a proof, to try the packages.\n\n" if UNPROVED.exists() else ""
     return f"""{unproved}Dumyroke {version()}, from commit {commit}{" with changes" if changed else ""}, proved by {kit}.
 
-Programs: `run` of gqlcheck_run, gqlcst_run, gqlfmt_run and gqlls_files is proved, with the devices of byte_devices; the system below them is trusted.
+Programs: `run` of gqlcheck_run, gqlcst_run, gqlfmt_run and gqlls_program is proved, with the devices of byte_streams; the system below them is trusted.
 libdumyroke, and so the Rust crate and the Python package; the page's module, which is the npm package's: each exported call is proved. Headers, Rust,
 Python, JavaScript, the module's memory, and the extension for VS Code are tested only.
 docs/PROMISES.md says what is proved, and EVIDENCE.md which lemmas prove it. The provers and compilers of the kit, LLVM and the C library are trusted.

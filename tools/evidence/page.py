@@ -19,27 +19,27 @@ PARTS = {
     "the lexer": """
         apollo_lexer/src/lexer.rt apollo_lexer/src/limit.rt apollo_lexer/src/error.rt apollo_lexer/src/token.rt
         apollo_lexer/src/lex_error.rt""",
-    "`gqlcst`": "byte_devices/src gqlcst_run/src/program.rt gqlcst_run/src/ending.rt program_words/src/gqlcst.rt",
+    "`gqlcst`": "byte_streams/src gqlcst_run/src/program.rt gqlcst_run/src/outcome.rt command_lines/src/gqlcst.rt",
     "`format`": "formatter/src/lib.rt",
     "`gqlfmt`": """
-        ignore_rules/src/rules.rt unignored_files/src/unignored.rt named_files/src/finding.rt
-        gqlfmt_files/src/settling.rt program_words/src/gqlfmt.rt gqlfmt_run/src/formatting.rt gqlfmt_run/src/input.rt
-        gqlfmt_run/src/paths.rt gqlfmt_run/src/program.rt""",
+        ignore_rules/src/rules.rt unignored_files/src/unignored.rt named_files/src/search.rt
+        command_lines/src/gqlfmt.rt gqlfmt_run/src/revision.rt gqlfmt_run/src/input.rt gqlfmt_run/src/paths.rt
+        gqlfmt_run/src/program.rt""",
     "C, Python and the page": """
-        dumyroke_flat/src/parse.rt dumyroke_flat/src/items.rt dumyroke_flat/src/strings.rt
-        dumyroke_flat/src/format.rt dumyroke_flat/src/laws.rt dumyroke_validation/src/validating.rt
-        dumyroke_validation/src/measuring.rt dumyroke_c/src/lib.rt""",
+        c_parsing/src/parse.rt c_parsing/src/items.rt c_parsing/src/strings.rt
+        c_parsing/src/format.rt c_parsing/src/laws.rt c_validation/src/violation_rows.rt
+        c_validation/src/operation_rows.rt c_exports/src/lib.rt""",
     "positions, and `gqlls`": """
         line_index/src editor_text/src rpc_messages/src rpc_serving/src editor_diagnostics/src editor_validation/src
-        editor_edits/src editor_answers/src embedded_documents/src schema_members/src program_words/src/gqlls.rt
-        gqlls_run/src/server.rt file_uris/src gqlls_files/src/running.rt""",
+        editor_answers/src embedded_documents/src schema_members/src command_lines/src/gqlls.rt
+        gqlls_run/src/server.rt file_uris/src gqlls_program/src/program.rt""",
     "validation": (
-        "apollo_validation/src/validation.rt apollo_validation/src/messages.rt apollo_validation/src/lists.rt"
+        "document_validation/src/validation.rt document_validation/src/messages.rt document_validation/src/lists.rt"
     ),
     "the cost of operations": (
-        "operation_limits/src/measuring.rt operation_limits/src/limiting.rt expansion_figures/src/limits.rt"
+        "cost_limits/src/measures.rt cost_limits/src/limits.rt cost_figures/src/limits.rt"
     ),
-    "`gqlcheck`": "document_checks/src/checking.rt program_words/src/gqlcheck.rt gqlcheck_run/src/program.rt",
+    "`gqlcheck`": "document_checks/src/text_check.rt command_lines/src/gqlcheck.rt gqlcheck_run/src/program.rt",
 }
 # Laws, and calls between crates: the page has their lemmas, and no definitions are listed for them.
 LAWS = """
@@ -54,8 +54,8 @@ COUNTED = {
     "`gqlcst`": "gqlcst_run/src/program.rt",
     "`gqlfmt`": "gqlfmt_run/src/program.rt unignored_files/src/unignored.rt",
     "`gqlcheck`": "gqlcheck_run/src/program.rt",
-    "`gqlls`": "gqlls_files/src/running.rt",
-    "C, Python and the page": "dumyroke_c/src/lib.rt",
+    "`gqlls`": "gqlls_program/src/program.rt",
+    "C, Python and the page": "c_exports/src/lib.rt",
 }
 # The four clauses of `parse` that are the main theorem.
 MAIN = ["sound", "accepts", "only_derivation", "still_a_sentence"]

@@ -145,5 +145,5 @@ def outputs(grammar):
         FOLDER / "specs/Kinds.antt": names(grammar),
         FOLDER / "specs/Numbering.antt": numbering(grammar),
         FOLDER / "proofs/generated/KindLists.antt": lists(grammar),
-        CRATES / "gqlcst_run/src/rendering/kind_name.rt": printed_names(grammar),
+        CRATES / "gqlcst_run/src/report/kind_name.rt": printed_names(grammar),
     }

@@ -1,19 +1,19 @@
 """The statuses and the rows of the library for C, for Rust, for Python and for the page, from the structs in
-crates/apollo_tree/src/compact.rt and in `rows.rt` of crates/dumyroke_flat and crates/dumyroke_validation; and the rules
-of validation, from crates/definition_rules/src/violations.rt. The header, which is written by hand, has to have the
+crates/apollo_tree/src/compact.rt and in `rows.rt` of crates/c_parsing and crates/c_validation; and the rules
+of validation, from crates/validation_rules/src/violations.rt. The header, which is written by hand, has to have the
 same fields and rules."""
 
 import re
 
 from .layout import CRATES, TOP, mark
 
-SOURCE = "crates/apollo_tree/src/compact.rt, and rows.rt of crates/dumyroke_flat and crates/dumyroke_validation"
+SOURCE = "crates/apollo_tree/src/compact.rt, and rows.rt of crates/c_parsing and crates/c_validation"
 SOURCES = [
     CRATES / "apollo_tree/src/compact.rt",
-    CRATES / "dumyroke_flat/src/rows.rt",
-    CRATES / "dumyroke_validation/src/rows.rt",
+    CRATES / "c_parsing/src/rows.rt",
+    CRATES / "c_validation/src/rows.rt",
 ]
-RULES = CRATES / "definition_rules/src/violations.rt"
+RULES = CRATES / "validation_rules/src/violations.rt"
 HEADER = TOP / "bindings/c/include/dumyroke.h"
 
 # The bytes of each type of a field, and its name in C and in Python.

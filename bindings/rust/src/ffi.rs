@@ -6,7 +6,7 @@
 //!   else reaches, with its own length. So the rules of docs/BINDINGS.md ("What a caller has to keep") hold. A pointer with the length 0 may dangle: the
 //!   library neither reads nor writes there.
 //! - **What the library writes.** It fills the first `min(count, room)` items of a buffer and nothing else: this is proved of it (`ok` of the outcomes in
-//!   crates/dumyroke_flat/specs and crates/dumyroke_validation/specs), and `filled` takes it from there. Any bits are a value of these items, which are plain numbers.
+//!   crates/c_parsing/specs and crates/c_validation/specs), and `filled` takes it from there. Any bits are a value of these items, which are plain numbers.
 //! - **What the numbers say** is never trusted for memory safety. The rest of the crate uses indices, ranges and kinds with checks, and messages are
 //!   checked to be UTF-8. A wrong number would be a panic, and a wrong kind `ERROR`.
 //! - The library keeps no pointer after a call, has no state, takes its memory from `malloc`, and does not unwind. Any number of threads may call at

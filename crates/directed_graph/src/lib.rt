@@ -2,7 +2,7 @@
 //!
 //! `reached` and `reach` follow each edge once. `returns` also takes time for each edge once, on graphs with cycles too.
 //!
-//! `definition_rules`, the crate above, calls them with the fragments that each definition spreads.
+//! `validation_rules`, the crate above, calls them with the fragments that each definition spreads.
 #![tactic(auto)]
 
 mod components;

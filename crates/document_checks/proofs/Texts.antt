@@ -5,8 +5,8 @@ use Rattle.apollo_tree.specs.Order.{Place}
 use Rattle.apollo_parser.specs.Parsed.{Parsed}
 use Rattle.apollo_parser.specs.Promise.{Promise}
 use Rattle.apollo_parser.proofs.OneParse.{one-parse}
-use Rattle.apollo_validation.specs.Lists.{document_kind}
-use Rattle.apollo_validation.specs.Validity.{IsValidAs}
+use Rattle.document_validation.specs.Lists.{document_kind}
+use Rattle.document_validation.specs.Validity.{IsValidAs}
 use Rattle.document_checks.specs.Checking.{Asked, AreWithin, HasNothing, IsSound, IsSoundText, Passes}
 use Rattle.document_checks.proofs.Verdicts.{fails}
 

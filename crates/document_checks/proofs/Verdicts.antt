@@ -7,15 +7,15 @@ use Rattle.std.proofs.lemmas.Bool.Decides.{nat_tests}
 use Rattle.std.proofs.lemmas.List.{map-append, take_more}
 use Rattle.std.proofs.lemmas.List.Elements.{All-append, All-cons, All-get_or, All-head, All-nil, All-same, All-tail}
 use Rattle.apollo_tree.specs.Order.{Place}
-use Rattle.executable_document.specs.Definitions.{Defined, as_defined, defined}
-use Rattle.expansion_figures.specs.declared.figures.Figures.{Figures}
-use Rattle.expansion_figures.specs.declared.limits.Limit.{Limit}
-use Rattle.expansion_figures.specs.Limiting.{figure_of, limits_in_order}
-use Rattle.operation_limits.specs.Measures.{Measure, AreMeasures, AreTwins, IsMeasureError}
-use Rattle.operation_limits.specs.Limits.{IsWithin, IsExceeded}
-use Rattle.operation_limits.specs.declared.limiting.Exceeded.{Exceeded}
-use Rattle.operation_limits.specs.declared.measuring.MeasureError.{MeasureError}
-use Rattle.operation_limits.specs.declared.measuring.MeasureError.TheVariants.{SameName, Cycle, Undefined, Memory}
+use Rattle.validation_names.specs.Definitions.{Defined, as_defined, defined}
+use Rattle.cost_figures.specs.declared.figures.Figures.{Figures}
+use Rattle.cost_figures.specs.declared.limits.Limit.{Limit}
+use Rattle.cost_figures.specs.Limiting.{figure_of, limits_in_order}
+use Rattle.cost_limits.specs.Measures.{Measure, AreMeasures, AreTwins, IsMeasureError}
+use Rattle.cost_limits.specs.Limits.{IsWithin, IsExceeded}
+use Rattle.cost_limits.specs.declared.limits.Exceeded.{Exceeded}
+use Rattle.cost_limits.specs.declared.measures.MeasureError.{MeasureError}
+use Rattle.cost_limits.specs.declared.measures.MeasureError.TheVariants.{SameName, Cycle, Undefined, Memory}
 use Rattle.document_checks.specs.Checking.{Asked, AreWithin, IsChosenWithin, is_chosen}
 use Rattle.document_checks.proofs.Measuring.{one_list, no_cycle, all_defined}
 

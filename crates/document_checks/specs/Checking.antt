@@ -6,14 +6,14 @@ use Rattle.apollo_lexer.specs.declared.limits.Limits.{Limits}
 use Rattle.apollo_tree.specs.Order.{Place}
 use Rattle.apollo_parser.specs.Parsed.{Parsed}
 use Rattle.apollo_parser.specs.Promise.{Promise}
-use Rattle.executable_document.specs.Names.{Name}
-use Rattle.executable_document.specs.Definitions.{defined, operation_name}
-use Rattle.expansion_figures.specs.declared.figures.Figures.{Figures}
+use Rattle.validation_names.specs.Names.{Name}
+use Rattle.validation_names.specs.Definitions.{defined, operation_name}
+use Rattle.cost_figures.specs.declared.figures.Figures.{Figures}
 use Rattle.formatter.specs.Within.{HasCommentsAlone}
-use Rattle.operation_limits.specs.Measures.{Measure, AreMeasures}
-use Rattle.operation_limits.specs.Limits.{IsWithin}
-use Rattle.apollo_validation.specs.Lists.{document_kind}
-use Rattle.apollo_validation.specs.Validity.{IsValidAs}
+use Rattle.cost_limits.specs.Measures.{Measure, AreMeasures}
+use Rattle.cost_limits.specs.Limits.{IsWithin}
+use Rattle.document_validation.specs.Lists.{document_kind}
+use Rattle.document_validation.specs.Validity.{IsValidAs}
 use Rattle.document_checks.specs.declared.report.Checks.{Checks}
 
 -- What a text is checked against: the parser's limits, the greatest figures that an operation may have, and the name of the operation that has to be

@@ -2,15 +2,15 @@
 ghost use Rattle.std.specs.Prelude.{◌≡◌, ◌≢◌, ◌↔◌, ◌<◌, All, IfOk, OnOk, map, true, false, option_map, vec_len};
 ghost use Rattle.std.specs.List.{filter};
 ghost use Rattle.apollo_tree.specs.References.{node_place};
-ghost use Rattle.operation_limits.specs.Limits.{IsWithin};
-ghost use Rattle.operation_limits.specs.Measures.{as_measure};
-ghost use Rattle.operation_limits.specs.declared.measuring.MeasureError.TheVariants.{Memory};
+ghost use Rattle.cost_limits.specs.Limits.{IsWithin};
+ghost use Rattle.cost_limits.specs.Measures.{as_measure};
+ghost use Rattle.cost_limits.specs.declared.measures.MeasureError.TheVariants.{Memory};
 ghost use Rattle.document_checks.specs.Checking.{AreWithin, IsChosenWithin, as_asked, is_chosen};
 
 use crate::report::{Checks, Finding, OperationReport, Report};
 use apollo_tree::SyntaxNode;
-use expansion_figures::{Figures, Limit, Span};
-use operation_limits::{Exceeded, MeasureError, OperationFigures, measure, within};
+use cost_figures::{Figures, Limit, Span};
+use cost_limits::{Exceeded, MeasureError, OperationFigures, measure, within};
 use std::alloc::{AllocError, Global};
 
 // Whether an operation is the one that is named, or none is named.

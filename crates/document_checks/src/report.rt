@@ -3,7 +3,7 @@ ghost use Rattle.std.specs.Prelude.{◌≡◌, ◌<◌, IfOk, true, false, vec_l
 
 use apollo_parser::{BorrowedError, Limits};
 use apollo_tree::SyntaxNode;
-use expansion_figures::Figures;
+use cost_figures::Figures;
 use std::alloc::{AllocError, Global};
 
 /// What a text is checked against.

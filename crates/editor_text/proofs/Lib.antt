@@ -1,1 +1,3 @@
+mod Clients
 pub mod EditLemmas
+pub mod SoFar

@@ -1,1 +1,4 @@
+pub mod Answered
 pub mod Client
+pub mod Edited
+pub mod Finding

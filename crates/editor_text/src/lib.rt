@@ -5,6 +5,9 @@
 //!
 //! `gqlls_run`, the crate above, keeps an `OpenDocument` for each file and calls its `change_all`. For its answers it parses a text whose
 //! quoted strings are `closed` where their lines leave them open.
+//!
+//! The other way round, `answer_edits` answers a request by the edits that make a text another one. They are so small that a client keeps its marks, its
+//! folds and its cursor. `gqlls_run` calls it with a document and its layout.
 #![tactic(auto)]
 
 ghost use Rattle.std.specs.Prelude.{◌≡◌, string_bytes, IfOk, OnOk, OnErr};
@@ -12,8 +15,11 @@ ghost use Rattle.line_index.specs.LineStarts.{AreFirstStarts};
 ghost use Rattle.line_index.specs.Positions.{units};
 ghost use Rattle.editor_text.specs.Client.{AreOffsets, changed, changed_all, replaced};
 
+mod differences;
+mod edit_answer;
 mod open_quotes;
 
+pub use edit_answer::answer_edits;
 use line_index::{FirstLines, Position, PositionEncoding};
 pub use open_quotes::closed;
 use std::alloc::{AllocError, Global};

@@ -3,9 +3,9 @@ use Rattle.std.proofs.Common.{◌≡◌, ℕ, ◌+◌, ◌<◌, Bool, true, fals
 use Rattle.std.specs.List.{filter}
 use Rattle.std.proofs.lemmas.List.{take_more, map-append}
 use Rattle.std.proofs.lemmas.List.Elements.{filter-append}
-use Rattle.executable_document.specs.Names.{Name}
-use Rattle.definition_rules.specs.declared.violations.Rule.{Rule}
-use Rattle.definition_rules.specs.declared.violations.Rule.TheVariants.{KnownFragmentNames, NoUnusedFragments}
+use Rattle.validation_names.specs.Names.{Name}
+use Rattle.validation_rules.specs.declared.violations.Rule.{Rule}
+use Rattle.validation_rules.specs.declared.violations.Rule.TheVariants.{KnownFragmentNames, NoUnusedFragments}
 use Rattle.editor_validation.specs.Mending.{mends_at}
 
 -- the same names mend the same

@@ -5,11 +5,11 @@ use Rattle.std.specs.List.{Contains, filter, list_any}
 use Rattle.document_grammar.specs.declared.kind.SyntaxKind.TheVariants.{FRAGMENT_NAME}
 use Rattle.apollo_lexer.specs.Diagnostics.{Diagnostic}
 use Rattle.apollo_tree.specs.Order.{Place}
-use Rattle.apollo_validation.specs.Lists.{document_kind}
-use Rattle.apollo_validation.proofs.OneListLemmas.{one-list}
-use Rattle.executable_document.specs.Names.{Name}
-use Rattle.executable_document.specs.Mentions.{name_in}
-use Rattle.definition_rules.specs.Violations.{Breach}
+use Rattle.document_validation.specs.Lists.{document_kind}
+use Rattle.document_validation.proofs.OneListLemmas.{one-list}
+use Rattle.validation_names.specs.Names.{Name}
+use Rattle.validation_names.specs.Mentions.{name_in}
+use Rattle.validation_rules.specs.Violations.{Breach}
 use Rattle.editor_diagnostics.specs.Remarks.{Remarked}
 use Rattle.editor_validation.specs.Fragments.{Fragments}
 use Rattle.editor_validation.specs.Mending.{define, has_name, is_mended, spread}

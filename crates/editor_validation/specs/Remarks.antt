@@ -5,13 +5,13 @@ use Rattle.document_grammar.specs.declared.kind.SyntaxKind.TheVariants.{ENUM_VAL
 use Rattle.document_grammar.specs.Numbers.{is_kind}
 use Rattle.apollo_tree.specs.Order.{Place, kind_at, range_at}
 use Rattle.apollo_tree.specs.Children.{child_nodes}
-use Rattle.definition_rules.specs.declared.violations.Rule.{Rule}
-use Rattle.definition_rules.specs.declared.violations.Rule.TheVariants.{ExecutableDefinitions, KnownFragmentNames, NoUnusedFragments, NoUnusedVariables}
-use Rattle.definition_rules.specs.RuleNames.{rule_name}
-use Rattle.definition_rules.specs.Violations.{Breach}
-use Rattle.apollo_validation.specs.Lists.{document_kind}
-use Rattle.apollo_validation.specs.Messages.{message_of}
-use Rattle.apollo_validation.specs.Breaches.{AreBreaches, BreaksAs}
+use Rattle.validation_rules.specs.declared.violations.Rule.{Rule}
+use Rattle.validation_rules.specs.declared.violations.Rule.TheVariants.{ExecutableDefinitions, KnownFragmentNames, NoUnusedFragments, NoUnusedVariables}
+use Rattle.validation_rules.specs.RuleNames.{rule_name}
+use Rattle.validation_rules.specs.Violations.{Breach}
+use Rattle.document_validation.specs.Lists.{document_kind}
+use Rattle.document_validation.specs.Messages.{message_of}
+use Rattle.document_validation.specs.Breaches.{AreBreaches, BreaksAs}
 use Rattle.apollo_lexer.specs.Diagnostics.{Diagnostic}
 use Rattle.editor_diagnostics.specs.Remarks.{Remarked, with_brace}
 use Rattle.editor_diagnostics.specs.Syntax.{IsAboutFirst, syntax_remarks}

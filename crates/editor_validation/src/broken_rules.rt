@@ -1,15 +1,15 @@
 // Broken rules as remarks on a document.
 ghost use Rattle.std.specs.Prelude.{◌≡◌, IfOk, map};
 ghost use Rattle.apollo_tree.specs.References.{node_place};
-ghost use Rattle.definition_rules.specs.Violations.{as_breach};
+ghost use Rattle.validation_rules.specs.Violations.{as_breach};
 ghost use Rattle.editor_diagnostics.specs.Remarks.{as_remarked};
 ghost use Rattle.editor_validation.specs.Fragments.{as_fragments};
 ghost use Rattle.editor_validation.specs.Remarks.{AreRemarks, marked, names, remark_of, severity_of};
 
 use crate::fragments::FragmentNames;
-use crate::mending::unmended;
+use crate::other_documents::unmended;
 use apollo_tree::{SyntaxKind, SyntaxNode};
-use apollo_validation::{Rule, Violation, message, validate};
+use document_validation::{Rule, Violation, message, validate};
 use editor_diagnostics::{Remark, Severity};
 use std::alloc::{AllocError, Global};
 

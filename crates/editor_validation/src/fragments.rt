@@ -1,16 +1,16 @@
 // The fragments that documents define and spread.
 ghost use Rattle.std.specs.Prelude.{◌≡◌, ◌++◌, IfOk, OnOk, map, string_bytes};
 ghost use Rattle.apollo_tree.specs.References.{node_place};
-ghost use Rattle.executable_document.specs.Definitions.{as_defined};
-ghost use Rattle.executable_document.specs.Mentions.{as_named};
+ghost use Rattle.validation_names.specs.Definitions.{as_defined};
+ghost use Rattle.validation_names.specs.Mentions.{as_named};
 ghost use Rattle.editor_validation.specs.Fragments.{as_fragments, fragments_in, names_of, spread_by};
 
 use apollo_tree::SyntaxNode;
-use executable_document::{
+use std::alloc::{AllocError, Global};
+use validation_names::{
     DefinitionKind, ExecutableDefinition, Mention, MentionKind, definitions, mentions,
     named_definitions,
 };
-use std::alloc::{AllocError, Global};
 
 /// The names of the fragments that a document defines, and of those that it spreads.
 #[derive(Drop)]

@@ -8,7 +8,7 @@ mod braces;
 mod broken_rules;
 mod fragments;
 pub mod laws;
-mod mending;
+mod other_documents;
 
 pub use all_remarks::remarks;
 pub use fragments::{FragmentNames, fragment_names};

@@ -1,10 +1,10 @@
 -- What steps through a file may say.
 use Rattle.std.specs.Prelude.{◌≡◌, ℕ, Bool, true, List}
 use Rattle.embedded_documents.specs.Masked.{HasTag}
-use Rattle.embedded_documents.specs.declared.scanning.Context.{Context}
-use Rattle.embedded_documents.specs.declared.scanning.Context.TheVariants.{Braces, Quoted, Escaped}
-use Rattle.embedded_documents.specs.declared.scanning.Move.{Move}
-use Rattle.embedded_documents.specs.declared.scanning.Move.TheVariants.{Stay, Enter, Leave}
+use Rattle.embedded_documents.specs.declared.scanner.Context.{Context}
+use Rattle.embedded_documents.specs.declared.scanner.Context.TheVariants.{Braces, Quoted, Escaped}
+use Rattle.embedded_documents.specs.declared.scanner.Move.{Move}
+use Rattle.embedded_documents.specs.declared.scanner.Move.TheVariants.{Stay, Enter, Leave}
 
 -- a text with a document has a tag
 abbrev pub IsTagged : List ℕ → Bool → Type 0

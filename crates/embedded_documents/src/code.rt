@@ -2,11 +2,11 @@
 ghost use Rattle.std.specs.Prelude.{◌≡◌, ◌<◌, ◌≤◌, IfSome, false, length, true};
 ghost use Rattle.embedded_documents.specs.Masked.{IsTag};
 ghost use Rattle.embedded_documents.specs.Steps.{IsMoveIn, IsTagged};
-ghost use Rattle.embedded_documents.specs.declared.scanning.Move.TheVariants.{Enter};
-ghost use Rattle.embedded_documents.specs.declared.scanning.Context.TheVariants.{Quoted};
+ghost use Rattle.embedded_documents.specs.declared.scanner.Move.TheVariants.{Enter};
+ghost use Rattle.embedded_documents.specs.declared.scanner.Context.TheVariants.{Quoted};
 
 use crate::quoted::{Opening, opening_at};
-use crate::scanning::{Context, HostLanguage, Move, Step};
+use crate::scanner::{Context, HostLanguage, Move, Step};
 use line_index::line_end;
 
 // Where the comment ends that begins at a byte.

@@ -7,9 +7,9 @@
 #![tactic(auto)]
 
 mod code;
-mod masking;
+mod masks;
 mod quoted;
-mod scanning;
+mod scanner;
 
-pub use masking::{is_in_document, masked};
-pub use scanning::HostLanguage;
+pub use masks::{is_in_document, masked};
+pub use scanner::HostLanguage;

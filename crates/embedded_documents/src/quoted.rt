@@ -2,7 +2,7 @@
 ghost use Rattle.std.specs.Prelude.{◌<◌, ◌≤◌, IfSome, length};
 ghost use Rattle.embedded_documents.specs.Steps.{IsMoveIn, IsTagged};
 
-use crate::scanning::{Context, HostLanguage, Move, Step};
+use crate::scanner::{Context, HostLanguage, Move, Step};
 
 // How a string or a template begins and ends: by a byte, or by three. In a raw one a backslash is only a backslash.
 #[derive(Clone, Copy)]

@@ -1,6 +1,6 @@
 // A limit on the cost of operations, as a gateway sets it.
 use apollo_parser::SyntaxNode;
-use operation_limits::{Figures, MeasureError, measure, within};
+use cost_limits::{Figures, MeasureError, measure, within};
 use std::alloc::{AllocError, Global};
 
 // At most two fields in one another, and a hundred in all.

@@ -1,6 +1,6 @@
 // A linter: the rules that need no schema.
 use apollo_parser::SyntaxNode;
-use apollo_validation::{message, validate_executable};
+use document_validation::{message, validate_executable};
 use line_index::LineIndex;
 use std::alloc::{AllocError, Global};
 

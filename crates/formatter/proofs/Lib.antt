@@ -1,3 +1,4 @@
 pub mod Ignored
 pub mod Parses
 pub mod Items
+pub mod lines

@@ -1,7 +1,7 @@
 //! Formats a GraphQL document: the same document with another layout, or the errors of a text that is no document.
 //!
 //! `format` parses the text and writes it anew. It keeps significant tokens and comments, in their order; only the optional sign before a first member may
-//! come or go, and block strings may be spelled anew, with the same value. `format_within`, which `gqlls_run` and `dumyroke_flat` call, has a bound on the
+//! come or go, and block strings may be spelled anew, with the same value. `format_within`, which `gqlls_run` and `c_parsing` call, has a bound on the
 //! formatted text. `gqlfmt_run` calls `Formatter` through the trait `DocumentFormatter`, so that it is proved without the code of the parser: one call also
 //! gives the errors that it shows, from the same parse, and another is for texts without definitions.
 #![tactic(auto)]
@@ -18,6 +18,7 @@ ghost use Rattle.formatter.specs.Formatted.{IsDocument, IsFormatted, IsNoDocumen
 
 mod comments;
 pub mod laws;
+mod line_ends;
 
 use apollo_parser::{
     BorrowedSyntaxTree, DocumentRoot, Error, IndexedElement, Lexer, Limits, Parser, own_errors,
@@ -26,6 +27,7 @@ pub use comments::{format_comments, has_no_definitions};
 use first_errors::{FirstErrors, first_errors};
 pub use format_layout::WriteError;
 use format_layout::{Elements, Gaps, format_document};
+pub use line_ends::{LineEnd, first_line_end, keeps_document, with_line_end};
 use std::alloc::{AllocError, Allocator};
 
 // A tree, as the layout reads it.

@@ -3,7 +3,7 @@
 //! Here are only the words, the standard devices and the exit status. What is done between them is `run` of `gqlcheck_run`.
 #![tactic(auto)]
 
-use byte_devices::{Patient, StdSink, StdSource, views, words};
+use byte_streams::{Patient, StdSink, StdSource, views, words};
 use gqlcheck_run::{Checker, run};
 use std::process::ExitCode;
 use std_files::StdFiles;

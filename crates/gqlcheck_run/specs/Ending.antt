@@ -1,10 +1,10 @@
 -- How checking a text ends: the status for it, what is written of it, and what is said.
 use Rattle.std.specs.Prelude.{◌≡◌, ◌↔◌, ℕ, Bool, true, false, List, [], Result, Ok, Err}
-use Rattle.byte_devices.specs.Devices.{Account}
-use Rattle.byte_devices.specs.declared.fault.Fault.{Fault}
+use Rattle.byte_streams.specs.Devices.{Account}
+use Rattle.byte_streams.specs.declared.fault.Fault.{Fault}
 use Rattle.document_checks.specs.Checking.{Asked, Passes}
-use Rattle.program_words.specs.Complaints.{Tells, TellsOfFile}
-use Rattle.program_words.specs.declared.complaints.FileFault.{FileFault}
+use Rattle.command_lines.specs.Complaints.{Tells, TellsOfFile}
+use Rattle.command_lines.specs.declared.complaints.FileFault.{FileFault}
 use Rattle.gqlcheck_run.specs.Places.{IsAboutFirst}
 use Rattle.gqlcheck_run.specs.declared.command.TheConstants.{PROGRAM}
 use Rattle.gqlcheck_run.specs.declared.job.Printing.{Printing}

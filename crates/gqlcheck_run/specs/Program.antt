@@ -1,23 +1,23 @@
 -- What a run of the program does, by the request in its words.
 use Rattle.std.specs.Prelude.{◌≡◌, ◌⊎◌, ℕ, Bool, List, [], ◌∷◌, codes, Option, Some, None, Result, Err}
 use Rattle.std.specs.declared.io.Error.{Error}
-use Rattle.byte_devices.specs.Devices.{Account}
-use Rattle.byte_devices.specs.Runs.{Reads, Writes}
-use Rattle.byte_devices.specs.declared.fault.Fault.{Fault}
+use Rattle.byte_streams.specs.Devices.{Account}
+use Rattle.byte_streams.specs.Runs.{Reads, Writes}
+use Rattle.byte_streams.specs.declared.fault.Fault.{Fault}
 use Rattle.document_checks.specs.Checking.{Asked}
-use Rattle.gqlfmt_files.specs.Listing.{Listing}
+use Rattle.file_access.specs.Listing.{Listing}
 use Rattle.named_files.specs.Finding.{FoundPath, file, unreadable, path_of}
 use Rattle.named_files.specs.Handling.{Desk, HandlesNamed, InTurn, ReadsAndWrites, State, desk, streams}
-use Rattle.program_words.specs.Gqlcheck.{most_of, operation_of, request_of}
-use Rattle.program_words.specs.Misuse.{IsAmong}
-use Rattle.program_words.specs.Options.{Given, is_set, limits_of}
-use Rattle.program_words.specs.Streams.{Streams, OnlyPrints, OnlySays, OnlyExplains, no_memory}
-use Rattle.program_words.specs.declared.complaints.FileFault.{FileFault}
-use Rattle.program_words.specs.declared.complaints.FileFault.TheVariants.{NotRead}
-use Rattle.program_words.specs.declared.information.Request.{Request}
-use Rattle.program_words.specs.declared.information.Request.TheVariants.{Print, Process}
-use Rattle.program_words.specs.declared.information.Information.{Information}
-use Rattle.program_words.specs.declared.information.Information.TheVariants.{Help, Version}
+use Rattle.command_lines.specs.Gqlcheck.{most_of, operation_of, request_of}
+use Rattle.command_lines.specs.Misuse.{IsAmong}
+use Rattle.command_lines.specs.Options.{Given, is_set, limits_of}
+use Rattle.command_lines.specs.Streams.{Streams, OnlyPrints, OnlySays, OnlyExplains, no_memory}
+use Rattle.command_lines.specs.declared.complaints.FileFault.{FileFault}
+use Rattle.command_lines.specs.declared.complaints.FileFault.TheVariants.{NotRead}
+use Rattle.command_lines.specs.declared.information.Request.{Request}
+use Rattle.command_lines.specs.declared.information.Request.TheVariants.{Print, Process}
+use Rattle.command_lines.specs.declared.information.Information.{Information}
+use Rattle.command_lines.specs.declared.information.Information.TheVariants.{Help, Version}
 use Rattle.gqlcheck_run.specs.declared.command.TheConstants.{PROGRAM, USAGE, HELP, VERSION}
 use Rattle.gqlcheck_run.specs.declared.job.Printing.{Printing}
 use Rattle.gqlcheck_run.specs.declared.texts.TheConstants.{INPUT}

@@ -1,16 +1,16 @@
 // Checking the files that paths of the command line name.
 ghost use Rattle.document_checks.specs.Checking.{as_asked};
-ghost use Rattle.program_words.specs.Words.{texts};
+ghost use Rattle.command_lines.specs.Words.{texts};
 ghost use Rattle.named_files.specs.Handling.{HandlesNamed};
 ghost use Rattle.gqlcheck_run.specs.Program.{ChecksFound, ChecksPaths};
 
 use crate::command::PROGRAM;
 use crate::job::Job;
-use byte_devices::{Fault, Sink};
+use byte_streams::{Fault, Sink};
+use command_lines::complaints::tell;
 use document_checks::DocumentChecker;
-use gqlfmt_files::Files;
+use file_access::Files;
 use named_files::named_files;
-use program_words::complaints::tell;
 use std::alloc::Allocator;
 
 impl<A: Allocator + Copy, C: DocumentChecker> Job<'_, '_, A, C> {

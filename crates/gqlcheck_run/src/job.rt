@@ -1,14 +1,14 @@
 // What a run does with each text.
 ghost use Rattle.std.specs.Prelude.{◌≢◌, IfErr, IfOk};
-ghost use Rattle.byte_devices.specs.Runs.{Writes};
-ghost use Rattle.byte_devices.specs.declared.fault.Fault.TheVariants.{Read};
+ghost use Rattle.byte_streams.specs.Runs.{Writes};
+ghost use Rattle.byte_streams.specs.declared.fault.Fault.TheVariants.{Read};
 ghost use Rattle.document_checks.specs.Checking.{as_asked};
 ghost use Rattle.gqlcheck_run.specs.Ending.{IsOutput};
 ghost use Rattle.gqlcheck_run.specs.Rendering.{BeginsAtFirst};
 
 use crate::json_lines::json_lines;
-use crate::rendering::rendered;
-use byte_devices::{Fault, Sink, write_all};
+use crate::report::rendered;
+use byte_streams::{Fault, Sink, write_all};
 use document_checks::{Checks, DocumentChecker, Report};
 use std::alloc::{AllocError, Allocator};
 

@@ -5,13 +5,13 @@
 #![tactic(auto)]
 
 mod command;
-mod ending;
 mod folders;
 mod job;
 mod json_lines;
+mod outcome;
 mod places;
 mod program;
-mod rendering;
+mod report;
 mod texts;
 
 pub use command::{HELP, USAGE, VERSION};

@@ -1,20 +1,20 @@
 // A run of the program.
 ghost use Rattle.std.specs.Prelude.{◌≡◌};
 ghost use Rattle.document_checks.specs.Checking.{as_asked};
-ghost use Rattle.program_words.specs.Words.{texts};
-ghost use Rattle.program_words.specs.Reading.{as_given};
+ghost use Rattle.command_lines.specs.Words.{texts};
+ghost use Rattle.command_lines.specs.Reading.{as_given};
 ghost use Rattle.gqlcheck_run.specs.Program.{ChecksTexts, Runs, asked_by, information_text, printing_of};
 
 use crate::command::{HELP, PROGRAM, USAGE, VERSION};
 use crate::job::{Job, Printing};
-use byte_devices::{Sink, Source};
+use byte_streams::{Sink, Source};
+use command_lines::gqlcheck::options;
+use command_lines::information::{Information, Request};
+use command_lines::misuse::WordsError;
+use command_lines::options::Plan;
+use command_lines::streams::{explain, print, say_no_memory};
 use document_checks::{Checks, DocumentChecker};
-use gqlfmt_files::Files;
-use program_words::gqlcheck::options;
-use program_words::information::{Information, Request};
-use program_words::misuse::WordsError;
-use program_words::options::Plan;
-use program_words::streams::{explain, print, say_no_memory};
+use file_access::Files;
 use std::alloc::Allocator;
 
 // How many findings of a text are printed at most.

@@ -1,19 +1,19 @@
 // Checking standard input, or files.
 ghost use Rattle.std.specs.Prelude.{ℕ, List, map};
-ghost use Rattle.byte_devices.specs.Runs.{Reads, Writes};
+ghost use Rattle.byte_streams.specs.Runs.{Reads, Writes};
 ghost use Rattle.document_checks.specs.Checking.{as_asked};
 ghost use Rattle.named_files.specs.Finding.{as_named};
 ghost use Rattle.named_files.specs.Handling.{InTurn, ReadsAndWrites};
 ghost use Rattle.gqlcheck_run.specs.Ending.{IsOutput};
 ghost use Rattle.gqlcheck_run.specs.Program.{ChecksFound, ChecksInput, HandlesFound};
 
-use crate::ending::{end, end_of_file};
 use crate::job::Job;
-use byte_devices::{Fault, Sink, Source, read_to_end};
+use crate::outcome::{end, end_of_file};
+use byte_streams::{Fault, Sink, Source, read_to_end};
+use command_lines::complaints::FileFault;
 use document_checks::DocumentChecker;
-use gqlfmt_files::Files;
+use file_access::Files;
 use named_files::Named;
-use program_words::complaints::FileFault;
 use std::alloc::Allocator;
 
 /// The name of standard input in messages.

@@ -4,7 +4,7 @@
 //! limits. Here are only the words, the standard devices and the exit status. What is done between them is `run` of `gqlcst_run`.
 #![tactic(auto)]
 
-use byte_devices::{StdSink, StdSource, views, words};
+use byte_streams::{StdSink, StdSource, views, words};
 use gqlcst_run::run;
 use std::process::ExitCode;
 

@@ -4,8 +4,8 @@ use Rattle.apollo_parser.specs.Cut.{Cut}
 use Rattle.apollo_parser.specs.Reads.{items_of}
 use Rattle.apollo_parser.specs.Answers.{Answer, limited}
 use Rattle.apollo_parser.specs.Diagnostics.{Diagnostic}
-use Rattle.program_words.specs.declared.gqlcst.Mode.{Mode}
-use Rattle.program_words.specs.declared.gqlcst.Mode.TheVariants.{Check, Tokens, Tree}
+use Rattle.command_lines.specs.declared.gqlcst.Mode.{Mode}
+use Rattle.command_lines.specs.declared.gqlcst.Mode.TheVariants.{Check, Tokens, Tree}
 use Rattle.apollo_parser.specs.declared.Limits.{Limits}
 use Rattle.gqlcst_run.specs.declared.finding.Finding.{Finding}
 use Rattle.gqlcst_run.specs.Parsing.{finding_of, IsFound}

@@ -1,9 +1,9 @@
 -- What was put in a buffer, and how much of it the writer has.
 use Rattle.std.specs.Prelude.{◌≡◌, ℕ, Bool, true, false, List, [], ◌++◌, take, Result, Ok, Err}
-use Rattle.byte_devices.specs.Devices.{Account, moved}
-use Rattle.byte_devices.specs.Writing.{IsTaken, IsBroken, EndsWriting}
+use Rattle.byte_streams.specs.Devices.{Account, moved}
+use Rattle.byte_streams.specs.Writing.{IsTaken, IsBroken, EndsWriting}
 use Rattle.gqlcst_run.specs.declared.output_buffer.OutputBuffer.{OutputBuffer}
-use Rattle.byte_devices.specs.declared.fault.Fault.{Fault}
+use Rattle.byte_streams.specs.declared.fault.Fault.{Fault}
 
 -- a buffer, and the account of the writer that it goes to
 abbrev pub Buffered : Type 0

@@ -1,9 +1,9 @@
 -- The status that the program ends with, and what it says on standard error.
 use Rattle.std.specs.Prelude.{◌≡◌, ℕ, List, codes, Result, Ok, Err}
-use Rattle.byte_devices.specs.Devices.{Account}
-use Rattle.byte_devices.specs.declared.fault.Fault.{Fault}
-use Rattle.byte_devices.specs.declared.fault.Fault.TheVariants.{Read, Utf8, Memory, Write}
-use Rattle.program_words.specs.Streams.{IsSaid}
+use Rattle.byte_streams.specs.Devices.{Account}
+use Rattle.byte_streams.specs.declared.fault.Fault.{Fault}
+use Rattle.byte_streams.specs.declared.fault.Fault.TheVariants.{Read, Utf8, Memory, Write}
+use Rattle.command_lines.specs.Streams.{IsSaid}
 use Rattle.gqlcst_run.specs.declared.finding.Finding.{Finding}
 use Rattle.gqlcst_run.specs.declared.finding.Finding.TheVariants.{Clean, Errors}
 

@@ -1,7 +1,7 @@
 -- Bytes that are passed to a writer which may have failed before.
 use Rattle.std.specs.Prelude.{◌≡◌, ℕ, Bool, true, false, List}
-use Rattle.byte_devices.specs.Devices.{Account, moved}
-use Rattle.byte_devices.specs.Writing.{IsBroken}
+use Rattle.byte_streams.specs.Devices.{Account, moved}
+use Rattle.byte_streams.specs.Writing.{IsBroken}
 
 -- The writer was left alone if it had failed; or it took all of the bytes, or it fails now.
 abbrev pub IsPassed : Bool → List ℕ → Account → Bool → Account → Type 0

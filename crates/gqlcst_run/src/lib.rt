@@ -5,11 +5,11 @@
 #![tactic(auto)]
 
 mod command;
-mod ending;
 mod finding;
+mod outcome;
 mod output_buffer;
 mod parsing;
 mod program;
-mod rendering;
+mod report;
 
 pub use program::run;

@@ -2,7 +2,7 @@
 ghost use Rattle.std.specs.Prelude.{◌≡◌, ◌+◌, ◌≤◌, [], ◌++◌, length, take};
 ghost use Rattle.gqlcst_run.specs.Passing.{IsPassed};
 
-use byte_devices::{Fault, Sink, write_all};
+use byte_streams::{Fault, Sink, write_all};
 
 // How many bytes a buffer holds.
 const SIZE: usize = 65536;

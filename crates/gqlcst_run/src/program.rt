@@ -1,22 +1,22 @@
 // A run of the program: it reads, parses and writes.
 ghost use Rattle.std.specs.Prelude.{◌≡◌, List, ℕ, IfOk, OnErr};
-ghost use Rattle.byte_devices.specs.Runs.{Reads, Writes};
-ghost use Rattle.program_words.specs.Words.{texts};
+ghost use Rattle.byte_streams.specs.Runs.{Reads, Writes};
+ghost use Rattle.command_lines.specs.Words.{texts};
 ghost use Rattle.gqlcst_run.specs.Buffering.{PutsSome};
 ghost use Rattle.gqlcst_run.specs.Program.{IsOutput, Runs, information_text};
 
 use crate::command::{HELP, PROGRAM, USAGE, VERSION};
-use crate::ending::end;
 use crate::finding::Finding;
+use crate::outcome::end;
 use crate::output_buffer::OutputBuffer;
 use crate::parsing::{lexer, parse};
-use crate::rendering::{put_errors, put_tokens, put_tree};
+use crate::report::{put_errors, put_tokens, put_tree};
 use apollo_parser::Limits;
-use byte_devices::{Fault, Sink, Source, read_to_end};
-use program_words::gqlcst::{Mode, options};
-use program_words::information::{Information, Request};
-use program_words::misuse::WordsError;
-use program_words::streams::{explain, print, say_no_memory};
+use byte_streams::{Fault, Sink, Source, read_to_end};
+use command_lines::gqlcst::{Mode, options};
+use command_lines::information::{Information, Request};
+use command_lines::misuse::WordsError;
+use command_lines::streams::{explain, print, say_no_memory};
 use std::alloc::{AllocError, Allocator};
 
 fn information_text(page: Information) -> &'static str

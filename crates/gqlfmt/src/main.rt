@@ -4,7 +4,7 @@
 //! between them is `run` of `gqlfmt_run`.
 #![tactic(auto)]
 
-use byte_devices::{Patient, StdSink, StdSource, views, words};
+use byte_streams::{Patient, StdSink, StdSource, views, words};
 use gqlfmt_run::{Formatter, run};
 use std::process::ExitCode;
 use std_files::StdFiles;

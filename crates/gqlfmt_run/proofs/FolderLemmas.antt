@@ -1,10 +1,10 @@
 -- The paths of the command line.
 use Rattle.std.proofs.Common.{◌≡◌, ℕ, ◌<◌, Bool, List, [], ◌∷◌, length, arith, Result, Bor}
 use Rattle.std.specs.declared.io.Error.{Error}
-use Rattle.gqlfmt_files.specs.Listing.{Listing}
-use Rattle.gqlfmt_files.specs.declared.settling.Mode.{Mode}
+use Rattle.file_access.specs.Listing.{Listing}
+use Rattle.command_lines.specs.declared.gqlfmt.Mode.{Mode}
 use Rattle.named_files.specs.Handling.{State, desk}
-use Rattle.program_words.specs.Words.{texts}
+use Rattle.command_lines.specs.Words.{texts}
 use Rattle.gqlfmt_run.specs.declared.job.Bounds.{Bounds}
 use Rattle.gqlfmt_run.specs.Folders.{HandlesPaths}
 use Rattle.gqlfmt_run.specs.Program.{Formats}

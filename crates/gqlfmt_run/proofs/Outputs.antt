@@ -1,11 +1,11 @@
 -- What is written of a text, by the formatter's result for it.
 use Rattle.std.proofs.Common.{◌≡◌, ◌≢◌, ℕ, List, [], inl, inr, sym, subst}
-use Rattle.gqlfmt_files.specs.declared.settling.Mode.{Mode}
-use Rattle.gqlfmt_files.specs.declared.settling.Mode.TheVariants.{Write, Check, Diff, Print}
-use Rattle.gqlfmt_files.specs.declared.settling.Settled.TheVariants as settled
-use Rattle.gqlfmt_files.specs.declared.settling.Settled.TheVariants.{Done}
-use Rattle.gqlfmt_run.specs.declared.formatting.Refusal.{Refusal}
-use Rattle.gqlfmt_run.specs.declared.formatting.Refusal.TheVariants.{Errors, Outgrown, TooLong}
+use Rattle.command_lines.specs.declared.gqlfmt.Mode.{Mode}
+use Rattle.command_lines.specs.declared.gqlfmt.Mode.TheVariants.{Write, Check, Diff, Print}
+use Rattle.gqlfmt_run.specs.declared.settlement.Settled.TheVariants as settled
+use Rattle.gqlfmt_run.specs.declared.settlement.Settled.TheVariants.{Done}
+use Rattle.gqlfmt_run.specs.declared.revision.Refusal.{Refusal}
+use Rattle.gqlfmt_run.specs.declared.revision.Refusal.TheVariants.{Errors, Outgrown, TooLong}
 use Rattle.gqlfmt_run.specs.declared.job.Bounds.{Bounds}
 use Rattle.gqlfmt_run.specs.Formatting.{IsLaidOut, IsRefused, IsRefusedFor, IsChanged, IsShown}
 use Rattle.gqlfmt_run.specs.Input.{IsOutput, kept, settled_of}

@@ -3,18 +3,18 @@ use Rattle.std.proofs.Common.{◌≡◌, ◌∙◌, ℕ, Bool, List, inl, inr, s
 use Rattle.std.specs.Prelude.{Ok}
 use Rattle.std.specs.Str.{IsUtf8}
 use Rattle.std.specs.declared.io.Error.{Error}
-use Rattle.byte_devices.specs.Devices.{Account}
-use Rattle.gqlfmt_files.specs.declared.settling.Mode.{Mode}
-use Rattle.gqlfmt_files.specs.declared.settling.Mode.TheVariants.{Write}
-use Rattle.gqlfmt_files.specs.declared.settling.Revised.{Revised}
-use Rattle.gqlfmt_files.specs.declared.settling.Revised.TheVariants.{Same, Changed, Refused}
-use Rattle.gqlfmt_files.specs.declared.settling.Settled.{Settled}
-use Rattle.gqlfmt_files.specs.declared.settling.Settled.TheVariants as settled
-use Rattle.gqlfmt_files.specs.declared.settling.Settled.TheVariants.{Done, Found}
-use Rattle.gqlfmt_files.specs.Settling.{Settles}
-use Rattle.program_words.specs.declared.complaints.FileFault.{FileFault}
+use Rattle.byte_streams.specs.Devices.{Account}
+use Rattle.command_lines.specs.declared.gqlfmt.Mode.{Mode}
+use Rattle.command_lines.specs.declared.gqlfmt.Mode.TheVariants.{Write}
+use Rattle.gqlfmt_run.specs.declared.settlement.Revised.{Revised}
+use Rattle.gqlfmt_run.specs.declared.settlement.Revised.TheVariants.{Same, Changed, Refused}
+use Rattle.gqlfmt_run.specs.declared.settlement.Settled.{Settled}
+use Rattle.gqlfmt_run.specs.declared.settlement.Settled.TheVariants as settled
+use Rattle.gqlfmt_run.specs.declared.settlement.Settled.TheVariants.{Done, Found}
+use Rattle.gqlfmt_run.specs.Settling.{Settles}
+use Rattle.command_lines.specs.declared.complaints.FileFault.{FileFault}
 use Rattle.gqlfmt_run.specs.declared.job.Bounds.{Bounds}
-use Rattle.gqlfmt_run.specs.declared.formatting.Refusal.{Refusal}
+use Rattle.gqlfmt_run.specs.declared.revision.Refusal.{Refusal}
 use Rattle.gqlfmt_run.specs.Complaints.{Complains, IsSilent}
 use Rattle.gqlfmt_run.specs.Formatting.{IsRevised}
 use Rattle.gqlfmt_run.specs.Paths.{FollowsText, Rewrites}

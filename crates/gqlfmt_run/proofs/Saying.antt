@@ -2,23 +2,23 @@
 use Rattle.std.proofs.Common.{◌≡◌, ℕ, Bool, List, [], length, refl, sym, ap, ◌∙◌, subst, arith, length-append, Result}
 use Rattle.std.specs.Prelude.{Ok, Err}
 use Rattle.std.specs.declared.io.Error.{Error}
-use Rattle.byte_devices.specs.Devices.{Account}
-use Rattle.byte_devices.specs.Writing.{EndsWriting}
-use Rattle.byte_devices.specs.declared.fault.Fault.{Fault}
-use Rattle.byte_devices.specs.declared.fault.Fault.TheVariants.{Read, Utf8, Memory, Write}
-use Rattle.gqlfmt_files.specs.Settling.{Settles}
-use Rattle.gqlfmt_files.specs.declared.settling.Mode.{Mode}
-use Rattle.gqlfmt_files.specs.declared.settling.Mode.TheVariants as mode
-use Rattle.gqlfmt_files.specs.declared.settling.Revised.{Revised}
-use Rattle.gqlfmt_files.specs.declared.settling.Revised.TheVariants as revised
-use Rattle.gqlfmt_files.specs.declared.settling.Settled.{Settled}
-use Rattle.gqlfmt_files.specs.declared.settling.Settled.TheVariants.{Done, Found, Refused}
-use Rattle.program_words.specs.Complaints.{Tells}
-use Rattle.program_words.specs.declared.complaints.FileFault.{FileFault}
+use Rattle.byte_streams.specs.Devices.{Account}
+use Rattle.byte_streams.specs.Writing.{EndsWriting}
+use Rattle.byte_streams.specs.declared.fault.Fault.{Fault}
+use Rattle.byte_streams.specs.declared.fault.Fault.TheVariants.{Read, Utf8, Memory, Write}
+use Rattle.gqlfmt_run.specs.Settling.{Settles}
+use Rattle.command_lines.specs.declared.gqlfmt.Mode.{Mode}
+use Rattle.command_lines.specs.declared.gqlfmt.Mode.TheVariants as mode
+use Rattle.gqlfmt_run.specs.declared.settlement.Revised.{Revised}
+use Rattle.gqlfmt_run.specs.declared.settlement.Revised.TheVariants as revised
+use Rattle.gqlfmt_run.specs.declared.settlement.Settled.{Settled}
+use Rattle.gqlfmt_run.specs.declared.settlement.Settled.TheVariants.{Done, Found, Refused}
+use Rattle.command_lines.specs.Complaints.{Tells}
+use Rattle.command_lines.specs.declared.complaints.FileFault.{FileFault}
 use Rattle.gqlfmt_run.specs.Complaints.{Complains, IsSilent, Says, SaysFault, SaysFileFault, SaysOfFile, SaysReason, TellsOfFileAndCopy}
 use Rattle.gqlfmt_run.specs.Formatting.{IsRevised}
 use Rattle.gqlfmt_run.specs.declared.command.TheConstants.{PROGRAM}
-use Rattle.gqlfmt_run.specs.declared.formatting.Refusal.{Refusal}
+use Rattle.gqlfmt_run.specs.declared.revision.Refusal.{Refusal}
 use Rattle.gqlfmt_run.specs.declared.job.Bounds.{Bounds}
 
 module _ (bounds : Bounds) (name : List ℕ) where

@@ -5,9 +5,9 @@ use Rattle.document_grammar.specs.Derivation.{nest}
 use Rattle.formatter.specs.Formatted as format
 use Rattle.formatter.specs.Lengths.{longest_layout}
 use Rattle.formatter.specs.Within.{HasCommentsAlone}
-use Rattle.line_ends.specs.declared.LineEnd.{LineEnd}
-use Rattle.line_ends.specs.declared.LineEnd.TheVariants.{Lf, Crlf}
-use Rattle.line_ends.specs.LineEnds.{end_bytes}
+use Rattle.formatter.specs.declared.line_ends.LineEnd.{LineEnd}
+use Rattle.formatter.specs.declared.line_ends.LineEnd.TheVariants.{Lf, Crlf}
+use Rattle.formatter.specs.LineEnds.{end_bytes}
 use Rattle.gqlfmt_run.specs.declared.job.Bounds.{Bounds}
 use Rattle.gqlfmt_run.specs.Formatting.{HasLayout, IsTooLong, line_end_of, most_of, nesting_of}
 

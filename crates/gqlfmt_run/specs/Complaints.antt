@@ -4,21 +4,21 @@ use Rattle.std.specs.declared.io.Error.{Error}
 use Rattle.apollo_parser.specs.Diagnostics.{Diagnostic}
 use Rattle.apollo_parser.specs.Errors.{error_of}
 use Rattle.apollo_parser.specs.declared.Limits.{Limits}
-use Rattle.byte_devices.specs.Devices.{Account}
-use Rattle.byte_devices.specs.declared.fault.Fault.{Fault}
+use Rattle.byte_streams.specs.Devices.{Account}
+use Rattle.byte_streams.specs.declared.fault.Fault.{Fault}
 use Rattle.first_errors.specs.Places.{IsFirstErrorOf, shown_at}
-use Rattle.gqlfmt_files.specs.declared.settling.Revised.{Revised}
-use Rattle.gqlfmt_files.specs.declared.settling.Revised.TheVariants as revised
-use Rattle.gqlfmt_files.specs.declared.settling.Settled.{Settled}
-use Rattle.gqlfmt_files.specs.declared.settling.Settled.TheVariants.{Done, Found, Refused}
+use Rattle.gqlfmt_run.specs.declared.settlement.Revised.{Revised}
+use Rattle.gqlfmt_run.specs.declared.settlement.Revised.TheVariants as revised
+use Rattle.gqlfmt_run.specs.declared.settlement.Settled.{Settled}
+use Rattle.gqlfmt_run.specs.declared.settlement.Settled.TheVariants.{Done, Found, Refused}
 use Rattle.marked_lines.specs.Places.{BeginsWith, OfFirst, place}
-use Rattle.program_words.specs.Complaints.{Tells, TellsOfFile, line_about}
-use Rattle.program_words.specs.Streams.{IsSaid}
-use Rattle.program_words.specs.declared.complaints.FileFault.{FileFault}
-use Rattle.program_words.specs.declared.complaints.FileFault.TheVariants.{NotRead, NotReplaced, Device}
+use Rattle.command_lines.specs.Complaints.{Tells, TellsOfFile, line_about}
+use Rattle.command_lines.specs.Streams.{IsSaid}
+use Rattle.command_lines.specs.declared.complaints.FileFault.{FileFault}
+use Rattle.command_lines.specs.declared.complaints.FileFault.TheVariants.{NotRead, NotReplaced, Device}
 use Rattle.gqlfmt_run.specs.Formatting.{HasErrors, HasOutgrown, IsRefusedFor, IsTooLong}
 use Rattle.gqlfmt_run.specs.declared.command.TheConstants.{PROGRAM}
-use Rattle.gqlfmt_run.specs.declared.formatting.Refusal.{Refusal}
+use Rattle.gqlfmt_run.specs.declared.revision.Refusal.{Refusal}
 use Rattle.gqlfmt_run.specs.declared.job.Bounds.{Bounds}
 use Rattle.gqlfmt_run.specs.declared.report.TheConstants.{COPY_ADVICE, OUTGROWN, TOO_LONG}
 

@@ -1,11 +1,11 @@
 -- What happens to the files that paths of the command line name.
 use Rattle.std.specs.Prelude.{◌≡◌, ℕ, Bool, true, false, List, Result, Ok, Err}
 use Rattle.std.specs.declared.io.Error.{Error}
-use Rattle.gqlfmt_files.specs.Listing.{Listing}
-use Rattle.gqlfmt_files.specs.declared.settling.Mode.{Mode}
+use Rattle.file_access.specs.Listing.{Listing}
+use Rattle.command_lines.specs.declared.gqlfmt.Mode.{Mode}
 use Rattle.named_files.specs.Handling.{Desk, HandlesNamed, InTurn}
-use Rattle.program_words.specs.Complaints.{TellsOfFile}
-use Rattle.program_words.specs.declared.complaints.FileFault.TheVariants.{NotRead}
+use Rattle.command_lines.specs.Complaints.{TellsOfFile}
+use Rattle.command_lines.specs.declared.complaints.FileFault.TheVariants.{NotRead}
 use Rattle.gqlfmt_run.specs.declared.command.TheConstants.{PROGRAM}
 use Rattle.gqlfmt_run.specs.declared.job.Bounds.{Bounds}
 use Rattle.gqlfmt_run.specs.Paths.{FormatsFound}

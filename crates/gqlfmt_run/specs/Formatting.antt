@@ -9,19 +9,19 @@ use Rattle.formatter.specs.Formatted as format
 use Rattle.formatter.specs.Lengths.{longest_layout}
 use Rattle.formatter.specs.Within.{IsFormattedWithin, IsOutgrown, HasCommentsAlone, AreCommentsWithin, AreCommentsOutgrown}
 use Rattle.apollo_parser.specs.declared.Limits.{Limits}
-use Rattle.line_ends.specs.declared.LineEnd.{LineEnd}
-use Rattle.line_ends.specs.declared.LineEnd.TheVariants as end
-use Rattle.line_ends.specs.LineEnds.{HasLineEnd, end_bytes, first_line_end}
-use Rattle.program_words.specs.declared.gqlfmt.LineEndings.{LineEndings}
-use Rattle.program_words.specs.declared.gqlfmt.LineEndings.TheVariants.{Lf, Crlf, Keep}
+use Rattle.formatter.specs.declared.line_ends.LineEnd.{LineEnd}
+use Rattle.formatter.specs.declared.line_ends.LineEnd.TheVariants as end
+use Rattle.formatter.specs.LineEnds.{HasLineEnd, end_bytes, first_line_end}
+use Rattle.command_lines.specs.declared.gqlfmt.LineEndings.{LineEndings}
+use Rattle.command_lines.specs.declared.gqlfmt.LineEndings.TheVariants.{Lf, Crlf, Keep}
 use Rattle.gqlfmt_run.specs.declared.job.Bounds.{Bounds}
-use Rattle.gqlfmt_run.specs.declared.formatting.Refusal.{Refusal}
-use Rattle.gqlfmt_run.specs.declared.formatting.Refusal.TheVariants.{Errors, Outgrown, TooLong}
-use Rattle.gqlfmt_files.specs.declared.settling.Mode.{Mode}
+use Rattle.gqlfmt_run.specs.declared.revision.Refusal.{Refusal}
+use Rattle.gqlfmt_run.specs.declared.revision.Refusal.TheVariants.{Errors, Outgrown, TooLong}
+use Rattle.command_lines.specs.declared.gqlfmt.Mode.{Mode}
 use Rattle.gqlfmt_run.specs.Quoting.{head_name, quoted}
-use Rattle.gqlfmt_files.specs.declared.settling.Mode.TheVariants.{Write, Check, Diff, Print}
-use Rattle.gqlfmt_files.specs.declared.settling.Revised.{Revised}
-use Rattle.gqlfmt_files.specs.declared.settling.Revised.TheVariants.{Same, Changed, Refused}
+use Rattle.command_lines.specs.declared.gqlfmt.Mode.TheVariants.{Write, Check, Diff, Print}
+use Rattle.gqlfmt_run.specs.declared.settlement.Revised.{Revised}
+use Rattle.gqlfmt_run.specs.declared.settlement.Revised.TheVariants.{Same, Changed, Refused}
 
 -- How many bytes a formatted text may have: as many as are said, or else 64 MiB, or 16 for each byte of the source if these are more.
 abbrev pub most_of : Option ℕ → List ℕ → ℕ

@@ -1,8 +1,9 @@
-pub mod Status
-pub mod Quoting
-pub mod Formatting
 pub mod Complaints
+pub mod Folders
+pub mod Formatting
 pub mod Input
 pub mod Paths
-pub mod Folders
 pub mod Program
+pub mod Quoting
+pub mod Settling
+pub mod Status

@@ -2,19 +2,19 @@
 use Rattle.std.specs.Prelude.{◌≡◌, ◌⊎◌, ℕ, Bool, true, false, List, Result, Ok, Err}
 use Rattle.std.specs.Str.{IsUtf8}
 use Rattle.std.specs.declared.io.Error.{Error}
-use Rattle.byte_devices.specs.Devices.{Account}
-use Rattle.byte_devices.specs.declared.fault.Fault.TheVariants.{Read, Utf8, Memory}
-use Rattle.byte_devices.specs.declared.fault.Fault.TheVariants as fault
+use Rattle.byte_streams.specs.Devices.{Account}
+use Rattle.byte_streams.specs.declared.fault.Fault.TheVariants.{Read, Utf8, Memory}
+use Rattle.byte_streams.specs.declared.fault.Fault.TheVariants as fault
 use Rattle.gqlfmt_run.specs.declared.job.Bounds.{Bounds}
-use Rattle.gqlfmt_files.specs.declared.settling.Mode.{Mode}
-use Rattle.gqlfmt_files.specs.declared.settling.Mode.TheVariants.{Write}
-use Rattle.gqlfmt_files.specs.declared.settling.Settled.{Settled}
-use Rattle.gqlfmt_files.specs.declared.settling.Settled.TheVariants.{Done, Found, Refused}
+use Rattle.command_lines.specs.declared.gqlfmt.Mode.{Mode}
+use Rattle.command_lines.specs.declared.gqlfmt.Mode.TheVariants.{Write}
+use Rattle.gqlfmt_run.specs.declared.settlement.Settled.{Settled}
+use Rattle.gqlfmt_run.specs.declared.settlement.Settled.TheVariants.{Done, Found, Refused}
 use Rattle.named_files.specs.Finding.{FoundPath, file, unreadable, path_of}
 use Rattle.named_files.specs.Handling as handling
 use Rattle.named_files.specs.Handling.{Desk}
-use Rattle.program_words.specs.declared.complaints.FileFault.{FileFault}
-use Rattle.program_words.specs.declared.complaints.FileFault.TheVariants.{NotRead, NotReplaced, Device}
+use Rattle.command_lines.specs.declared.complaints.FileFault.{FileFault}
+use Rattle.command_lines.specs.declared.complaints.FileFault.TheVariants.{NotRead, NotReplaced, Device}
 use Rattle.gqlfmt_run.specs.Complaints.{SaysOfFile}
 use Rattle.gqlfmt_run.specs.Formatting.{IsLaidOut, IsRefused, IsChanged}
 use Rattle.gqlfmt_run.specs.Input.{IsOutput}

@@ -1,7 +1,7 @@
 -- The status that the program ends with.
 use Rattle.std.specs.Prelude.{ℕ, Result, Ok, Err}
-use Rattle.gqlfmt_files.specs.declared.settling.Settled.{Settled}
-use Rattle.gqlfmt_files.specs.declared.settling.Settled.TheVariants.{Done, Found, Refused}
+use Rattle.gqlfmt_run.specs.declared.settlement.Settled.{Settled}
+use Rattle.gqlfmt_run.specs.declared.settlement.Settled.TheVariants.{Done, Found, Refused}
 
 -- 0 where a text has the layout, 1 where it was found to have another one, 2 where it is refused or was not formatted for another reason
 abbrev pub status_of : {E : Type 0} → Result Settled E → ℕ

@@ -3,7 +3,7 @@ ghost use Rattle.std.specs.Prelude.{◌≡◌, ◌≢◌, ◌≤◌, ◌<◌, []
 ghost use Rattle.gqlfmt_run.specs.Formatting.{IsDiff};
 
 use crate::edits::{Edit, edits};
-use crate::quoting::head_name;
+use crate::quoted_names::head_name;
 use std::alloc::{AllocError, Allocator};
 
 // How many lines are shown before and after an edit.

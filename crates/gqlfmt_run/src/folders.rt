@@ -1,14 +1,14 @@
 // Formatting the files that paths of the command line name.
-ghost use Rattle.program_words.specs.Words.{texts};
+ghost use Rattle.command_lines.specs.Words.{texts};
 ghost use Rattle.gqlfmt_run.specs.Folders.{FormatsNamed, HandlesPath, HandlesPaths};
 
 use crate::command::PROGRAM;
 use crate::job::Job;
-use byte_devices::{Fault, Sink};
+use byte_streams::{Fault, Sink};
+use command_lines::complaints::{FileFault, tell, tell_of_file};
+use file_access::Files;
 use formatter::DocumentFormatter;
-use gqlfmt_files::Files;
 use named_files::named_files;
-use program_words::complaints::{FileFault, tell, tell_of_file};
 use std::alloc::Allocator;
 
 impl<A: Allocator + Copy, L: DocumentFormatter> Job<'_, A, L> {

@@ -1,16 +1,17 @@
 // Formatting standard input.
 ghost use Rattle.std.specs.Prelude.{◌≡◌, ◌≢◌, ℕ, List, [], Ok, IfErr, IfOk, MatchResult, string_bytes};
-ghost use Rattle.byte_devices.specs.Runs.{Reads, Writes};
-ghost use Rattle.byte_devices.specs.declared.fault.Fault.TheVariants.{Read};
-ghost use Rattle.gqlfmt_files.specs.declared.settling.Settled.TheVariants.{Refused};
+ghost use Rattle.byte_streams.specs.Runs.{Reads, Writes};
+ghost use Rattle.byte_streams.specs.declared.fault.Fault.TheVariants.{Read};
+ghost use Rattle.gqlfmt_run.specs.declared.settlement.Settled.TheVariants.{Refused};
 ghost use Rattle.gqlfmt_run.specs.Complaints.{IsSilent};
 ghost use Rattle.gqlfmt_run.specs.Input.{IsOutput, PassesOn, kept, settled_of};
 
 use crate::job::Job;
-use crate::showing::shown;
-use byte_devices::{Fault, Sink, Source, read_to_end, write_all};
+use crate::settlement::{Revised, Settled};
+use crate::shown_changes::shown;
+use byte_streams::{Fault, Sink, Source, read_to_end, write_all};
+use command_lines::gqlfmt::Mode;
 use formatter::DocumentFormatter;
-use gqlfmt_files::{Mode, Revised, Settled};
 use std::alloc::{AllocError, Allocator};
 
 // What is written of a text that has the layout.

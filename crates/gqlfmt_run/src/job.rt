@@ -3,9 +3,8 @@ ghost use Rattle.std.specs.Prelude.{◌≡◌};
 ghost use Rattle.gqlfmt_run.specs.Formatting.{line_end_of, most_of};
 
 use apollo_parser::Limits;
-use gqlfmt_files::Mode;
-use line_ends::{LineEnd, first_line_end};
-use program_words::gqlfmt::LineEndings;
+use command_lines::gqlfmt::{LineEndings, Mode};
+use formatter::{LineEnd, first_line_end};
 use std::alloc::Allocator;
 
 // How many bytes a formatted text may have where no number is said, in all or for each byte of its source, whichever is more.

@@ -8,21 +8,22 @@
 mod command;
 mod diff;
 mod edits;
-mod ending;
 mod folders;
-mod formatting;
 mod input;
 mod job;
+mod outcome;
 mod paths;
 mod program;
-mod quoting;
+mod quoted_names;
 mod report;
-mod showing;
+mod revision;
+mod settlement;
+mod shown_changes;
 
 pub use apollo_parser::Limits;
 pub use command::{HELP, USAGE, VERSION};
+pub use command_lines::gqlfmt::INPUT;
 pub use diff::unified_diff;
 pub use formatter::{DocumentFormatter, Formatter};
 pub use job::{Bounds, Job};
 pub use program::run;
-pub use program_words::gqlfmt::INPUT;

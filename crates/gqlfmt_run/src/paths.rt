@@ -3,18 +3,20 @@ ghost use Rattle.std.specs.Prelude.{◌≡◌, ℕ, List, Result, map};
 ghost use Rattle.std.specs.declared.io.Error.{Error};
 ghost use Rattle.named_files.specs.Finding.{as_named, path_of};
 ghost use Rattle.named_files.specs.Handling.{FollowsRead, InTurn};
-ghost use Rattle.gqlfmt_files.specs.declared.settling.Mode.TheVariants.{Write};
+ghost use Rattle.command_lines.specs.declared.gqlfmt.Mode.TheVariants.{Write};
 ghost use Rattle.gqlfmt_run.specs.Complaints.{IsSilent};
 ghost use Rattle.gqlfmt_run.specs.Input.{IsOutput};
 ghost use Rattle.gqlfmt_run.specs.Paths.{FormatsFound, HandlesFile, HandlesFound, Rewrites};
 
-use crate::ending::end_of_file;
 use crate::job::Job;
-use byte_devices::{Fault, Sink};
+use crate::outcome::end_of_file;
+use crate::settlement::{Settled, settle};
+use byte_streams::{Fault, Sink};
+use command_lines::complaints::FileFault;
+use command_lines::gqlfmt::Mode;
+use file_access::Files;
 use formatter::DocumentFormatter;
-use gqlfmt_files::{Files, Mode, Settled, settle};
 use named_files::Named;
-use program_words::complaints::FileFault;
 use std::alloc::Allocator;
 
 impl<A: Allocator + Copy, L: DocumentFormatter> Job<'_, A, L> {

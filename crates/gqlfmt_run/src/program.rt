@@ -1,19 +1,19 @@
 // A run of the program.
 ghost use Rattle.std.specs.Prelude.{◌≡◌};
-ghost use Rattle.program_words.specs.Words.{texts};
+ghost use Rattle.command_lines.specs.Words.{texts};
 ghost use Rattle.gqlfmt_run.specs.Program.{information_text, FormatsInput, Formats, HandlesInput, KeepsInput, Runs};
 
 use crate::command::{HELP, PROGRAM, USAGE, VERSION};
-use crate::ending::end;
 use crate::job::{Bounds, Job};
-use byte_devices::{Sink, Source};
+use crate::outcome::end;
+use byte_streams::{Sink, Source};
+use command_lines::complaints::{FileFault, tell_of_file};
+use command_lines::gqlfmt::{INPUT, options};
+use command_lines::information::{Information, Request};
+use command_lines::misuse::WordsError;
+use command_lines::streams::{explain, print, say_no_memory};
+use file_access::Files;
 use formatter::DocumentFormatter;
-use gqlfmt_files::Files;
-use program_words::complaints::{FileFault, tell_of_file};
-use program_words::gqlfmt::{INPUT, options};
-use program_words::information::{Information, Request};
-use program_words::misuse::WordsError;
-use program_words::streams::{explain, print, say_no_memory};
 use std::alloc::Allocator;
 
 fn information_text(page: Information) -> &'static str

@@ -7,16 +7,17 @@ ghost use Rattle.gqlfmt_run.specs.Complaints.{Complains, IsReason, MayMentionCop
 ghost use Rattle.gqlfmt_run.specs.Formatting.{IsRefusedFor};
 
 use crate::command::PROGRAM;
-use crate::formatting::Refusal;
 use crate::job::Job;
+use crate::revision::Refusal;
+use crate::settlement::Revised;
 use apollo_parser::BorrowedError;
-use byte_devices::Sink;
+use byte_streams::Sink;
+use command_lines::complaints::FileFault;
+use command_lines::streams::say;
+use file_access::Files;
 use first_errors::{FirstErrors, for_people, shown_at};
-use gqlfmt_files::{Files, Revised};
 use line_index::LineIndex;
 use marked_lines::{Remark, complaint, push_message, push_more};
-use program_words::complaints::FileFault;
-use program_words::streams::say;
 use std::alloc::{AllocError, Allocator};
 
 // Why a text is left as it is, where it has no errors.

@@ -1,10 +1,10 @@
 //! `gqlls` is a language server for GraphQL documents over standard input and output.
 //!
-//! Here are only the words, the standard devices and the exit status. What is done between them is `run` of `gqlls_files`.
+//! Here are only the words, the standard devices and the exit status. What is done between them is `run` of `gqlls_program`.
 #![tactic(auto)]
 
-use byte_devices::{StdSink, StdSource, views, words};
-use gqlls_files::run;
+use byte_streams::{StdSink, StdSource, views, words};
+use gqlls_program::run;
 use std::process::ExitCode;
 use std_files::StdFiles;
 

@@ -9,7 +9,7 @@ use Rattle.editor_diagnostics.specs.Remarks.{Remarked}
 use Rattle.editor_validation.specs.Fragments.{Fragments}
 use Rattle.editor_validation.proofs.SameRemarks.{same-remarks}
 use Rattle.embedded_documents.specs.Masked.{IsMasked}
-use Rattle.embedded_documents.specs.declared.scanning.HostLanguage.{HostLanguage}
+use Rattle.embedded_documents.specs.declared.scanner.HostLanguage.{HostLanguage}
 use Rattle.formatter.specs.Comments.{HasNoDefinitions}
 use Rattle.gqlls_run.specs.Files.{OpenFile}
 use Rattle.gqlls_run.specs.Parsing.{IsParse}

@@ -6,7 +6,7 @@ use Rattle.line_index.specs.Positions.{units}
 use Rattle.line_index.specs.declared.PositionEncoding.{PositionEncoding}
 use Rattle.line_index.specs.declared.PositionEncoding.TheVariants.{Utf16}
 use Rattle.editor_text.specs.Client.{replaced}
-use Rattle.embedded_documents.specs.declared.scanning.HostLanguage.{HostLanguage}
+use Rattle.embedded_documents.specs.declared.scanner.HostLanguage.{HostLanguage}
 use Rattle.editor_validation.specs.Fragments.{Fragments}
 use Rattle.file_uris.specs.Uris.{normalized}
 use Rattle.gqlls_run.specs.Files.{OpenFile}

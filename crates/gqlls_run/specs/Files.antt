@@ -4,8 +4,8 @@ use Rattle.std.specs.Prelude.{codes, bytes_eq}
 use Rattle.apollo_parser.specs.declared.Limits.{Limits}
 use Rattle.editor_text.specs.Client.{Opened}
 use Rattle.embedded_documents.specs.Masked.{IsMasked}
-use Rattle.embedded_documents.specs.declared.scanning.HostLanguage.{HostLanguage}
-use Rattle.embedded_documents.specs.declared.scanning.HostLanguage.TheVariants.{JavaScript, Python}
+use Rattle.embedded_documents.specs.declared.scanner.HostLanguage.{HostLanguage}
+use Rattle.embedded_documents.specs.declared.scanner.HostLanguage.TheVariants.{JavaScript, Python}
 
 -- a file: its text, its language where that isn't GraphQL, and the limits of its parse
 pub record OpenFile : Type 0 where

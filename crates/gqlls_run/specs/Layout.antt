@@ -4,7 +4,7 @@ use lib.IntN.{pos, neg_ℤ}
 use Rattle.std.specs.List.{replace_range}
 use Rattle.json.specs.Json.{Json, null}
 use Rattle.apollo_parser.specs.declared.Limits.{Limits}
-use Rattle.editor_edits.specs.Answered.{AreEditsOf, IsEditedBy}
+use Rattle.editor_text.specs.Answered.{AreEditsOf, IsEditedBy}
 use Rattle.formatter.specs.Formatted.{IsDocument, MayExceed}
 use Rattle.formatter.specs.Within.{IsFormattedWithin, IsOutgrown}
 use Rattle.editor_text.specs.Client.{Opened}

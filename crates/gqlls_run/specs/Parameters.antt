@@ -15,7 +15,7 @@ use Rattle.line_index.specs.declared.Position.{Position}
 use Rattle.line_index.specs.declared.PositionEncoding.{PositionEncoding}
 use Rattle.editor_text.specs.declared.Change.{Change}
 use Rattle.editor_text.specs.declared.PositionRange.{PositionRange}
-use Rattle.embedded_documents.specs.declared.scanning.HostLanguage.{HostLanguage}
+use Rattle.embedded_documents.specs.declared.scanner.HostLanguage.{HostLanguage}
 use Rattle.gqlls_run.specs.Files.{host_named}
 
 -- ---- documents

@@ -17,7 +17,7 @@ use Rattle.gqlls_run.specs.Files.{OpenFile}
 use Rattle.gqlls_run.specs.Renaming.{KnownFile, places_in}
 use Rattle.gqlls_run.specs.declared.documents.Document.{Document}
 use Rattle.gqlls_run.specs.declared.documents.Known.{Known}
-use Rattle.gqlls_run.specs.declared.naming.Occurrence.{Occurrence}
+use Rattle.gqlls_run.specs.declared.references.Occurrence.{Occurrence}
 use Rattle.gqlls_run.specs.declared.server.Server.{Server}
 
 -- the file of a document

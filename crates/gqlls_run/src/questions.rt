@@ -4,11 +4,11 @@ ghost use Rattle.json.specs.Tree.{HasNumbers};
 ghost use Rattle.json.specs.Value.{value_view};
 ghost use Rattle.rpc_messages.specs.Messages.{IsAnswer};
 
-use crate::completing::{call_around, push_completions};
+use crate::completion::{call_around, push_completions};
 use crate::documents::{Document, Documents, Known};
-use crate::formatting::{REQUEST_FAILED, answer_null};
-use crate::naming::{Occurrence, Sought, definer_of};
+use crate::format_answers::{REQUEST_FAILED, answer_null};
 use crate::parameters::{asks_for_definition, offset_of, offsets_of, span_of};
+use crate::references::{Occurrence, Sought, definer_of};
 use crate::signature::answer_signature;
 use apollo_parser::{Limits, Parser, SyntaxNode};
 use editor_answers::{

@@ -12,9 +12,9 @@ ghost use Rattle.gqlls_run.specs.Edits.{edit_tokens, known_tokens};
 ghost use Rattle.gqlls_run.specs.State.{file_of, files, known_of, places_of};
 
 use crate::documents::{Document, Documents, Known};
-use crate::formatting::REQUEST_FAILED;
-use crate::naming::{Occurrence, UNDEFINED, definer_of, objection_to, uses_in};
+use crate::format_answers::REQUEST_FAILED;
 use crate::parameters::{new_name_of, offset_of};
+use crate::references::{Occurrence, UNDEFINED, definer_of, objection_to, uses_in};
 use apollo_parser::{Parser, SyntaxKind, SyntaxToken};
 use editor_answers::{NameKind, Span, identifier_at, meaning_of, push_changes};
 use json::Value;

@@ -13,14 +13,14 @@ ghost use Rattle.gqlls_run.specs.Told.{Keeps};
 
 use crate::capabilities::{answer_initialize, registration};
 use crate::documents::{Document, Documents, insert, told_beside};
-use crate::formatting::{answer_formatting, answer_null, answer_range_formatting};
+use crate::format_answers::{answer_formatting, answer_null, answer_range_formatting};
 use crate::parameters::{
     changes_of, encoding_of, host_of, markup_of, may_register, query_of, takes_related, text_of,
     uri_of, version_of,
 };
 use crate::questions::{answer_question, question_of};
 use crate::renaming::answer_rename;
-use crate::searching::answer_search;
+use crate::workspace_symbols::answer_search;
 use apollo_parser::Limits;
 use editor_answers::Markup;
 use editor_diagnostics::withdrawal;

@@ -5,8 +5,8 @@ use Rattle.std.specs.List.{filter_map, cons_option}
 use Rattle.std.proofs.lemmas.Result.{on_ok_weaker}
 use Rattle.std.proofs.lemmas.List.{map-append, reverse-append}
 use Rattle.std.proofs.lemmas.List.Elements.{filter_map-append}
-use Rattle.gqlfmt_files.specs.Listing.{Listing, Entry, entries}
-pub use Rattle.gqlfmt_files.proofs.Stacks.{reverse_more, popped, drained}
+use Rattle.file_access.specs.Listing.{Listing, Entry, entries}
+pub use Rattle.file_access.proofs.Stacks.{reverse_more, popped, drained}
 use Rattle.named_files.specs.Finding.{FoundPath, folder, found_path_in, Finds, nothing, at_folder, Lists, none, more}
 use Rattle.named_files.specs.Search.{Advances}
 

@@ -1,15 +1,15 @@
 -- What programs do with the files that paths name.
 use Rattle.std.specs.Prelude.{◌≡◌, ◌≢◌, ◌⊎◌, ℕ, max, List, [], ◌∷◌, Result, Ok, Err}
 use Rattle.std.specs.declared.io.Error.{Error}
-use Rattle.byte_devices.specs.Devices.{Account}
-use Rattle.byte_devices.specs.Runs.{Writes}
-use Rattle.byte_devices.specs.declared.fault.Fault.TheVariants.{Read, Memory}
-use Rattle.gqlfmt_files.specs.Listing.{Listing}
+use Rattle.byte_streams.specs.Devices.{Account}
+use Rattle.byte_streams.specs.Runs.{Writes}
+use Rattle.byte_streams.specs.declared.fault.Fault.TheVariants.{Read, Memory}
+use Rattle.file_access.specs.Listing.{Listing}
 use Rattle.named_files.specs.Finding.{FoundPath, IsNamed, Lists}
-use Rattle.program_words.specs.Complaints.{Tells}
-use Rattle.program_words.specs.Streams.{Streams}
-use Rattle.program_words.specs.declared.complaints.FileFault.{FileFault}
-use Rattle.program_words.specs.declared.complaints.FileFault.TheVariants.{NotRead, NotReplaced, Device}
+use Rattle.command_lines.specs.Complaints.{Tells}
+use Rattle.command_lines.specs.Streams.{Streams}
+use Rattle.command_lines.specs.declared.complaints.FileFault.{FileFault}
+use Rattle.command_lines.specs.declared.complaints.FileFault.TheVariants.{NotRead, NotReplaced, Device}
 
 -- The files, and what went through standard output and standard error.
 pub record Desk (S : Type 0) : Type 0 where

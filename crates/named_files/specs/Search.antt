@@ -1,9 +1,9 @@
 -- How far a search for files has come.
 use Rattle.std.specs.Prelude.{◌≡◌, ◌++◌, ℕ, List, map, reverse, string_bytes}
-use Rattle.gqlfmt_files.specs.Listing.{Listing}
-use Rattle.named_files.specs.declared.finding.FoundPath.{FoundPath as WaitingPath}
-use Rattle.named_files.specs.declared.finding.FoundPath.TheVariants as found_path
-use Rattle.named_files.specs.declared.finding.Search.{Search}
+use Rattle.file_access.specs.Listing.{Listing}
+use Rattle.named_files.specs.declared.search.FoundPath.{FoundPath as WaitingPath}
+use Rattle.named_files.specs.declared.search.FoundPath.TheVariants as found_path
+use Rattle.named_files.specs.declared.search.Search.{Search}
 use Rattle.named_files.specs.Finding.{FoundPath, file, folder, unreadable, Finds, as_named}
 
 abbrev pub as_found_path : {A : Type 0} → WaitingPath A → FoundPath

@@ -4,8 +4,8 @@
 //! listings of the folders, and `specs/Handling.antt` that something is done with each of them.
 #![tactic(auto)]
 
-mod finding;
 mod names;
+mod search;
 
-pub use finding::{Named, named_files};
 pub use names::is_graphql;
+pub use search::{Named, named_files};

@@ -4,12 +4,12 @@ use Rattle.std.specs.Prelude.{Result, IfErr}
 use Rattle.std.specs.Result.{IsErrAnd}
 use Rattle.std.proofs.lemmas.Result.{err_from_is_err_and}
 use Rattle.std.proofs.lemmas.List.{length-take}
-use Rattle.byte_devices.specs.Devices.{Account, failed, moved, stopped}
-use Rattle.byte_devices.specs.Writing.{IsBroken}
-use Rattle.byte_devices.specs.Writing as writing
-use Rattle.byte_devices.specs.declared.fault.Fault.{Fault}
-use Rattle.byte_devices.specs.declared.fault.Fault.TheVariants.{Read, Utf8, Memory, Write}
-use Rattle.byte_devices.proofs.Accounts.{moved_moved}
+use Rattle.byte_streams.specs.Devices.{Account, failed, moved, stopped}
+use Rattle.byte_streams.specs.Writing.{IsBroken}
+use Rattle.byte_streams.specs.Writing as writing
+use Rattle.byte_streams.specs.declared.fault.Fault.{Fault}
+use Rattle.byte_streams.specs.declared.fault.Fault.TheVariants.{Read, Utf8, Memory, Write}
+use Rattle.byte_streams.proofs.Accounts.{moved_moved}
 use Rattle.rpc_serving.specs.Frames.{HasNoFrame}
 use Rattle.rpc_messages.specs.declared.reply.Reply.{Reply}
 use Rattle.rpc_serving.specs.Exchange.{Exchange}

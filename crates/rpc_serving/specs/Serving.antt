@@ -1,9 +1,9 @@
 -- A conversation through a reader and a writer.
 use Rattle.std.specs.Prelude.{◌≡◌, ◌⊎◌, ℕ, ◌+◌, ◌≤◌, ◌^◌, List, ◌++◌, length, Option, Some, None}
-use Rattle.byte_devices.specs.Devices.{Account, moved, stopped, failed}
-use Rattle.byte_devices.specs.Writing.{IsBroken}
-use Rattle.byte_devices.specs.declared.fault.Fault.{Fault}
-use Rattle.byte_devices.specs.declared.fault.Fault.TheVariants.{Read, Utf8, Memory, Write}
+use Rattle.byte_streams.specs.Devices.{Account, moved, stopped, failed}
+use Rattle.byte_streams.specs.Writing.{IsBroken}
+use Rattle.byte_streams.specs.declared.fault.Fault.{Fault}
+use Rattle.byte_streams.specs.declared.fault.Fault.TheVariants.{Read, Utf8, Memory, Write}
 use Rattle.rpc_messages.specs.declared.reply.Reply.{Reply}
 use Rattle.rpc_serving.specs.Exchange.{Exchange}
 

@@ -8,10 +8,10 @@
 //! `gqlls_run`, the crate above, calls `serve`.
 #![tactic(auto)]
 
+mod conversation;
 mod exchange;
 mod frames;
 mod garbage;
-mod serving;
 
+pub use conversation::serve;
 pub use exchange::{Turn, take_turn};
-pub use serving::serve;

@@ -9,15 +9,15 @@ ghost use Rattle.std.specs.Prelude.{◌≡◌, None};
 
 mod copies;
 mod listing;
-mod locating;
-mod replacing;
+mod locations;
+mod replacement;
 mod state;
 
 use copies::{Beside, copy_path, is_file};
-use gqlfmt_files::{Entry, Files};
+use file_access::{Entry, Files};
 use listing::{entries_of, not_utf8};
-use locating::located;
-use replacing::{is_alone, open_writable, overwrite, readable, restore};
+use locations::located;
+use replacement::{is_alone, open_writable, overwrite, readable, restore};
 use state::State;
 use std::alloc::Allocator;
 use std::fs::{File, OpenFile};

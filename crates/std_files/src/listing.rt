@@ -1,8 +1,8 @@
 // What a folder has.
 ghost use Rattle.std.specs.Prelude.{IfOk, IfSome};
-ghost use Rattle.gqlfmt_files.specs.Listing.{AreInOrder};
+ghost use Rattle.file_access.specs.Listing.{AreInOrder};
 
-use gqlfmt_files::{Entry, Kind};
+use file_access::{Entry, Kind};
 use std::alloc::{AllocError, Allocator};
 use std::fs::FileType;
 use std::io::{Error, ErrorKind, Read};

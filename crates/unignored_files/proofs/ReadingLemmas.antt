@@ -2,7 +2,7 @@
 use Rattle.std.proofs.Common.{◌≡◌, inl, inr, ℕ, ◌++◌, [], ◌∷◌, List, Result, Ok, Err, refl, ap, sym, ◌∙◌, subst, append_assoc, append-nil}
 use Rattle.std.specs.IoError.{error_kind}
 use Rattle.std.specs.declared.io.Error.{Error}
-use Rattle.gqlfmt_files.specs.Reading.{IsAbsent}
+use Rattle.file_access.specs.Reading.{IsAbsent}
 use Rattle.ignore_rules.specs.Lines.{Rule, rules_in}
 use Rattle.unignored_files.specs.Reading.{Adds, FailsToAdd, IgnoreFile, absent, nothing, path_of, there}
 

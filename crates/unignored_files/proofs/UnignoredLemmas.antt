@@ -2,8 +2,8 @@
 use Rattle.std.proofs.Common.{◌≡◌, ℕ, [], ◌∷◌, Bool, true, false, List, Option, Some, None, Result, Ok, Vec, cond, map, is_some, refl, ap, sym, ◌∙◌, subst}
 use Rattle.std.specs.List.{filter}
 use Rattle.std.specs.declared.io.Error.{Error}
-use Rattle.gqlfmt_files.specs.Listing.{Listing, listing_of}
-use Rattle.gqlfmt_files.specs.declared.listing.Entry.{Entry}
+use Rattle.file_access.specs.Listing.{Listing, listing_of}
+use Rattle.file_access.specs.declared.listing.Entry.{Entry}
 use Rattle.ignore_rules.specs.Ignored.{ignores}
 use Rattle.ignore_rules.specs.Lines.{Rule}
 use Rattle.unignored_files.specs.Above.{Climbs}

@@ -5,7 +5,7 @@ use Rattle.std.specs.Path.{path_join}
 use Rattle.std.specs.IoError.{error_kind}
 use Rattle.std.specs.declared.io.Error.{Error}
 use Rattle.std.specs.declared.io.ErrorKind.TheVariants.{OutOfMemory}
-use Rattle.gqlfmt_files.specs.Reading.{IsAbsent}
+use Rattle.file_access.specs.Reading.{IsAbsent}
 use Rattle.ignore_rules.specs.Lines.{Rule, rules_in}
 
 -- an ignore file: the path of its folder from the root on, and its name

@@ -6,7 +6,7 @@ ghost use Rattle.unignored_files.specs.Above.{Climbs, Probes, folders_of};
 ghost use Rattle.unignored_files.specs.Reading.{Adds, FailsToAdd, IsMemory, files_of_all};
 
 use crate::ignore_file::add_folder;
-use gqlfmt_files::Files;
+use file_access::Files;
 use ignore_rules::Rules;
 use std::alloc::Allocator;
 use std::io::{self, ErrorKind};

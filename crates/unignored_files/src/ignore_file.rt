@@ -4,7 +4,7 @@ ghost use Rattle.std.specs.IoError.{error_kind};
 ghost use Rattle.ignore_rules.specs.Ignored.{as_rules};
 ghost use Rattle.unignored_files.specs.Reading.{Adds, FailsToAdd, file_at, files_of};
 
-use gqlfmt_files::Files;
+use file_access::Files;
 use ignore_rules::Rules;
 use std::alloc::Allocator;
 use std::io::{self, Error, ErrorKind};

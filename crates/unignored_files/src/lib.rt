@@ -6,7 +6,7 @@
 
 mod above;
 mod ignore_file;
-mod sifting;
+mod kept_entries;
 mod unignored;
 
 pub use unignored::Unignored;

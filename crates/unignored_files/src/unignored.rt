@@ -1,13 +1,13 @@
 // Files without those that are left out.
 ghost use Rattle.std.specs.Prelude.{◌≡◌, [], IfOk, IfSome};
-ghost use Rattle.gqlfmt_files.specs.Listing.{AreInOrder, listing_of};
+ghost use Rattle.file_access.specs.Listing.{AreInOrder, listing_of};
 ghost use Rattle.ignore_rules.specs.Ignored.{as_rules};
 ghost use Rattle.unignored_files.specs.Unignored.{IsLeftOut, Sifts};
 
 use crate::above::{add_above, climb};
 use crate::ignore_file::add_folder;
-use crate::sifting::sift;
-use gqlfmt_files::{Entry, Files};
+use crate::kept_entries::sift;
+use file_access::{Entry, Files};
 use ignore_rules::Rules;
 use std::alloc::Allocator;
 use std::io::{self, ErrorKind};

@@ -1,8 +1,8 @@
 use Rattle.std.proofs.Common.{map, subst, sym}
 use Rattle.std.proofs.lemmas.Result.{IfOk-weaker}
 use Rattle.apollo_tree.specs.References.{node_place}
-use Rattle.executable_document.specs.Definitions.{defined}
-use Rattle.operation_limits.specs.Measures.{AreMeasures, as_measure}
+use Rattle.validation_names.specs.Definitions.{defined}
+use Rattle.cost_limits.specs.Measures.{AreMeasures, as_measure}
 use Rattle.document_checks.specs.Checking.{as_asked}
 use Rattle.document_checks.proofs.Verdicts.{measured, unmeasured}
 use Rattle.document_checks.proofs.operations.check_operations.Goals as goal

@@ -1,7 +1,7 @@
 use Rattle.std.proofs.Common.{◌≡◌, map, take}
 use Rattle.std.specs.Prelude.{option_map}
 use Rattle.std.specs.List.{filter}
-use Rattle.operation_limits.specs.Measures.{as_measure}
+use Rattle.cost_limits.specs.Measures.{as_measure}
 use Rattle.document_checks.specs.Checking.{is_chosen}
 use Rattle.document_checks.proofs.operations.chosen.Given as goal
 

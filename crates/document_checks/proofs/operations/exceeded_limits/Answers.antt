@@ -1,5 +1,5 @@
 use Rattle.std.proofs.Common.{ap, arith, vec_len}
-use Rattle.operation_limits.specs.Measures.{as_measure}
+use Rattle.cost_limits.specs.Measures.{as_measure}
 use Rattle.document_checks.proofs.Verdicts.{exceeds_more, within_more}
 use Rattle.document_checks.proofs.operations.exceeded_limits.Goals as goal
 use Rattle.document_checks.proofs.operations.exceeded_limits.Goals.{in-Err+in_ok-limit_finding+in_ok-push, in_default}

@@ -1,7 +1,7 @@
 use Rattle.std.proofs.Common.{◌≡◌, map, take, vec_len}
 use Rattle.std.specs.Prelude.{◌↔◌, All}
-use Rattle.operation_limits.specs.Limits.{IsWithin}
-use Rattle.operation_limits.specs.Measures.{as_measure}
+use Rattle.cost_limits.specs.Limits.{IsWithin}
+use Rattle.cost_limits.specs.Measures.{as_measure}
 use Rattle.document_checks.proofs.operations.exceeded_limits.Given as goal
 
 -- there is no finding yet exactly if the operations so far are within the limits

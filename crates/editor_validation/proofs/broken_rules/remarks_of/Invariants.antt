@@ -1,5 +1,5 @@
 use Rattle.std.proofs.Common.{◌≡◌, map, take}
-use Rattle.definition_rules.specs.Violations.{as_breach}
+use Rattle.validation_rules.specs.Violations.{as_breach}
 use Rattle.editor_diagnostics.specs.Remarks.{as_remarked}
 use Rattle.editor_validation.specs.Remarks.{remark_of}
 use Rattle.editor_validation.proofs.broken_rules.remarks_of.Given as goal

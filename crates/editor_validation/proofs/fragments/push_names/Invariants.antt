@@ -1,5 +1,5 @@
 use Rattle.std.proofs.Common.{◌≡◌, ◌++◌, map, take, string_bytes}
-use Rattle.executable_document.specs.Mentions.{as_named}
+use Rattle.validation_names.specs.Mentions.{as_named}
 use Rattle.editor_validation.specs.Fragments.{names_of}
 use Rattle.editor_validation.proofs.fragments.push_names.Given as goal
 

@@ -1,5 +1,5 @@
 use Rattle.std.proofs.Common.{◌≡◌, map, take, string_bytes}
-use Rattle.executable_document.specs.Definitions.{as_defined}
+use Rattle.validation_names.specs.Definitions.{as_defined}
 use Rattle.editor_validation.specs.Fragments.{spread_by}
 use Rattle.editor_validation.proofs.fragments.spread_names.Given as goal
 

@@ -1,7 +1,7 @@
 use Rattle.std.proofs.Common.{refl}
 use Rattle.std.proofs.lemmas.Result.{err_from_is_err_and}
 use Rattle.gqlcst_run.specs.Program.{IsOutput}
-use Rattle.byte_devices.proofs.Ends.{cut, whole}
+use Rattle.byte_streams.proofs.Ends.{cut, whole}
 use Rattle.gqlcst_run.proofs.Buffers.{put-all}
 use Rattle.gqlcst_run.proofs.program.process.Goals as goal
 

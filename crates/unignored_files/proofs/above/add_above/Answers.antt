@@ -1,6 +1,6 @@
 use Rattle.std.proofs.Common.{ℕ, List, map, reverse, refl, subst, string_bytes}
 use Rattle.std.proofs.lemmas.Result.{err_from_is_err_and}
-use Rattle.gqlfmt_files.proofs.Stacks.{popped}
+use Rattle.file_access.proofs.Stacks.{popped}
 use Rattle.ignore_rules.specs.Ignored.{as_rules}
 use Rattle.unignored_files.specs.Above.{folders_of}
 use Rattle.unignored_files.specs.Reading.{files_of, files_of_all}

@@ -1,6 +1,6 @@
 use Rattle.std.proofs.Common.{refl}
 use Rattle.std.proofs.lemmas.Result.{err_from_is_err_and}
-use Rattle.byte_devices.proofs.Ends.{cut}
+use Rattle.byte_streams.proofs.Ends.{cut}
 use Rattle.document_checks.specs.Checking.{as_asked}
 use Rattle.gqlcheck_run.specs.Ending.{IsOutput}
 use Rattle.gqlcheck_run.proofs.job.Job.check_bytes.Goals as goal

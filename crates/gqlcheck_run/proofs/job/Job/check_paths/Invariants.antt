@@ -1,6 +1,6 @@
 use Rattle.std.proofs.Common.{take}
 use Rattle.document_checks.specs.Checking.{as_asked}
-use Rattle.program_words.specs.Words.{texts}
+use Rattle.command_lines.specs.Words.{texts}
 use Rattle.gqlcheck_run.specs.Program.{ChecksPaths}
 use Rattle.gqlcheck_run.proofs.job.Job.check_paths.Given as goal
 

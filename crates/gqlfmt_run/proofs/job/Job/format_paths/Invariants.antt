@@ -1,5 +1,5 @@
 use Rattle.std.proofs.Common.{take}
-use Rattle.program_words.specs.Words.{texts}
+use Rattle.command_lines.specs.Words.{texts}
 use Rattle.gqlfmt_run.specs.Folders.{HandlesPaths}
 use Rattle.gqlfmt_run.proofs.job.Job.format_paths.Given as goal
 

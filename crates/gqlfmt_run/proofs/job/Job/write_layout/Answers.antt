@@ -1,7 +1,7 @@
 use Rattle.std.proofs.Common.{string_bytes, refl}
 use Rattle.std.proofs.lemmas.Result.{err_from_is_err_and}
-use Rattle.byte_devices.specs.declared.fault.Fault.{Fault}
-use Rattle.byte_devices.proofs.Ends.{cut}
+use Rattle.byte_streams.specs.declared.fault.Fault.{Fault}
+use Rattle.byte_streams.proofs.Ends.{cut}
 use Rattle.gqlfmt_run.specs.Input.{IsOutput}
 use Rattle.gqlfmt_run.proofs.Saying.{silent-again, silent-broken}
 use Rattle.gqlfmt_run.proofs.job.Job.write_layout.Goals as goal

@@ -3,8 +3,8 @@ use Rattle.std.proofs.lemmas.Cmp.{nat_list_cmp_total}
 use Rattle.std.proofs.lemmas.List.Kept.{IsSortedBy-filter}
 use Rattle.std.proofs.lemmas.List.MinMax.{ranks_by}
 use Rattle.std.proofs.lemmas.Result.{err_from_is_err_and}
-use Rattle.gqlfmt_files.specs.Listing.{AreInOrder, Entry, as_entry, entries}
-use Rattle.gqlfmt_files.specs.declared.listing.Entry as declared
+use Rattle.file_access.specs.Listing.{AreInOrder, Entry, as_entry, entries}
+use Rattle.file_access.specs.declared.listing.Entry as declared
 use Rattle.ignore_rules.specs.Ignored.{as_rules}
 use Rattle.unignored_files.specs.Unignored.{Sifts, is_kept, no_folder_listed, refused, sifted, stopped, unlisted_folder, unlocated}
 use Rattle.unignored_files.proofs.UnignoredLemmas.{map-filter}

@@ -1,5 +1,0 @@
-use Rattle.byte_devices.specs.Devices.{nothing_moved}
-use Rattle.byte_devices.proofs.trace.Trace.new.Given as goal
-
-abbrev pub ghost-picked : goal.ghost-picked
-ghost-picked a = nothing_moved

@@ -1,9 +1,0 @@
-use Rattle.std.proofs.Common.{length}
-use Rattle.byte_devices.specs.Writing.{IsTaken}
-use Rattle.byte_devices.proofs.writing.write_all.Given as goal
-
-abbrev pub invariant-loop-rest : goal.invariant-loop-rest
-invariant-loop-rest g l = IsTaken l.fn.bytes l.rest (g.W.Sink.account l.initial.writer) (g.W.Sink.account l.writer)
-
-abbrev pub decreases-loop-rest : goal.decreases-loop-rest
-decreases-loop-rest g l = length l.rest

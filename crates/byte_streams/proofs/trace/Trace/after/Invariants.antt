@@ -1,0 +1,5 @@
+use Rattle.byte_streams.specs.Devices.{after}
+use Rattle.byte_streams.proofs.trace.Trace.after.Given as goal
+
+abbrev pub ghost-picked : goal.ghost-picked
+ghost-picked a = after a._first.now.value a._second.now.answer.now a._second.now.buffer.now

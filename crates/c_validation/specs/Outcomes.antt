@@ -1,0 +1,140 @@
+-- What each call gives: for the status OK what it wrote, and for each other status why, and that it wrote nothing. A call ends with no other status
+-- than those of the cases; that memory was refused, `NO_MEMORY`, has no further reason.
+use Rattle.std.specs.Prelude.{◌≡◌, ◌<◌, ◌↔◌, ℕ, List, [], length, map}
+use Rattle.std.specs.Str.{IsUtf8}
+use Rattle.apollo_parser.specs.Filled.{filled}
+use Rattle.apollo_parser.specs.Parsed.{Parsed}
+use Rattle.apollo_tree.specs.Order.{Place, range_at}
+use Rattle.formatter.specs.Formatted.{IsDocument}
+use Rattle.validation_names.specs.Definitions.{as_defined, defined}
+use Rattle.validation_rules.specs.Violations.{Breach}
+use Rattle.document_validation.specs.Lists.{document_kind}
+use Rattle.document_validation.specs.Breaches.{AreBreaches, BreaksAs}
+use Rattle.document_validation.specs.Validity.{IsValidAs}
+use Rattle.cost_limits.specs.Measures.{AreMeasures, IsMeasureError, Measure}
+use Rattle.cost_limits.specs.declared.measures.MeasureError.{MeasureError}
+use Rattle.cost_limits.specs.declared.measures.MeasureError.TheVariants as error
+use Rattle.c_parsing.specs.Outcomes.{IsParse, OK, NOT_UTF8, NO_MEMORY, NOT_A_DOCUMENT}
+use Rattle.c_validation.specs.declared.rows.MeasureCounts.{MeasureCounts}
+use Rattle.c_validation.specs.declared.rows.OperationRow.{OperationRow}
+use Rattle.c_validation.specs.declared.rows.ViolationCounts.{ViolationCounts}
+use Rattle.c_validation.specs.declared.rows.ViolationRow.{ViolationRow}
+use Rattle.c_validation.specs.declared.violation_rows.Report.{Report}
+use Rattle.c_validation.specs.Rows.{messages, operation_row, violation_rows}
+
+-- ---- statuses, beside those of `c_parsing`
+
+abbrev pub SAME_NAME : ℕ
+SAME_NAME = 6
+
+abbrev pub CYCLE : ℕ
+CYCLE = 7
+
+abbrev pub UNDEFINED : ℕ
+UNDEFINED = 8
+
+-- ---- a text as a document
+
+-- The text is a document within both limits, and this is its parse.
+pub record IsDocumentParse (source : List ℕ) (max_depth max_items : ℕ) (parsed : Parsed) : Type 0 where
+  pub parse : IsParse source max_depth max_items parsed
+  pub no_errors : parsed.errors ≡ []
+
+-- Why a text is refused, by the status of the call.
+pub data IsRefusal (source : List ℕ) (max_depth max_items : ℕ) : ℕ → Type 0 where
+  not_utf8 : ¬ IsUtf8 source → IsRefusal source max_depth max_items NOT_UTF8
+  not_a_document : ¬ IsDocument source max_depth max_items → IsRefusal source max_depth max_items NOT_A_DOCUMENT
+  no_memory : IsRefusal source max_depth max_items NO_MEMORY
+
+-- The root of a tree.
+abbrev pub root : Parsed → Place
+root parsed = record { whole = parsed.tree; index = 0 }
+
+-- ---- validation
+
+-- These are the breaches that validation finds in a document, up to a bound, by the root of its tree.
+pub record AreFound (most : ℕ) (document : Place) (breaches : List Breach) : Type 0 where
+  -- all of them break a rule, none is there twice, and if there are fewer than the bound, no others do
+  pub exact : AreBreaches most (BreaksAs (document_kind document) document) breaches
+  -- there are none exactly if the document keeps all rules
+  pub valid : 0 < most → (breaches ≡ []) ↔ IsValidAs (document_kind document) document
+
+-- The report has the rows and the messages of the breaches that validation finds.
+pub record IsReport (most : ℕ) (document : Place) (report : Report) : Type 0 where
+  pub breaches : List Breach
+  pub found : AreFound most document breaches
+  pub rows : report.rows.items ≡ violation_rows 0 breaches
+  pub messages : report.messages.items ≡ messages breaches
+
+-- The buffers that violations are written to.
+pub record ViolationBuffers : Type 0 where
+  pub violations : List ViolationRow
+  pub messages : List ℕ
+
+-- The buffers after violations were written, each as far as there is room.
+abbrev pub violations_written : ViolationBuffers → List Breach → ViolationBuffers
+violations_written room breaches = record {
+  violations = filled room.violations (violation_rows 0 breaches);
+  messages = filled room.messages (messages breaches);
+}
+
+abbrev pub violation_counts : List Breach → ViolationCounts
+violation_counts breaches = record { violations = length breaches; message_bytes = length (messages breaches); status = OK }
+
+-- The counts of a call that was refused.
+abbrev pub no_violations : ℕ → ViolationCounts
+no_violations status = record { violations = 0; message_bytes = 0; status = status }
+
+-- What validation gives, from the buffers before it, the buffers after it, and the counts that it answers.
+pub data ValidationOutcome (source : List ℕ) (max_depth max_items most : ℕ) (before : ViolationBuffers) : ViolationBuffers → ViolationCounts → Type 0 where
+  -- the text is a document within both limits, and the buffers and the counts have the breaches found in it
+  validated :
+      {parsed : Parsed} {breaches : List Breach}
+      → IsDocumentParse source max_depth max_items parsed
+      → AreFound most (root parsed) breaches
+      → ValidationOutcome source max_depth max_items most before (violations_written before breaches) (violation_counts breaches)
+  -- nothing was written
+  not_validated :
+      {status : ℕ}
+      → IsRefusal source max_depth max_items status
+      → ValidationOutcome source max_depth max_items most before before (no_violations status)
+
+-- ---- figures
+
+-- The counts of a call that was refused.
+abbrev pub no_measures : ℕ → MeasureCounts
+no_measures status = record { operations = 0; start = 0; end = 0; other_start = 0; other_end = 0; status = status }
+
+-- The counts of a call that gave figures.
+abbrev pub measure_counts : List Measure → MeasureCounts
+measure_counts measures = record { operations = length measures; start = 0; end = 0; other_start = 0; other_end = 0; status = OK }
+
+-- The counts of a call that found a fault at the first range, where the other fragment of the name is at the second one.
+abbrev pub fault_at : ℕ → ℕ × ℕ → ℕ × ℕ → MeasureCounts
+fault_at status at other = record { operations = 0; start = at.0; end = at.1; other_start = other.0; other_end = other.1; status = status }
+
+abbrev pub fault_counts : MeasureError → MeasureCounts
+fault_counts (error.SameName first second) = fault_at SAME_NAME (range_at (as_defined second).place) (range_at (as_defined first).place)
+fault_counts (error.Cycle span) = fault_at CYCLE (span.start, span.end) (0, 0)
+fault_counts (error.Undefined span) = fault_at UNDEFINED (span.start, span.end) (0, 0)
+fault_counts error.Memory = no_measures NO_MEMORY
+
+-- What a measurement gives, from the buffer before it, the buffer after it, and the counts that it answers.
+pub data MeasureOutcome (source : List ℕ) (max_depth max_items : ℕ) (before : List OperationRow) : List OperationRow → MeasureCounts → Type 0 where
+  -- the text is a document within both limits, and the buffer and the counts are those of the figures of its operations
+  measured :
+      {parsed : Parsed} {measures : List Measure}
+      → IsDocumentParse source max_depth max_items parsed
+      → AreMeasures (defined (root parsed)) measures
+      → MeasureOutcome source max_depth max_items before (filled before (map operation_row measures)) (measure_counts measures)
+  -- it is one, and its operations have no figures for this reason; nothing was written
+  not_measurable :
+      {parsed : Parsed} (reason : MeasureError)
+      → IsDocumentParse source max_depth max_items parsed
+      → IsMeasureError (defined (root parsed)) reason
+      → MeasureOutcome source max_depth max_items before before (fault_counts reason)
+  -- nothing was written
+  not_measured :
+      {status : ℕ}
+      → IsRefusal source max_depth max_items status
+      → MeasureOutcome source max_depth max_items before before (no_measures status)

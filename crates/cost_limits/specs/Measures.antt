@@ -1,0 +1,75 @@
+-- The figures of a document's operations, and why there are none.
+use Rattle.std.specs.Prelude.{◌≡◌, ℕ, suc, ◌-◌, ◌^◌, ◌<◌, List, [], ◌∷◌, length, map, Bool, true, false, if◌then◌else◌, Option, Some, None, unwrap_or}
+use Rattle.std.specs.Prelude.{slice_index_or, Contains}
+use Rattle.std.specs.List.{filter}
+use Rattle.validation_names.specs.Names.{Name, first_number}
+use Rattle.validation_names.specs.Definitions.{Defined, as_defined, fragment_names}
+use Rattle.validation_names.specs.declared.executables.DefinitionKind.TheVariants.{Operation, Fragment}
+use Rattle.cost_figures.specs.declared.items.Item.{Item}
+use Rattle.cost_figures.specs.declared.figures.Figures.{Figures}
+use Rattle.cost_figures.specs.Outcome.{AreMeasured, IsCycle, IsUndefined}
+use Rattle.cost_limits.specs.Items.{definition_items}
+use Rattle.cost_limits.specs.declared.measures.OperationFigures.{OperationFigures}
+use Rattle.cost_limits.specs.declared.measures.MeasureError.{MeasureError}
+use Rattle.cost_limits.specs.declared.measures.MeasureError.TheVariants.{SameName, Cycle, Undefined, Memory}
+
+-- the number of the first fragment of a name; where there is none, a number that no definition has
+abbrev pub number_in : List (Option Name) → Option Name → ℕ
+number_in names None = 2 ^ 64 - 1
+number_in names (Some s) = unwrap_or (first_number names s) (2 ^ 64 - 1)
+
+-- the items of each definition
+abbrev pub items_of : List Defined → List (List Item)
+items_of ds = map (λ d. definition_items (number_in (fragment_names ds)) d.place) ds
+
+abbrev pub is_operation : Defined → Bool
+is_operation d = elim d.kind [ Operation ↦ true | Fragment ↦ false ]
+
+-- the numbers of the operations, where the first definition has the number `i`
+abbrev pub operations : ℕ → List Defined → List ℕ
+operations i [] = []
+operations i (d ∷ ds) = if is_operation d then i ∷ operations (suc i) ds else operations (suc i) ds
+
+-- an operation with its figures
+pub record Measure : Type 0 where
+  pub operation : Defined
+  pub figures : Figures
+
+abbrev pub as_measure : OperationFigures → Measure
+as_measure o = record { operation = as_defined o.operation; figures = o.figures }
+
+-- a fragment is the first one of its name
+abbrev pub IsFirst : List (Option Name) → ℕ → Type 0
+IsFirst names k = (s : Name) → slice_index_or names k None ≡ Some s → first_number names s ≡ Some k
+
+-- no two fragments have one name
+abbrev pub AreDistinct : List (Option Name) → Type 0
+AreDistinct names = (k : ℕ) → IsFirst names k
+
+-- the fragment `second` has the name of an earlier one, of which `first` is the first
+pub record IsSecond (names : List (Option Name)) (first second : ℕ) : Type 0 where
+  pub name : Name
+  pub first_is : first_number names name ≡ Some first
+  pub second_is : slice_index_or names second None ≡ Some name
+  pub apart : first < second
+
+-- the measures are those of the operations among the definitions `ds`, in order
+pub record AreMeasures (ds : List Defined) (measures : List Measure) : Type 0 where
+  pub operations_are : map (λ m. m.operation) measures ≡ filter is_operation ds
+  pub figures_are : AreMeasured (items_of ds) (operations 0 ds) (map (λ m. m.figures) measures)
+  pub distinct : AreDistinct (fragment_names ds)
+
+-- `a` is the first fragment of a name, and `b` a later one of the same name
+pub record AreTwins (ds : List Defined) (a b : Defined) : Type 0 where
+  pub first : ℕ
+  pub second : ℕ
+  pub is_second : IsSecond (fragment_names ds) first second
+  pub first_at : (first < length ds) × (slice_index_or ds first a ≡ a)
+  pub second_at : (second < length ds) × (slice_index_or ds second b ≡ b)
+
+-- what an error says of the definitions `ds`
+abbrev pub IsMeasureError : List Defined → MeasureError → Type 0
+IsMeasureError ds (SameName a b) = AreTwins ds (as_defined a) (as_defined b)
+IsMeasureError ds (Cycle span) = (r : ℕ) × Contains (operations 0 ds) r × IsCycle (items_of ds) r span
+IsMeasureError ds (Undefined span) = (r : ℕ) × Contains (operations 0 ds) r × IsUndefined (items_of ds) r span
+IsMeasureError ds Memory = Unit {0}

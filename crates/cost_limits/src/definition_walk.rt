@@ -1,0 +1,126 @@
+// The walk over the nodes of a definition.
+ghost use Rattle.std.specs.Prelude.{◌≡◌, ◌<◌, ◌≤◌, suc, [], ◌++◌, List, OnOk, IfOk};
+ghost use Rattle.apollo_tree.specs.Order.{tree_at, tree_kids};
+ghost use Rattle.apollo_tree.specs.References.{node_place};
+ghost use Rattle.validation_names.specs.Names.{Name};
+ghost use Rattle.cost_limits.specs.Items.{definition_items, field_items, other_items, items_below, inside};
+ghost use Rattle.cost_limits.specs.Collecting.{AreNames, Adds, number_of};
+
+use crate::response_names::{is_new, number_of, response_name};
+use apollo_tree::{SyntaxKind, SyntaxNode};
+use cost_figures::{Item, Span};
+use std::alloc::{AllocError, Allocator};
+use std::collections::BTreeMap;
+use validation_names::name_of_fragment;
+
+// How many fields of a definition enclose the nodes below one of its nodes.
+fn inside(enclosing: usize, node: SyntaxNode<'_>) -> usize
+    requires { enclosing < (node_place node).index }
+    ensures { result ≡ inside enclosing (node_place node.entry) }
+{
+    if node.kind().is(SyntaxKind::FIELD) {
+        enclosing + 1
+    } else {
+        enclosing
+    }
+}
+
+// Adds the items of a field.
+fn add_field<A: Allocator + Copy>(
+    enclosing: usize,
+    is_new: bool,
+    found: &mut Vec<Item, A>,
+) -> Result<(), AllocError>
+    ensures { OnOk result (found.new.items ≡ found.old.items ++ field_items enclosing is_new) }
+{
+    found.push(Item::Field(enclosing))?;
+    if is_new {
+        found.push(Item::ResponseName(enclosing))?;
+    }
+    Ok(())
+}
+
+// Adds the item of another node. Most have none.
+fn add_other<A: Allocator + Copy>(
+    node: &SyntaxNode<'_>,
+    fragments: &BTreeMap<&str, usize, A>,
+    enclosing: usize,
+    found: &mut Vec<Item, A>,
+) -> Result<(), AllocError>
+    ensures { OnOk result (found.new.items ≡ found.old.items ++ other_items (number_of fragments.now) enclosing (node_place node.now)) }
+{
+    let kind = node.kind();
+    if kind.is(SyntaxKind::ALIAS) {
+        found.push(Item::Alias)?;
+        return Ok(());
+    }
+    if kind.is(SyntaxKind::DIRECTIVE) {
+        found.push(Item::Directive)?;
+        return Ok(());
+    }
+    if kind.is(SyntaxKind::FRAGMENT_SPREAD) {
+        let number = number_of(fragments, name_of_fragment(node));
+        let range = node.text_range();
+        let span = Span {
+            start: range.start(),
+            end: range.end(),
+        };
+        found.push(Item::Spread(enclosing, number, span))?;
+        return Ok(());
+    }
+    Ok(())
+}
+
+// Adds the items of a node itself.
+fn add<'t, A: Allocator + Copy>(
+    node: &SyntaxNode<'t>,
+    fragments: &BTreeMap<&str, usize, A>,
+    enclosing: usize,
+    names: &mut BTreeMap<&'t str, (), A>,
+    found: &mut Vec<Item, A>,
+) -> Result<(), AllocError>
+    ensures { OnOk result ((seen : List Name) → AreNames names.old seen
+        → Adds (number_of fragments.now) enclosing (node_place node.now) seen found.old.items found.new.items names.new) }
+{
+    if node.kind().is(SyntaxKind::FIELD) {
+        let is_new = is_new(response_name(node), names)?;
+        add_field(enclosing, is_new, found)?;
+        return Ok(());
+    }
+    add_other(node, fragments, enclosing, found)?;
+    Ok(())
+}
+
+// Adds the items of all nodes below a node.
+fn collect<'t, A: Allocator + Copy>(
+    alloc: A,
+    node: &SyntaxNode<'t>,
+    fragments: &BTreeMap<&str, usize, A>,
+    enclosing: usize,
+    found: &mut Vec<Item, A>,
+) -> Result<(), AllocError>
+    requires { enclosing ≤ (node_place node.now).index }
+    ensures { OnOk result (found.new.items ≡ found.old.items ++ items_below (node_place node.now).whole (number_of fragments.now) enclosing
+        (suc (node_place node.now).index) [] (tree_kids (tree_at (node_place node.now)))) }
+{
+    let mut names: BTreeMap<&'t str, (), A> = BTreeMap::new(alloc);
+    for child in node.children() {
+        add(&child, fragments, enclosing, &mut names, found)?;
+        collect(alloc, &child, fragments, inside(enclosing, child), found)?;
+    }
+    Ok(())
+}
+
+/// The items of an operation or a fragment, where `fragments` has the number of the first definition of each fragment. A spread of no fragment
+/// names the definition with the number `usize::MAX`.
+pub fn items<A: Allocator + Copy>(
+    alloc: A,
+    definition: &SyntaxNode<'_>,
+    fragments: &BTreeMap<&str, usize, A>,
+) -> Result<Vec<Item, A>, AllocError>
+    ensures { IfOk result (λ items. items.items ≡ definition_items (number_of fragments.now) (node_place definition.now)) }
+{
+    let mut found = Vec::new(alloc);
+    collect(alloc, definition, fragments, 0, &mut found)?;
+    Ok(found)
+}

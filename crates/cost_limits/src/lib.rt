@@ -1,0 +1,22 @@
+//! How large the operations of a document are with their fragments expanded, and whether that is within limits.
+//!
+//! `measure` gives the figures of each operation of a parsed document, and `within` the first limit that one of them exceeds. A small document can
+//! expand to an exponentially large one: here time and memory are linear in the document, but for the look-up of names.
+//!
+//!     let tree = Parser::new(text).parse(alloc)?;
+//!     let operations = measure(alloc, &tree.root())?;
+//!     let limits = Figures { depth: 10, fields: 500, ..Figures::UNLIMITED };
+//!     within(operations.as_slice(), &limits)?;
+//!
+//! A gateway that executes one of several operations hands only that one to `within`.
+#![tactic(auto)]
+
+mod definition_walk;
+mod limits;
+mod measures;
+mod response_names;
+
+pub use cost_figures::{Figures, Limit, Span};
+pub use limits::{Exceeded, within};
+pub use measures::{MeasureError, OperationFigures, measure};
+pub use validation_names::{DefinitionKind, ExecutableDefinition};

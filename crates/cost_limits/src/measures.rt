@@ -1,0 +1,185 @@
+// The figures of the operations of a document.
+ghost use Rattle.std.specs.Prelude.{◌≡◌, ◌<◌, map, length, IfOk, IfErr, IfSome, IfNone};
+ghost use Rattle.std.specs.List.{filter};
+ghost use Rattle.apollo_tree.specs.References.{node_place};
+ghost use Rattle.validation_names.specs.Names.{AreFirstNumbers};
+ghost use Rattle.validation_names.specs.Definitions.{as_defined, defined, fragment_names};
+ghost use Rattle.cost_limits.specs.Measures.{IsFirst, AreDistinct, IsSecond, AreTwins, AreMeasures, IsMeasureError, as_measure, is_operation, items_of, operations};
+
+use crate::definition_walk::items;
+use apollo_tree::SyntaxNode;
+use cost_figures::{Fault, Figures, Item, Span};
+use std::alloc::{AllocError, Allocator};
+use std::collections::BTreeMap;
+use validation_names::{DefinitionKind, ExecutableDefinition, definitions, fragments};
+
+/// An operation, and how large it is.
+#[derive(Clone, Copy)]
+pub struct OperationFigures<'t> {
+    pub operation: ExecutableDefinition<'t>,
+    pub figures: Figures,
+}
+
+/// Why the operations of a document have no figures.
+#[derive(Clone, Copy)]
+pub enum MeasureError<'t> {
+    /// Two fragments have one name (GraphQL October 2021, section 5.5.1.1): the first one of the name, and another.
+    SameName(ExecutableDefinition<'t>, ExecutableDefinition<'t>),
+    /// An operation leads to the spread that is here, which is part of a cycle of fragments (section 5.5.2.2).
+    Cycle(Span),
+    /// An operation leads to the spread that is here, and there is no fragment of its name (section 5.5.2.1).
+    Undefined(Span),
+    /// Memory was refused.
+    Memory,
+}
+
+// The number of an earlier fragment, the first of its name, that has the name of this one.
+fn earlier<'t, A: Allocator + Copy>(
+    definitions: &[ExecutableDefinition<'t>],
+    number: usize,
+    fragments: &BTreeMap<&'t str, usize, A>,
+) -> Option<usize>
+    requires inside { number < length definitions.now }
+    requires numbers { AreFirstNumbers fragments.now (fragment_names (map as_defined definitions.now)) }
+    ensures some { IfSome result (λ first. IsSecond (fragment_names (map as_defined definitions.now)) first number) }
+    ensures none { IfNone result (IsFirst (fragment_names (map as_defined definitions.now)) number) }
+{
+    let name = definitions[number].fragment_name()?;
+    let first = *fragments.get(name)?;
+    if first < number { Some(first) } else { None }
+}
+
+// The first fragment that has the name of an earlier one, after that one.
+fn twins<'t, A: Allocator + Copy>(
+    definitions: &[ExecutableDefinition<'t>],
+    fragments: &BTreeMap<&'t str, usize, A>,
+) -> Option<(ExecutableDefinition<'t>, ExecutableDefinition<'t>)>
+    requires { AreFirstNumbers fragments.now (fragment_names (map as_defined definitions.now)) }
+    ensures some { IfSome result (λ t. AreTwins (map as_defined definitions.now) (as_defined t.0) (as_defined t.1)) }
+    ensures none { IfNone result (AreDistinct (fragment_names (map as_defined definitions.now))) }
+{
+    for number in 0..definitions.len() {
+        if let Some(first) = earlier(definitions, number, fragments) {
+            return Some((definitions[first], definitions[number]));
+        }
+    }
+    None
+}
+
+// The items of each definition.
+fn all_items<'t, A: Allocator + Copy>(
+    alloc: A,
+    definitions: &[ExecutableDefinition<'t>],
+    fragments: &BTreeMap<&'t str, usize, A>,
+) -> Result<Vec<Vec<Item, A>, A>, AllocError>
+    requires { AreFirstNumbers fragments.now (fragment_names (map as_defined definitions.now)) }
+    ensures { IfOk result (λ found. map (λ items. items.items) found.items ≡ items_of (map as_defined definitions.now)) }
+{
+    let mut found = Vec::new(alloc);
+    for definition in definitions {
+        found.push(items(alloc, &definition.node, fragments)?)?;
+    }
+    Ok(found)
+}
+
+// The operations, and their numbers among the definitions.
+#[derive(Drop)]
+struct OperationList<'t, A: Allocator> {
+    operations: Vec<ExecutableDefinition<'t>, A>,
+    numbers: Vec<usize, A>,
+}
+
+fn operations<'t, A: Allocator + Copy>(
+    alloc: A,
+    definitions: &[ExecutableDefinition<'t>],
+) -> Result<OperationList<'t, A>, AllocError>
+    ensures operations { IfOk result (λ found. map as_defined found.operations.items ≡ filter is_operation (map as_defined definitions.now)) }
+    ensures numbers { IfOk result (λ found. found.numbers.items ≡ operations 0 (map as_defined definitions.now)) }
+{
+    let mut operations = Vec::new(alloc);
+    let mut numbers = Vec::new(alloc);
+    for (number, definition) in definitions.iter().enumerate() {
+        if let DefinitionKind::Operation = definition.kind {
+            operations.push(*definition)?;
+            numbers.push(number)?;
+        }
+    }
+    Ok(OperationList {
+        operations,
+        numbers,
+    })
+}
+
+// Each operation with its figures.
+fn paired<'t, A: Allocator + Copy>(
+    alloc: A,
+    operations: &[ExecutableDefinition<'t>],
+    figures: &[Figures],
+) -> Result<Vec<OperationFigures<'t>, A>, AllocError>
+    requires { length operations.now ≡ length figures.now }
+    ensures operations { IfOk result (λ v. map (λ m. m.operation) (map as_measure v.items) ≡ map as_defined operations.now) }
+    ensures figures { IfOk result (λ v. map (λ m. m.figures) (map as_measure v.items) ≡ figures.now) }
+{
+    let mut found = Vec::new(alloc);
+    for (number, operation) in operations.iter().enumerate() {
+        found.push(OperationFigures {
+            operation: *operation,
+            figures: figures[number],
+        })?;
+    }
+    Ok(found)
+}
+
+// The figures of the operations, where no two fragments have one name.
+fn measure_distinct<'t, A: Allocator + Copy>(
+    alloc: A,
+    definitions: &[ExecutableDefinition<'t>],
+    fragments: &BTreeMap<&'t str, usize, A>,
+) -> Result<Vec<OperationFigures<'t>, A>, MeasureError<'t>>
+    requires numbers { AreFirstNumbers fragments.now (fragment_names (map as_defined definitions.now)) }
+    requires distinct { AreDistinct (fragment_names (map as_defined definitions.now)) }
+    ensures figures { IfOk result (λ v. AreMeasures (map as_defined definitions.now) (map as_measure v.items)) }
+    ensures error { IfErr result (IsMeasureError (map as_defined definitions.now)) }
+{
+    let Ok(items) = all_items(alloc, definitions, fragments) else {
+        return Err(MeasureError::Memory);
+    };
+    let Ok(found) = operations(alloc, definitions) else {
+        return Err(MeasureError::Memory);
+    };
+    let numbers = found.numbers.as_slice();
+    match cost_figures::measure(alloc, items.as_slice(), numbers) {
+        Ok(figures) => match paired(alloc, found.operations.as_slice(), figures.as_slice()) {
+            Ok(measured) => Ok(measured),
+            Err(_) => Err(MeasureError::Memory),
+        },
+        Err(Fault::Cycle(span)) => Err(MeasureError::Cycle(span)),
+        Err(Fault::Undefined(span)) => Err(MeasureError::Undefined(span)),
+        Err(Fault::Memory) => Err(MeasureError::Memory),
+    }
+}
+
+/// The figures of the operations of a document, in order. `document` is the root of its tree, which should have no syntax errors: a field or a
+/// fragment without a name counts by these rules too.
+///
+/// Unless memory is refused, there are figures exactly if no two fragments have one name, and no operation leads to a cycle of fragments or to a spread
+/// of no fragment. Fragments that no operation leads to may have both. If several errors apply, names come first, and then the first wrong spread,
+/// fragments expanded.
+pub fn measure<'t, A: Allocator + Copy>(
+    alloc: A,
+    document: &SyntaxNode<'t>,
+) -> Result<Vec<OperationFigures<'t>, A>, MeasureError<'t>>
+    ensures figures { IfOk result (λ v. AreMeasures (defined (node_place document.now)) (map as_measure v.items)) }
+    ensures error { IfErr result (IsMeasureError (defined (node_place document.now))) }
+{
+    let Ok(definitions) = definitions(alloc, document) else {
+        return Err(MeasureError::Memory);
+    };
+    let Ok(fragments) = fragments(alloc, definitions.as_slice()) else {
+        return Err(MeasureError::Memory);
+    };
+    if let Some((first, second)) = twins(definitions.as_slice(), &fragments) {
+        return Err(MeasureError::SameName(first, second));
+    }
+    measure_distinct(alloc, definitions.as_slice(), &fragments)
+}

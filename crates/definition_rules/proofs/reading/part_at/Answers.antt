@@ -1,6 +1,0 @@
-use Rattle.std.proofs.Common.{sym}
-use Rattle.definition_rules.proofs.PartsLemmas.{at_read}
-use Rattle.definition_rules.proofs.reading.part_at.Goals as goal
-
-pub returns : goal.returns
-returns c = sym (at_read c.args.parts.now c.args.number c.index-parts-number.result c.requires c.index-parts-number.is)

@@ -1,7 +1,0 @@
-use Rattle.std.proofs.Common.{◌≡◌, map, take}
-use Rattle.executable_document.specs.Definitions.{as_defined}
-use Rattle.definition_rules.specs.Parts.{as_parts, parts_of}
-use Rattle.definition_rules.proofs.reading.parts.Given as goal
-
-abbrev pub invariant-loop-definition : goal.invariant-loop-definition
-invariant-loop-definition l = map as_parts l.parts.items ≡ map (λ d. parts_of (as_defined d)) (take l.definition-index l.definitions)

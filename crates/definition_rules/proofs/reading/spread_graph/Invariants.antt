@@ -1,7 +1,0 @@
-use Rattle.std.proofs.Common.{◌≡◌, map, take}
-use Rattle.definition_rules.specs.Parts.{as_parts}
-use Rattle.definition_rules.proofs.SpreadLemmas.{row_items, spread_numbers}
-use Rattle.definition_rules.proofs.reading.spread_graph.Given as goal
-
-abbrev pub invariant-loop-definition : goal.invariant-loop-definition
-invariant-loop-definition l = map row_items l.graph.items ≡ map (spread_numbers l.fragments) (map as_parts (take l.definition-index l.parts))

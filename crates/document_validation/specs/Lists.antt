@@ -1,0 +1,67 @@
+-- Lists in a tree whose items have to have different names, and which definitions are executable.
+use Rattle.std.specs.Prelude.{List, Bool, true, false, not, ◌&&◌, ◌||◌, Option, Some, None, [], ◌∷◌, option_map, if◌then◌else◌}
+use Rattle.std.specs.List.{filter, filter_map, list_any}
+use Rattle.document_grammar.specs.declared.kind.SyntaxKind.TheVariants.{ARGUMENTS, ARGUMENTS_DEFINITION, ENUM_VALUES_DEFINITION, FIELDS_DEFINITION}
+use Rattle.document_grammar.specs.declared.kind.SyntaxKind.TheVariants.{FRAGMENT_DEFINITION, INPUT_FIELDS_DEFINITION, OBJECT_VALUE, OPERATION_DEFINITION}
+use Rattle.document_grammar.specs.declared.kind.SyntaxKind.TheVariants.{IMPLEMENTS_INTERFACES, UNION_MEMBER_TYPES, VARIABLE_DEFINITIONS}
+use Rattle.document_grammar.specs.Numbers.{is_kind}
+use Rattle.apollo_tree.specs.Order.{Place, kind_at}
+use Rattle.apollo_tree.specs.Children.{child_nodes, is_node_place}
+use Rattle.apollo_tree.specs.Below.{at_or_below}
+use Rattle.validation_names.specs.Mentions.{Named}
+use Rattle.document_validation.specs.declared.lists.DocumentKind.{DocumentKind}
+use Rattle.document_validation.specs.declared.lists.DocumentKind.TheVariants.{Executable, TypeSystem}
+use Rattle.document_validation.specs.declared.lists.NamedList.{NamedList}
+use Rattle.document_validation.specs.declared.lists.NamedList.TheVariants.{Arguments, ObjectFields, Variables, FieldDefinitions}
+use Rattle.document_validation.specs.declared.lists.NamedList.TheVariants.{InputFieldDefinitions, ArgumentDefinitions, EnumValues, UnionMembers, Interfaces}
+use Rattle.document_validation.specs.OwnNames.{own_name}
+
+-- the list that an element is
+abbrev pub list_of : Place → Option NamedList
+list_of p =
+    if is_kind ARGUMENTS (kind_at p)
+    then Some Arguments
+    else (if is_kind OBJECT_VALUE (kind_at p)
+    then Some ObjectFields
+    else (if is_kind VARIABLE_DEFINITIONS (kind_at p)
+    then Some Variables
+    else (if is_kind FIELDS_DEFINITION (kind_at p)
+    then Some FieldDefinitions
+    else (if is_kind INPUT_FIELDS_DEFINITION (kind_at p)
+    then Some InputFieldDefinitions
+    else (if is_kind ARGUMENTS_DEFINITION (kind_at p)
+    then Some ArgumentDefinitions
+    else (if is_kind ENUM_VALUES_DEFINITION (kind_at p)
+    then Some EnumValues
+    else (if is_kind UNION_MEMBER_TYPES (kind_at p)
+    then Some UnionMembers
+    else (if is_kind IMPLEMENTS_INTERFACES (kind_at p)
+    then Some Interfaces
+    else None))))))))
+
+-- an item of such a list
+abbrev pub item_of : Place → Option Named
+item_of p = option_map (λ name. record { place = p; name = name }) (own_name p)
+
+-- the items of a list that have a name, as each has in a tree without errors
+abbrev pub items_of : Place → List Named
+items_of p = filter_map item_of (child_nodes p)
+
+-- the nodes at and below an element
+abbrev pub nodes : Place → List Place
+nodes root = filter is_node_place (at_or_below root)
+
+-- ---- 5.1.1: a document has only executable definitions
+abbrev pub is_executable : Place → Bool
+is_executable p = is_kind OPERATION_DEFINITION (kind_at p) || is_kind FRAGMENT_DEFINITION (kind_at p)
+
+abbrev pub has_item : List Place → Bool
+has_item [] = false
+has_item (p ∷ ps) = true
+
+-- What a document is judged as: as one of the type system if it has definitions, and none of them is an operation or a fragment.
+abbrev pub document_kind : Place → DocumentKind
+document_kind document =
+    if has_item (child_nodes document) && not (list_any is_executable (child_nodes document))
+    then TypeSystem
+    else Executable

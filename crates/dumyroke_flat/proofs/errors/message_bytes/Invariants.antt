@@ -1,6 +1,0 @@
-use Rattle.std.proofs.Common.{◌≡◌, length, take}
-use Rattle.dumyroke_flat.specs.Rows.{messages}
-use Rattle.dumyroke_flat.proofs.errors.message_bytes.Given as goal
-
-abbrev pub invariant-loop-error : goal.invariant-loop-error
-invariant-loop-error g l = l.bytes ≡ length (messages (take l.error-index l.errors))

@@ -1,5 +1,0 @@
-use Rattle.dumyroke_validation.proofs.Again.{measures-again}
-use Rattle.dumyroke_validation.proofs.laws.measures_again.Goals as goal
-
-pub returns : goal.returns
-returns c = measures-again

@@ -1,5 +1,0 @@
-use Rattle.dumyroke_validation.proofs.ViolationsAgain.{violations-again}
-use Rattle.dumyroke_validation.proofs.laws.violations_again.Goals as goal
-
-pub returns : goal.returns
-returns c = violations-again

@@ -1,7 +1,0 @@
-use Rattle.std.proofs.Common.{◌≡◌, map, take}
-use Rattle.operation_limits.specs.Measures.{as_measure}
-use Rattle.dumyroke_validation.specs.Rows.{operation_row}
-use Rattle.dumyroke_validation.proofs.measuring.rows_of.Given as goal
-
-abbrev pub invariant-loop-measured : goal.invariant-loop-measured
-invariant-loop-measured g l = l.rows.items ≡ map operation_row (map as_measure (take l.measured-index l.operations))

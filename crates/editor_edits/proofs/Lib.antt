@@ -1,2 +1,0 @@
-mod Clients
-pub mod SoFar

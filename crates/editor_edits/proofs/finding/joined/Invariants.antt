@@ -1,9 +1,0 @@
-use Rattle.std.proofs.Common.{◌+◌, ◌-◌, length}
-use Rattle.editor_edits.specs.Finding.{IsStep}
-use Rattle.editor_edits.proofs.finding.joined.Given as goal
-
-abbrev pub invariant-loop-step : goal.invariant-loop-step
-invariant-loop-step l = IsStep l.fn.old l.fn.new l.from l.to l.step
-
-abbrev pub decreases-loop-step : goal.decreases-loop-step
-decreases-loop-step l = (length l.fn.old - l.step.end) + (length l.fn.new - l.step.text_end)

@@ -1,4 +1,0 @@
-use Rattle.gqlcst_run.proofs.rendering.tree.put_leaf.Goals as goal
-
-pub returns : goal.returns
-returns g c = record { output = _; puts = c.put_quoted_after.ensures.puts }

@@ -1,5 +1,0 @@
-use Rattle.gqlls_files.specs.FolderDialogues.{nothing}
-use Rattle.gqlls_files.proofs.folder.FolderServer.drop_faulty.Goals as goal
-
-pub returns-else-errors-gt-MOST_ERRORS : goal.returns-else-errors-gt-MOST_ERRORS
-returns-else-errors-gt-MOST_ERRORS g c = nothing

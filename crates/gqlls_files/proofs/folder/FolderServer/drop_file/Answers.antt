@@ -1,6 +1,0 @@
-use Rattle.std.proofs.Common.{refl}
-use Rattle.gqlls_files.specs.FolderDialogues.{dropped, nothing}
-use Rattle.gqlls_files.proofs.folder.FolderServer.drop_file.Goals as goal
-
-pub returns : goal.returns
-returns g c = dropped nothing refl c.drop_file-bytes.ensures

@@ -1,6 +1,0 @@
-use Rattle.gqlls_files.specs.FolderDialogues.{Reads}
-use Rattle.gqlls_files.specs.State.{folder_dialogue_of}
-use Rattle.gqlls_files.proofs.folder.FolderServer.read_folders.Given as goal
-
-abbrev pub invariant-loop-folder : goal.invariant-loop-folder
-invariant-loop-folder g l = Reads g.F.Files.lists g.F.Files.reads g.F.Files.locates (folder_dialogue_of l.fn.self) (folder_dialogue_of l.self)

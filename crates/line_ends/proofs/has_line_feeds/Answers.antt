@@ -1,5 +1,0 @@
-use Rattle.line_ends.proofs.Ends.{no-cr-feeds}
-use Rattle.line_ends.proofs.has_line_feeds.Goals as goal
-
-pub returns : goal.returns
-returns c = no-cr-feeds c.args.text.now c.as_bytes.result.now c.memchr.result c.is_none.result c.as_bytes.ensures.value c.memchr.ensures c.is_none.ensures

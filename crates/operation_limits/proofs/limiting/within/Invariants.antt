@@ -1,7 +1,0 @@
-use Rattle.std.proofs.Common.{All, map, take}
-use Rattle.operation_limits.specs.Measures.{as_measure}
-use Rattle.operation_limits.specs.Limits.{IsWithin}
-use Rattle.operation_limits.proofs.limiting.within.Given as goal
-
-abbrev pub invariant-loop-measured : goal.invariant-loop-measured
-invariant-loop-measured l = All (IsWithin l.limits) (take l.measured-index (map as_measure l.operations))

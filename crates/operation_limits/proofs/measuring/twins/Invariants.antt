@@ -1,7 +1,0 @@
-use Rattle.std.proofs.Common.{◌<◌, ℕ, map}
-use Rattle.executable_document.specs.Definitions.{as_defined, fragment_names}
-use Rattle.operation_limits.specs.Measures.{IsFirst}
-use Rattle.operation_limits.proofs.measuring.twins.Given as goal
-
-abbrev pub invariant-loop-number : goal.invariant-loop-number
-invariant-loop-number g l = (k : ℕ) → k < l.number → IsFirst (fragment_names (map as_defined l.definitions)) k

@@ -1,7 +1,0 @@
-use Rattle.std.proofs.Common.{◌≡◌, drop}
-use Rattle.program_words.specs.Options.{row_called}
-use Rattle.program_words.specs.Reading.{as_rows}
-use Rattle.program_words.proofs.options.row_called.Given as goal
-
-abbrev pub invariant-loop-row : goal.invariant-loop-row
-invariant-loop-row l = row_called l.name (as_rows l.rows) ≡ row_called l.name (as_rows (drop l.row-index l.rows))
