@@ -324,8 +324,8 @@ def violations():
     client = started()
     expect("a valid document", found("query Q($a: Int) { b(c: $a) ...F }\nfragment F on A { d }"), [])
     expect("unused things", found("query Q($a: Int, $b: Int) { c(d: $b) }\nfragment F on A { e }"),
-           [(span(1, 9, 10), 2, "NoUnusedFragments", 'Fragment "F" is never used.'),
-            (span(0, 8, 10), 2, "NoUnusedVariables", 'Variable "$a" is never used in operation "Q".')])
+           [(span(0, 8, 10), 2, "NoUnusedVariables", 'Variable "$a" is never used in operation "Q".'),
+            (span(1, 9, 10), 2, "NoUnusedFragments", 'Fragment "F" is never used.')])
     expect(
         "an unknown fragment", found("{ ...F }"), [(span(0, 5, 6), 2, "KnownFragmentNames", 'Unknown fragment "F".')]
     )
