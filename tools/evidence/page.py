@@ -20,7 +20,7 @@ PARTS = {
         apollo_lexer/src/lexer.rt apollo_lexer/src/limit.rt apollo_lexer/src/error.rt apollo_lexer/src/token.rt
         apollo_lexer/src/lex_error.rt""",
     "`gqlcst`": "byte_streams/src gqlcst_run/src/program.rt gqlcst_run/src/outcome.rt command_lines/src/gqlcst.rt",
-    "`format`": "formatter/src/lib.rt",
+    "`format_or_errors`": "formatter/src/lib.rt",
     "`gqlfmt`": """
         ignore_rules/src/rules.rt unignored_files/src/unignored.rt named_files/src/search.rt
         command_lines/src/gqlfmt.rt gqlfmt_run/src/revision.rt gqlfmt_run/src/input.rt gqlfmt_run/src/paths.rt
@@ -32,7 +32,7 @@ PARTS = {
     "positions, and `gqlls`": """
         line_index/src editor_text/src rpc_messages/src rpc_serving/src editor_diagnostics/src editor_validation/src
         editor_answers/src embedded_documents/src schema_members/src command_lines/src/gqlls.rt
-        gqlls_run/src/server.rt file_uris/src gqlls_program/src/program.rt""",
+        gqlls_server/src/server.rt file_uris/src gqlls_program/src/program.rt""",
     "validation": (
         "document_validation/src/validation.rt document_validation/src/messages.rt document_validation/src/lists.rt"
     ),
@@ -46,11 +46,11 @@ LAWS = """
     lexical_grammar/src/lib.rt lexical_grammar/src/escapes.rt document_grammar/src/kind.rt
     document_grammar/src/laws.rt grammar_machine/src/laws.rt apollo_lexer/src/laws.rt apollo_parser/src/laws.rt
     apollo_cst_core/src/typed.rt apollo_cst_core/src/strings.rt apollo_cst_core/src/kinds.rt
-    format_layout/src/layout.rt format_layout/src/spelling.rt format_layout/src/laws.rt format_layout/src/slot.rt"""
+    format_layout/src/layout.rt format_layout/src/block_strings.rt format_layout/src/laws.rt format_layout/src/slot.rt"""
 # The calls and programs for which the lines of definitions are counted.
 COUNTED = {
     "`parse`, and parts of documents": "apollo_parser/src/parser.rt",
-    "`format`": "formatter/src/lib.rt",
+    "`format_or_errors`": "formatter/src/lib.rt",
     "`gqlcst`": "gqlcst_run/src/program.rt",
     "`gqlfmt`": "gqlfmt_run/src/program.rt unignored_files/src/unignored.rt",
     "`gqlcheck`": "gqlcheck_run/src/program.rt",

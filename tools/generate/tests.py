@@ -37,7 +37,7 @@ WRITTEN = (
         "c_parsing",
         "c_validation",
         "gqlls_program",
-        "gqlls_run",
+        "gqlls_server",
         "schema_members",
         *(path.name for path in CRATES.glob("apollo_cst_*")),
     ),

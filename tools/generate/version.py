@@ -11,7 +11,7 @@ PLACES = {
     CRATES / "gqlcheck_run/src/command.rt": ('pub const VERSION: &str = "gqlcheck ', '\\n";'),
     CRATES / "gqlfmt_run/src/command.rt": ('pub const VERSION: &str = "gqlfmt ', '\\n";'),
     CRATES / "gqlls_program/src/command.rt": ('pub const VERSION: &str = "gqlls ', '\\n";'),
-    CRATES / "gqlls_run/src/capabilities.rt": ('const VERSION: &str = "', '";'),
+    CRATES / "gqlls_server/src/capabilities.rt": ('const VERSION: &str = "', '";'),
     TOP / "bindings/python/pyproject.toml": ('version = "', '"'),
     TOP / "bindings/python/dumyroke/__init__.py": ('__version__ = "', '"'),
     TOP / "bindings/npm/package.json": ('"version": "', '"'),

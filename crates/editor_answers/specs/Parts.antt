@@ -2,7 +2,7 @@
 use Rattle.std.specs.Prelude.{◌≢◌, ℕ, ◌<◌, ◌≤◌, List, slice_index_or, slice_range}
 use Rattle.std.specs.List.{All, AllPairs}
 use Rattle.editor_answers.specs.declared.span.Span.{Span}
-use Rattle.editor_answers.specs.declared.coloring.SemanticToken.{SemanticToken}
+use Rattle.editor_answers.specs.declared.tokens.SemanticToken.{SemanticToken}
 
 -- the part has the byte at an offset
 pub record Holds (offset : ℕ) (part : Span) : Type 0 where

@@ -1,5 +1,5 @@
 -- Parts of the results of requests (Language Server Protocol 3.17).
-use Rattle.std.specs.Prelude.{ℕ, List, [], ◌∷◌, codes}
+use Rattle.std.specs.Prelude.{ℕ, List, ◌∷◌, codes}
 use Rattle.json.specs.Json.{Json, member, no_members, object, string}
 use Rattle.json.specs.Token.{Token, key}
 use Rattle.json.specs.Tree.{json_tokens}

@@ -4,30 +4,30 @@
 //! functions whose names begin with `answer` give the body of the answer to a request of the Language Server Protocol, with lines and columns; those
 //! whose names begin with `push` add the result of a request to the pieces of which its answer is made.
 //!
-//! `gqlls_run`, the crate above, calls one function for each request.
+//! `gqlls_server`, the crate above, calls one function for each request.
 #![tactic(auto)]
 
 mod answers;
-mod coloring;
-mod folding;
-mod hovering;
+mod folds;
+mod hovers;
 mod labels;
 mod names;
 mod outline;
-mod selecting;
+mod selections;
 mod span;
+mod tokens;
 mod usage;
 
 pub use answers::{
     Elsewhere, Markup, answer_hover, answer_symbols, answer_tokens, push_changes, push_folds,
     push_location, push_locations, push_marks, push_range, push_selections,
 };
-pub use coloring::{SemanticToken, TOKEN_TYPES, TokenType, semantic_tokens};
-pub use folding::fold_of;
-pub use hovering::{Hover, description_of, hover_at};
+pub use folds::fold_of;
+pub use hovers::{Hover, description_of, hover_at};
 pub use labels::identifier_at;
 pub use names::{Meaning, NameKind, meaning_of};
 pub use outline::{Symbol, SymbolKind, symbol_of};
-pub use selecting::selection;
+pub use selections::selection;
 pub use span::{Span, span_of};
+pub use tokens::{SemanticToken, TOKEN_TYPES, TokenType, semantic_tokens};
 pub use usage::{definition, definition_elsewhere, references, references_elsewhere};

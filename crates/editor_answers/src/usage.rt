@@ -19,7 +19,7 @@ use std::alloc::{AllocError, Global};
 
 // A name that is looked for: its meaning, its text, and the node in which it means this.
 #[derive(Clone, Copy)]
-struct Sought<'t> {
+struct Target<'t> {
     kind: NameKind,
     text: &'t str,
     scope: SyntaxNode<'t>,
@@ -58,12 +58,12 @@ fn scope_of<'t>(root: SyntaxNode<'t>, leaf: SyntaxToken<'t>, kind: NameKind) -> 
 }
 
 // The name at an offset.
-fn sought_at<'t>(root: SyntaxNode<'t>, offset: usize) -> Option<Sought<'t>>
-    ensures { option_map (λ sought. wanted sought.kind sought.text.now (node_place sought.scope)) result ≡ wanted_at (node_place root.entry) offset }
+fn target_at<'t>(root: SyntaxNode<'t>, offset: usize) -> Option<Target<'t>>
+    ensures { option_map (λ target. wanted target.kind target.text.now (node_place target.scope)) result ≡ wanted_at (node_place root.entry) offset }
 {
     let leaf = identifier_at(root, offset)?;
     let kind = kind_of(leaf)?;
-    Some(Sought {
+    Some(Target {
         kind,
         text: leaf.text(),
         scope: scope_of(root, leaf, kind),
@@ -71,42 +71,42 @@ fn sought_at<'t>(root: SyntaxNode<'t>, offset: usize) -> Option<Sought<'t>>
 }
 
 // Whether an element is the leaf of the name that is looked for.
-fn is_name(element: SyntaxElement<'_>, sought: Sought<'_>) -> bool
-    ensures { result ≡ is_name sought.entry.kind sought.entry.text.now (element_place element.entry) }
+fn is_name(element: SyntaxElement<'_>, target: Target<'_>) -> bool
+    ensures { result ≡ is_name target.entry.kind target.entry.text.now (element_place element.entry) }
 {
     match element.into_token() {
         Some(leaf) => {
             leaf.kind().is(SyntaxKind::IDENT)
-                && is_name_of(leaf, sought.kind)
-                && leaf.text() == sought.text
+                && is_name_of(leaf, target.kind)
+                && leaf.text() == target.text
         }
         None => false,
     }
 }
 
 // Whether it is this in a definition.
-fn is_definition(element: SyntaxElement<'_>, sought: Sought<'_>) -> bool
-    ensures { result ≡ is_definition sought.entry.kind sought.entry.text.now (element_place element.entry) }
+fn is_definition(element: SyntaxElement<'_>, target: Target<'_>) -> bool
+    ensures { result ≡ is_definition target.entry.kind target.entry.text.now (element_place element.entry) }
 {
     match element.into_token() {
-        Some(leaf) => is_name(element, sought) && is_defined_by(leaf, sought.kind),
+        Some(leaf) => is_name(element, target) && is_defined_by(leaf, target.kind),
         None => false,
     }
 }
 
 // Whether it is a use of the name, or a definition where these are looked for too.
-fn is_reference(element: SyntaxElement<'_>, sought: Sought<'_>, with_definition: bool) -> bool
-    ensures { result ≡ is_reference with_definition sought.entry.kind sought.entry.text.now (element_place element.entry) }
+fn is_reference(element: SyntaxElement<'_>, target: Target<'_>, with_definition: bool) -> bool
+    ensures { result ≡ is_reference with_definition target.entry.kind target.entry.text.now (element_place element.entry) }
 {
-    is_name(element, sought) && (with_definition || !is_definition(element, sought))
+    is_name(element, target) && (with_definition || !is_definition(element, target))
 }
 
 // Where the name is defined that is looked for.
-fn first_definition(sought: Sought<'_>) -> Option<Span>
-    ensures { option_map bounds result ≡ option_map range_at (find (is_definition sought.entry.kind sought.entry.text.now) (at_or_below (node_place sought.entry.scope))) }
+fn first_definition(target: Target<'_>) -> Option<Span>
+    ensures { option_map bounds result ≡ option_map range_at (find (is_definition target.entry.kind target.entry.text.now) (at_or_below (node_place target.entry.scope))) }
 {
-    for element in sought.scope.descendants_with_tokens() {
-        if is_definition(element, sought) {
+    for element in target.scope.descendants_with_tokens() {
+        if is_definition(element, target) {
             return Some(span_of(element.text_range()));
         }
     }
@@ -119,23 +119,23 @@ fn first_definition(sought: Sought<'_>) -> Option<Span>
 pub fn definition(root: SyntaxNode<'_>, offset: usize) -> Option<Span>
     ensures { option_map bounds result ≡ option_map range_at (definition_in (node_place root.entry) offset) }
 {
-    first_definition(sought_at(root, offset)?)
+    first_definition(target_at(root, offset)?)
 }
 
 // The name at an offset, as it is looked for in another document.
-fn sought_elsewhere<'t>(
+fn target_elsewhere<'t>(
     root: SyntaxNode<'t>,
     offset: usize,
     other: SyntaxNode<'t>,
-) -> Option<Sought<'t>>
-    ensures { option_map (λ sought. wanted sought.kind sought.text.now (node_place sought.scope)) result ≡ wanted_elsewhere (node_place root.entry) offset (node_place other.entry) }
+) -> Option<Target<'t>>
+    ensures { option_map (λ target. wanted target.kind target.text.now (node_place target.scope)) result ≡ wanted_elsewhere (node_place root.entry) offset (node_place other.entry) }
 {
-    let sought = sought_at(root, offset)?;
-    match sought.kind {
+    let target = target_at(root, offset)?;
+    match target.kind {
         NameKind::Operation | NameKind::Variable => None,
-        NameKind::Fragment | NameKind::Type | NameKind::Directive => Some(Sought {
-            kind: sought.kind,
-            text: sought.text,
+        NameKind::Fragment | NameKind::Type | NameKind::Directive => Some(Target {
+            kind: target.kind,
+            text: target.text,
             scope: other,
         }),
     }
@@ -150,21 +150,21 @@ pub fn definition_elsewhere(
 ) -> Option<Span>
     ensures { option_map bounds result ≡ option_map range_at (definition_elsewhere (node_place root.entry) offset (node_place other.entry)) }
 {
-    first_definition(sought_elsewhere(root, offset, other)?)
+    first_definition(target_elsewhere(root, offset, other)?)
 }
 
 // Where the name is used that is looked for, in the order of the text.
 fn all_references(
     alloc: Global,
-    sought: Sought<'_>,
+    target: Target<'_>,
     with_definition: bool,
 ) -> Result<Vec<Span>, AllocError>
     ensures { IfOk result (λ found. map bounds found.items ≡ map range_at
-        (filter (is_reference with_definition sought.entry.kind sought.entry.text.now) (at_or_below (node_place sought.entry.scope)))) }
+        (filter (is_reference with_definition target.entry.kind target.entry.text.now) (at_or_below (node_place target.entry.scope)))) }
 {
     let mut found = Vec::new(alloc);
-    for element in sought.scope.descendants_with_tokens() {
-        if is_reference(element, sought, with_definition) {
+    for element in target.scope.descendants_with_tokens() {
+        if is_reference(element, target, with_definition) {
             found.push(span_of(element.text_range()))?;
         }
     }
@@ -181,8 +181,8 @@ pub fn references(
 ) -> Result<Vec<Span>, AllocError>
     ensures { IfOk result (λ found. map bounds found.items ≡ map range_at (references_in (node_place root.entry) offset with_definition)) }
 {
-    match sought_at(root, offset) {
-        Some(sought) => all_references(alloc, sought, with_definition),
+    match target_at(root, offset) {
+        Some(target) => all_references(alloc, target, with_definition),
         None => Ok(Vec::new(alloc)),
     }
 }
@@ -199,8 +199,8 @@ pub fn references_elsewhere(
     ensures { IfOk result (λ found. map bounds found.items ≡ map range_at
         (references_elsewhere (node_place root.entry) offset (node_place other.entry) with_definition)) }
 {
-    match sought_elsewhere(root, offset, other) {
-        Some(sought) => all_references(alloc, sought, with_definition),
+    match target_elsewhere(root, offset, other) {
+        Some(target) => all_references(alloc, target, with_definition),
         None => Ok(Vec::new(alloc)),
     }
 }

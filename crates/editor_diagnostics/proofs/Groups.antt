@@ -1,8 +1,7 @@
 -- The errors of the definitions, and the remarks on them.
 use Rattle.std.proofs.Common.{◌≡◌, ◌<◌, ◌+◌, ◌-◌, ℕ, suc, get_or, List, [], ◌∷◌, ◌++◌, Bool, true, false, cond, None, map, take, drop, length, min}
 use Rattle.std.proofs.Common.{ap, refl, sym, ◌∙◌, inl, inr, arith}
-use Rattle.std.specs.Prelude.{nat_lt, take_while}
-use Rattle.std.specs.List.{flat_map}
+use Rattle.std.specs.Prelude.{take_while}
 use Rattle.std.proofs.lemmas.Bool.{cases_Bool}
 use Rattle.std.proofs.lemmas.List.{length-map, map-append, take-map, take_min}
 use Rattle.std.proofs.Math.Seq.{take-suc}

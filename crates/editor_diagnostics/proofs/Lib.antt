@@ -1,3 +1,3 @@
 pub mod Cursors
 pub mod Groups
-pub mod Told
+pub mod RemarkTokens

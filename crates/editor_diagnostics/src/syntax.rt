@@ -5,8 +5,8 @@ ghost use Rattle.editor_diagnostics.specs.Remarks.{as_remarked};
 ghost use Rattle.first_errors.specs.Groups.{group_of, groups, is_earlier};
 ghost use Rattle.editor_diagnostics.specs.Syntax.{IsAboutFirst, as_group, mark_end, more_remarks, noun_of, others_words, syntax_remark, syntax_remarks, words_for};
 
+use crate::message_words::words_for;
 use crate::remark::{Remark, Severity};
-use crate::wording::words_for;
 use apollo_lexer::Error;
 use std::alloc::{AllocError, Global};
 

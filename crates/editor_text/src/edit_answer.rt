@@ -1,5 +1,5 @@
 // The answer that has edits.
-ghost use Rattle.std.specs.Prelude.{◌≡◌, ◌++◌, IfOk, List, flat_map, map};
+ghost use Rattle.std.specs.Prelude.{◌≡◌, ◌++◌, IfOk, flat_map};
 ghost use Rattle.json.specs.Json.{Json};
 ghost use Rattle.json.specs.Tree.{HasNumbers, json_tokens};
 ghost use Rattle.json.specs.Value.{value_view};

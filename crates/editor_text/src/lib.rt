@@ -3,11 +3,11 @@
 //! A change replaces a range of positions, or the whole text. After it the document has the text that the client has: the contract says so for
 //! a client that counts lines and units of an encoding.
 //!
-//! `gqlls_run`, the crate above, keeps an `OpenDocument` for each file and calls its `change_all`. For its answers it parses a text whose
+//! `gqlls_server`, the crate above, keeps an `OpenDocument` for each file and calls its `change_all`. For its answers it parses a text whose
 //! quoted strings are `closed` where their lines leave them open.
 //!
 //! The other way round, `answer_edits` answers a request by the edits that make a text another one. They are so small that a client keeps its marks, its
-//! folds and its cursor. `gqlls_run` calls it with a document and its layout.
+//! folds and its cursor. `gqlls_server` calls it with a document and its layout.
 #![tactic(auto)]
 
 ghost use Rattle.std.specs.Prelude.{◌≡◌, string_bytes, IfOk, OnOk, OnErr};

@@ -1,5 +1,5 @@
 -- Remarks depend on which fragments other documents have, and not on the order of the documents.
-use Rattle.std.proofs.Common.{◌≡◌, ◌⊎◌, ◌<◌, ℕ, zero, suc, Bool, true, false, not, List, [], ◌∷◌, length, map, take, arith, refl, sym, ap, ◌∙◌}
+use Rattle.std.proofs.Common.{◌≡◌, zero, suc, Bool, true, false, not, List, [], ◌∷◌, map, take, arith, refl, sym, ap, ◌∙◌}
 use Rattle.std.specs.Prelude.{◌↔◌, ◌||◌}
 use Rattle.std.specs.List.{Contains, filter, list_any}
 use Rattle.document_grammar.specs.declared.kind.SyntaxKind.TheVariants.{FRAGMENT_NAME}
@@ -7,7 +7,6 @@ use Rattle.apollo_lexer.specs.Diagnostics.{Diagnostic}
 use Rattle.apollo_tree.specs.Order.{Place}
 use Rattle.document_validation.specs.Lists.{document_kind}
 use Rattle.document_validation.proofs.OneListLemmas.{one-list}
-use Rattle.validation_names.specs.Names.{Name}
 use Rattle.validation_names.specs.Mentions.{name_in}
 use Rattle.validation_rules.specs.Violations.{Breach}
 use Rattle.editor_diagnostics.specs.Remarks.{Remarked}

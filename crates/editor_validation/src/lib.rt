@@ -1,6 +1,6 @@
 //! Remarks on a document: its syntax errors, or the rules of validation that it breaks.
 //!
-//! `gqlls_run`, the crate above, calls `remarks` after each change and publishes what it gives.
+//! `gqlls_server`, the crate above, calls `remarks` after each change and publishes what it gives.
 #![tactic(auto)]
 
 mod all_remarks;

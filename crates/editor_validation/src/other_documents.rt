@@ -1,5 +1,5 @@
 // Broken rules on fragments that other documents mend.
-ghost use Rattle.std.specs.Prelude.{◌≡◌, ◌||◌, not, IfOk, OnOk, is_some, map, option_map, string_bytes};
+ghost use Rattle.std.specs.Prelude.{◌≡◌, ◌||◌, not, IfOk, OnOk, is_some, map, string_bytes};
 ghost use Rattle.std.specs.List.{filter};
 ghost use Rattle.validation_names.specs.Names.{Name, entry_of};
 ghost use Rattle.validation_rules.specs.Violations.{as_breach};

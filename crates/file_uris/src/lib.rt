@@ -3,7 +3,7 @@
 //! `path_of` gives the path of a URI, and `uri_of` the URI of a path. Clients spell URIs in different ways, so files are compared by their paths, or by the
 //! one URI of a path, which `normalized` gives.
 //!
-//! `gqlls_run` and `gqlls_program`, the crates above, call them.
+//! `gqlls_server` and `gqlls_program`, the crates above, call them.
 #![tactic(auto)]
 
 ghost use Rattle.std.specs.Prelude.{◌≡◌, ◌∷◌, ℕ, IfOk, MatchOption, None, Some, List, option_map, string_bytes};

@@ -1,5 +1,5 @@
 -- The errors of a document by its definitions.
-use Rattle.std.specs.Prelude.{ℕ, Bool, not, nat_lt, List, [], ◌∷◌, ◌++◌, length, drop, map}
+use Rattle.std.specs.Prelude.{ℕ, Bool, not, nat_lt, List, [], ◌∷◌, length, drop, map}
 use Rattle.std.specs.Prelude.{flat_map, take_while}
 use Rattle.apollo_parser.specs.Children.{child_nodes}
 use Rattle.apollo_parser.specs.Diagnostics.{Diagnostic}

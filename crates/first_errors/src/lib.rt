@@ -4,8 +4,8 @@
 //! one for each of the two queries. `document_checks` and `formatter` call `first_errors` for the errors of a parse.
 #![tactic(auto)]
 
-mod choosing;
+mod definition_errors;
 mod words;
 
-pub use choosing::{FirstErrors, definition_starts, first_errors};
+pub use definition_errors::{FirstErrors, definition_starts, first_errors};
 pub use words::{for_people, shown_at};

@@ -9,6 +9,7 @@
 //! whose block strings are spelled anew. And so is which signs come or go: the writer knows by the tokens before them which ones are optional (`Lead`).
 #![tactic(auto)]
 
+mod block_strings;
 mod block_text;
 mod comments;
 mod elements;
@@ -21,12 +22,11 @@ mod lead;
 mod rules;
 mod size;
 mod slot;
-mod spelling;
 mod style;
 mod walk;
-mod writing;
+mod writer;
 
 pub use elements::Elements;
 pub use gaps::Gaps;
 pub use style::WriteError;
-pub use writing::{format_document, format_text};
+pub use writer::{format_document, format_text};

@@ -58,7 +58,7 @@ fn gaps_of<A: Allocator + Copy>(alloc: A, source: &str) -> Result<Gaps<A>, Alloc
 /// A text without definitions with the layout of this crate, of at most `most` bytes: one that is empty, or has comments alone. `None` where the text has a
 /// significant token or bad text. It fails where memory is refused, or the formatted text has more bytes, as `format_within` does.
 ///
-/// Such a text is no document by the standard, so `format` refuses it; but people have such files, and want them formatted too.
+/// Such a text is no document by the standard, so `format_or_errors` refuses it; but people have such files, and want them formatted too.
 pub fn format_comments<A: Allocator + Copy>(
     alloc: A,
     source: &str,

@@ -1,9 +1,9 @@
 //! Formats a GraphQL document: the same document with another layout, or the errors of a text that is no document.
 //!
-//! `format` parses the text and writes it anew. It keeps significant tokens and comments, in their order; only the optional sign before a first member may
-//! come or go, and block strings may be spelled anew, with the same value. `format_within`, which `gqlls_run` and `c_parsing` call, has a bound on the
-//! formatted text. `gqlfmt_run` calls `Formatter` through the trait `DocumentFormatter`, so that it is proved without the code of the parser: one call also
-//! gives the errors that it shows, from the same parse, and another is for texts without definitions.
+//! `format_or_errors` parses the text and writes it anew, or gives the errors of that parse which people see first. It keeps significant tokens and
+//! comments, in their order. Only the optional sign before a first member may come or go, and block strings may be spelled anew, with the same value.
+//! `gqlfmt_run` calls it through the trait `DocumentFormatter`, so that it is proved without the code of the parser. `format_within`, which
+//! `gqlls_server` and `c_parsing` call, does the same without the errors, and `format_comments` is for texts without definitions.
 #![tactic(auto)]
 
 ghost use Rattle.std.specs.Prelude.{◌≡◌, ◌<◌, ◌≤◌, ℕ, true, false, List, None, length, map, IfErr, IfOk, IfSome, string_bytes};
@@ -14,15 +14,13 @@ ghost use Rattle.format_layout.specs.declared.style.WriteError.TheVariants.{TooL
 ghost use Rattle.format_layout.specs.Lengths.{longest_layout, most_items};
 ghost use Rattle.formatter.specs.Comments.{HasNoDefinitions, HasSameComments};
 ghost use Rattle.formatter.specs.Finding.{AreFirstOf};
-ghost use Rattle.formatter.specs.Formatted.{IsDocument, IsFormatted, IsNoDocument, IsRefused, MayExceed};
+ghost use Rattle.formatter.specs.Formatted.{IsDocument, IsFormatted, IsNoDocument, MayExceed};
 
 mod comments;
 pub mod laws;
 mod line_ends;
 
-use apollo_parser::{
-    BorrowedSyntaxTree, DocumentRoot, Error, IndexedElement, Lexer, Limits, Parser, own_errors,
-};
+use apollo_parser::{BorrowedSyntaxTree, DocumentRoot, IndexedElement, Lexer, Limits, Parser};
 pub use comments::{format_comments, has_no_definitions};
 use first_errors::{FirstErrors, first_errors};
 pub use format_layout::WriteError;
@@ -173,36 +171,6 @@ pub fn format_within<A: Allocator + Copy>(
     match Formatter.format_or_errors(alloc, source, limits, most, 0)? {
         Ok(text) => Ok(Some(text)),
         Err(_) => Ok(None),
-    }
-}
-
-// The errors of a text's parse.
-fn errors_of<A: Allocator + Copy>(
-    alloc: A,
-    source: &str,
-    limits: Limits,
-) -> Result<Vec<Error<A>, A>, AllocError>
-    ensures { IfOk result (λ errors. ¬ IsDocument source.now limits.recursion limits.tokens → IsRefused source.now limits.recursion limits.tokens errors.items) }
-{
-    let tree = Parser::within(source, limits).parse_borrowed(alloc)?;
-    let errors = own_errors(alloc, tree.errors().as_slice())?;
-    Ok(errors)
-}
-
-/// The document with a layout of any length; or all errors of `Parser::parse`, at least one. It fails only where memory is refused.
-pub fn format<A: Allocator + Copy>(
-    alloc: A,
-    source: &str,
-    limits: Limits,
-) -> Result<Result<String<A>, Vec<Error<A>, A>>, AllocError>
-    ensures formatted { IfOk result (λ r. IfOk r (λ text. IsFormatted source.now limits.recursion limits.tokens (string_bytes text))) }
-    ensures refused { IfOk result (λ r. IfErr r (λ errors. IsRefused source.now limits.recursion limits.tokens errors.items)) }
-{
-    match format_within(alloc, source, limits, usize::MAX) {
-        Ok(Some(text)) => Ok(Ok(text)),
-        Ok(None) => Ok(Err(errors_of(alloc, source, limits)?)),
-        // no memory has more bytes
-        Err(_) => Err(AllocError),
     }
 }
 

@@ -1,12 +1,11 @@
 -- Going over the characters of a name, and over the bytes of a character.
-use Rattle.std.proofs.Common.{◌≡◌, ◌∙◌, ℕ, ◌+◌, ◌<◌, Bool, true, false, ◌||◌, List, [], ◌∷◌, ◌++◌, length, take, get_or, refl, sym, ap}
+use Rattle.std.proofs.Common.{◌≡◌, ◌∙◌, ℕ, Bool, true, false, ◌||◌, List, [], ◌∷◌, ◌++◌, length, refl, sym, ap}
 use Rattle.std.proofs.Common.{append_assoc, append-nil, arith}
 use Rattle.std.specs.Prelude.{encode_utf8}
 use Rattle.std.specs.List.{flat_map, list_any}
 use Rattle.std.specs.Str.{IsUtf8, chars}
-use Rattle.std.proofs.lemmas.List.{take_more}
 use Rattle.std.proofs.lemmas.Str.{chars-nil, chars_past_char}
-use Rattle.gqlfmt_run.specs.Quoting.{is_escaped, octal, quoted_char}
+use Rattle.gqlfmt_run.specs.Quoting.{is_escaped, quoted_char}
 
 nothing : (rest : List ℕ) → length rest ≡ 0 → rest ≡ []
 nothing [] e = refl
@@ -26,21 +25,6 @@ one-more text text' rest rest' all c utf8 begins put h =
     ap (flat_map quoted_char) (chars_past_char rest rest' c utf8 begins) in
     ap (λ s. s ++ flat_map quoted_char (chars rest')) put ∙ append_assoc text (quoted_char c) (flat_map quoted_char (chars rest'))
     ∙ ap (λ s. text ++ s) (sym first) ∙ h
-
-over-append : (xs ys : List ℕ) → flat_map octal (xs ++ ys) ≡ flat_map octal xs ++ flat_map octal ys
-over-append [] ys = refl
-over-append (x ∷ xs) ys = ap (λ s. octal x ++ s) (over-append xs ys) ∙ sym (append_assoc (octal x) (flat_map octal xs) (flat_map octal ys))
-
--- one byte more
-pub byte-more : (bytes text text' before : List ℕ) (i d : ℕ) → i < length bytes → text' ≡ text ++ octal (get_or bytes i d)
-    → text ≡ before ++ flat_map octal (take i bytes) → text' ≡ before ++ flat_map octal (take (i + 1) bytes)
-byte-more bytes text text' before i d within put h =
-    let last : flat_map octal (get_or bytes i d ∷ []) ≡ octal (get_or bytes i d) = append-nil (octal (get_or bytes i d)) in
-    let more : flat_map octal (take (i + 1) bytes) ≡ flat_map octal (take i bytes) ++ octal (get_or bytes i d) =
-    ap (flat_map octal) (take_more bytes i d within) ∙ over-append (take i bytes) (get_or bytes i d ∷ [])
-    ∙ ap (λ s. flat_map octal (take i bytes) ++ s) last in
-    put ∙ ap (λ s. s ++ octal (get_or bytes i d)) h ∙ append_assoc before (flat_map octal (take i bytes)) (octal (get_or bytes i d))
-    ∙ ap (λ s. before ++ s) (sym more)
 
 -- whether a character is escaped: none is at the end
 pub any-ended : (rest : List ℕ) (all : Bool) → length rest ≡ 0 → list_any is_escaped (chars rest) ≡ all → false ≡ all

@@ -23,7 +23,7 @@ module _
   reads_on one (listed two lists is) = listed (reads_on one two) lists is
   reads_on one (passed_over two reads is) = passed_over (reads_on one two) reads is
   reads_on one (kept two reads keeps) = kept (reads_on one two) reads keeps
-  reads_on one (dropped two is learns) = dropped (reads_on one two) is learns
+  reads_on one (dropped two is sets) = dropped (reads_on one two) is sets
 
   -- folders are listed
   pub reads_lists : (state : FolderDialogue F) (files : F) → Lists lists state.files files

@@ -10,9 +10,9 @@ use Rattle.rpc_messages.specs.declared.reply.Reply.{Reply}
 use Rattle.rpc_serving.specs.Serving.{EndsServing, IsServed}
 use Rattle.file_access.specs.Listing.{Listing}
 use Rattle.file_uris.specs.Uris.{uri_of}
-use Rattle.gqlls_run.specs.Conversation.{IsAsked, IsHeard}
-use Rattle.gqlls_run.specs.Dialogue.{Dialogue, Learns, begun}
-use Rattle.gqlls_run.specs.Told.{Keeps}
+use Rattle.gqlls_server.specs.Conversation.{HandlesRequest, HandlesNotification}
+use Rattle.gqlls_server.specs.Dialogue.{Dialogue, SetsFile, initial_dialogue}
+use Rattle.gqlls_server.specs.Diagnostics.{KeepsFile}
 
 -- a dialogue, and the files as they are by then
 pub record FolderDialogue (F : Type 0) : Type 0 where
@@ -21,7 +21,7 @@ pub record FolderDialogue (F : Type 0) : Type 0 where
 
 -- no message was read
 abbrev pub opening : {F : Type 0} → Limits → F → FolderDialogue F
-opening limits files = record { dialogue = begun limits; files = files }
+opening limits files = record { dialogue = initial_dialogue limits; files = files }
 
 -- the files, as a trait tells what listing a folder, reading a file and locating a folder does
 module _
@@ -37,21 +37,21 @@ module _
     passed_over : {old middle new : FolderDialogue F} {path : List ℕ} {given : Result (List ℕ) Error}
         → Reads old middle → reads middle.files path given new.files → new.dialogue ≡ middle.dialogue → Reads old new
     kept : {old middle new : FolderDialogue F} {path text : List ℕ} {errors : ℕ}
-        → Reads old middle → reads middle.files path (Ok text) new.files → Keeps (uri_of path) text errors middle.dialogue new.dialogue → Reads old new
+        → Reads old middle → reads middle.files path (Ok text) new.files → KeepsFile (uri_of path) text errors middle.dialogue new.dialogue → Reads old new
     dropped : {old middle new : FolderDialogue F} {uri : List ℕ}
-        → Reads old middle → new.files ≡ middle.files → Learns uri None middle.dialogue new.dialogue → Reads old new
+        → Reads old middle → new.files ≡ middle.files → SetsFile uri None middle.dialogue new.dialogue → Reads old new
 
-  -- a notification is heard after files may have been read
-  pub record Hears (method : List ℕ) (params : Json) (reply : Reply) (old new : FolderDialogue F) : Type 0 where
+  -- a notification is handled after files may have been read
+  pub record ReadsAndHandles (method : List ℕ) (params : Json) (reply : Reply) (old new : FolderDialogue F) : Type 0 where
     pub ready : FolderDialogue F
-    pub looked : Reads old ready
-    pub heard : IsHeard method params reply ready.dialogue new.dialogue
+    pub read : Reads old ready
+    pub handled : HandlesNotification method params reply ready.dialogue new.dialogue
     pub files : new.files ≡ ready.files
 
   -- the outcome of a request, which has an id, or of a notification
   abbrev pub Steps : FolderDialogue F → Option Json → List ℕ → Json → Reply → FolderDialogue F → Type 0
-  Steps old (Some id) method params reply new = IsAsked id method params reply old.dialogue new.dialogue × (new.files ≡ old.files)
-  Steps old None method params reply new = Hears method params reply old new
+  Steps old (Some id) method params reply new = HandlesRequest id method params reply old.dialogue new.dialogue × (new.files ≡ old.files)
+  Steps old None method params reply new = ReadsAndHandles method params reply old new
 
   -- what was written is what a conversation about the bytes that were read says, from its beginning and within these limits
   pub record Serves (limits : Limits) (files : F) (status : ℕ) (read_old read_new write_old write_new : Account) : Type 0 where

@@ -1,5 +1,5 @@
 -- What a server keeps of a conversation in which files are read.
-use Rattle.gqlls_run.specs.State.{dialogue_of}
+use Rattle.gqlls_server.specs.State.{dialogue_of}
 use Rattle.gqlls_program.specs.FolderDialogues.{FolderDialogue}
 use Rattle.gqlls_program.specs.declared.folder.FolderServer.{FolderServer}
 

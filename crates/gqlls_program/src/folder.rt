@@ -6,7 +6,7 @@ ghost use Rattle.json.specs.Value.{value_view};
 ghost use Rattle.rpc_messages.specs.Messages.{IsAnswer};
 ghost use Rattle.rpc_messages.specs.Replies.{EndsOnlyIf, Replies};
 ghost use Rattle.rpc_messages.specs.declared.reply.Reply.TheVariants.{Answer};
-ghost use Rattle.gqlls_run.specs.State.{dialogue_of};
+ghost use Rattle.gqlls_server.specs.State.{dialogue_of};
 ghost use Rattle.gqlls_program.specs.FolderDialogues.{Reads, Steps};
 ghost use Rattle.gqlls_program.specs.State.{folder_dialogue_of};
 
@@ -14,7 +14,7 @@ use crate::bounds::{Bounded, MOST_BYTES, MOST_ERRORS, MOST_FILES, MOST_TOKENS};
 use file_access::Files;
 use file_uris::{path_of, uri_of};
 use formatter::stays_within;
-use gqlls_run::{Server, changed_files, opened_folders, uri_of as document_in};
+use gqlls_server::{Server, changed_files, opened_folders, uri_of as document_in};
 use json::Value;
 use named_files::{Named, is_graphql, named_files};
 use rpc_messages::{Reply, Service};
@@ -243,7 +243,7 @@ impl<F: Files> FolderServer<F> {
     }
 
     // Notes the folders that the client opens.
-    fn note_folders(&mut self, alloc: Global, params: &Value<'_>) -> Result<(), AllocError>
+    fn keep_folders(&mut self, alloc: Global, params: &Value<'_>) -> Result<(), AllocError>
         ensures { folder_dialogue_of self.new ≡ folder_dialogue_of self.old }
     {
         for uri in &opened_folders(alloc, params)? {
@@ -274,7 +274,7 @@ impl<F: Files> FolderServer<F> {
 
     // A document is open now: its file counts as the client has it.
     #[tactic(auto, using(crate::proofs::Reading::reads_on))]
-    fn note_open(&mut self, alloc: Global, params: &Value<'_>) -> Result<(), AllocError>
+    fn leave_out_opened(&mut self, alloc: Global, params: &Value<'_>) -> Result<(), AllocError>
         ensures { OnOk result (Reads F.lists F.reads F.locates (folder_dialogue_of self.old) (folder_dialogue_of self.new)) }
     {
         if let Some(path) = self.known_document(alloc, params)? {
@@ -286,7 +286,7 @@ impl<F: Files> FolderServer<F> {
 
     // A document is closed: its file counts as it is stored.
     #[tactic(auto, using(crate::proofs::Reading::reads_on))]
-    fn note_closed(&mut self, alloc: Global, params: &Value<'_>) -> Result<(), AllocError>
+    fn read_closed(&mut self, alloc: Global, params: &Value<'_>) -> Result<(), AllocError>
         ensures { OnOk result (Reads F.lists F.reads F.locates (folder_dialogue_of self.old) (folder_dialogue_of self.new)) }
     {
         if let Some(path) = self.known_document(alloc, params)? {
@@ -298,7 +298,7 @@ impl<F: Files> FolderServer<F> {
 
     // A file has changed, was made or is gone.
     #[tactic(auto, using(crate::proofs::Reading::reads_on))]
-    fn note_change(&mut self, alloc: Global, uri: &str) -> Result<(), AllocError>
+    fn read_changed_file(&mut self, alloc: Global, uri: &str) -> Result<(), AllocError>
         ensures { OnOk result (Reads F.lists F.reads F.locates (folder_dialogue_of self.old) (folder_dialogue_of self.new)) }
     {
         if let Some(path) = self.known_file(alloc, uri)? {
@@ -308,24 +308,29 @@ impl<F: Files> FolderServer<F> {
     }
 
     // Some files have changed, were made or are gone.
-    fn note_changes(&mut self, alloc: Global, params: &Value<'_>) -> Result<(), AllocError>
+    fn read_changed_files(&mut self, alloc: Global, params: &Value<'_>) -> Result<(), AllocError>
         ensures { OnOk result (Reads F.lists F.reads F.locates (folder_dialogue_of self.old) (folder_dialogue_of self.new)) }
     {
         for uri in &changed_files(alloc, params)? {
-            self.note_change(alloc, uri)?;
+            self.read_changed_file(alloc, uri)?;
         }
         Ok(())
     }
 
     // What a notification says of files.
-    fn note(&mut self, alloc: Global, method: &str, params: &Value<'_>) -> Result<(), AllocError>
+    fn update_files(
+        &mut self,
+        alloc: Global,
+        method: &str,
+        params: &Value<'_>,
+    ) -> Result<(), AllocError>
         ensures { OnOk result (Reads F.lists F.reads F.locates (folder_dialogue_of self.old) (folder_dialogue_of self.new)) }
     {
         match method {
             "initialized" => self.read_folders(alloc),
-            "textDocument/didOpen" => self.note_open(alloc, params),
-            "textDocument/didClose" => self.note_closed(alloc, params),
-            "workspace/didChangeWatchedFiles" => self.note_changes(alloc, params),
+            "textDocument/didOpen" => self.leave_out_opened(alloc, params),
+            "textDocument/didClose" => self.read_closed(alloc, params),
+            "workspace/didChangeWatchedFiles" => self.read_changed_files(alloc, params),
             _ => Ok(()),
         }
     }
@@ -347,7 +352,7 @@ impl<F: Files> Service for FolderServer<F> {
             (Answer body) (folder_dialogue_of self.new)) }
     {
         if method == "initialize" {
-            self.note_folders(alloc, params)?;
+            self.keep_folders(alloc, params)?;
         }
         self.server.request(alloc, id, method, params)
     }
@@ -363,7 +368,7 @@ impl<F: Files> Service for FolderServer<F> {
         ensures step { IfOk result (λ reply. Steps F.lists F.reads F.locates (folder_dialogue_of self.old) None method.now (value_view params.now) reply
             (folder_dialogue_of self.new)) }
     {
-        self.note(alloc, method, params)?;
+        self.update_files(alloc, method, params)?;
         // bound to a name, so that its clauses on `Ok` are found
         let reply = self.server.notification(alloc, method, params)?;
         Ok(reply)

@@ -2,7 +2,7 @@
 ghost use Rattle.std.specs.Prelude.{◌≡◌, IfErr, IfOk};
 ghost use Rattle.command_lines.specs.Words.{texts};
 ghost use Rattle.gqlls_program.specs.FolderDialogues.{Fails, Serves};
-ghost use Rattle.gqlls_program.specs.Program.{FailsClient, Runs, ServesClient, complaint_of, information_text};
+ghost use Rattle.gqlls_program.specs.Program.{Runs, complaint_of, information_text};
 
 use crate::command::{HELP, PROGRAM, USAGE, VERSION};
 use crate::folder::FolderServer;
@@ -12,7 +12,7 @@ use command_lines::information::{Information, Request};
 use command_lines::misuse::WordsError;
 use command_lines::streams::{explain, print, say, say_no_memory};
 use file_access::Files;
-use gqlls_run::{Limits, Server};
+use gqlls_server::{Limits, Server};
 use rpc_serving::serve;
 use std::alloc::Global;
 

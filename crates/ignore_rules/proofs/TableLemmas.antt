@@ -8,7 +8,7 @@ use Rattle.std.proofs.Math.Bool.{and-false}
 use Rattle.std.specs.Prelude.{◌==◌}
 use Rattle.ignore_rules.specs.Fits.{Sign, byte, one, one_of, none_of, many, folders, nothing, takes, after_byte, after_bytes, after_slash, after_sign, fits}
 use Rattle.ignore_rules.specs.Tables.{IsClear, IsWindow}
-use Rattle.ignore_rules.specs.declared.matching.Window.{Window}
+use Rattle.ignore_rules.specs.declared.fit_table.Window.{Window}
 
 -- The entries below i are the answers of the test, the others as they were.
 pub record IsUp (test : List ℕ → Bool) (path : List ℕ) (i : ℕ) (old table : List Bool) : Type 0 where

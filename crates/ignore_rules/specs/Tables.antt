@@ -1,6 +1,6 @@
 -- Which ends of a path pass a test.
 use Rattle.std.specs.Prelude.{◌≡◌, ◌<◌, ◌≤◌, ℕ, Bool, false, List, length, drop, slice_index_or}
-use Rattle.ignore_rules.specs.declared.matching.Window.{Window}
+use Rattle.ignore_rules.specs.declared.fit_table.Window.{Window}
 
 -- The table has the answer for each end of the path, by where it begins.
 abbrev pub IsTable : (List ℕ → Bool) → List ℕ → List Bool → Type 0

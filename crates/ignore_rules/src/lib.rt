@@ -4,12 +4,12 @@
 //! bytes, and not characters; classes, as `[:alpha:]`, are unknown.
 #![tactic(auto)]
 
+mod fit_table;
 mod lines;
-mod matching;
 mod parts;
 mod paths;
 mod pattern;
-mod reading;
 mod rules;
+mod signs;
 
 pub use rules::Rules;

@@ -5,7 +5,7 @@ ghost use Rattle.ignore_rules.specs.Lines.{anchored, as_rule, ending, pattern, r
 
 use crate::parts::SLASH;
 use crate::pattern::Sign;
-use crate::reading::read_signs;
+use crate::signs::read_signs;
 use std::alloc::{AllocError, Allocator};
 
 /// The rule of a line.

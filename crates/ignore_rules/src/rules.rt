@@ -4,8 +4,8 @@ ghost use Rattle.ignore_rules.specs.Lines.{as_rule, rules_in};
 ghost use Rattle.ignore_rules.specs.Ignored.{as_rules, decided, ignores, is_about, is_below};
 ghost use Rattle.ignore_rules.specs.Tables.{IsClear};
 
+use crate::fit_table::fit;
 use crate::lines::{Rule, rule_of};
-use crate::matching::fit;
 use crate::parts::{SLASH, cut};
 use crate::paths::{before_names, inner_path};
 use std::alloc::{AllocError, Allocator};

@@ -1,10 +1,7 @@
 -- What texts begin with that are added to.
 use Rattle.std.proofs.Common.{◌≡◌, ◌∙◌, ◌<◌, ◌+◌, ℕ, zero, suc, List, [], ◌∷◌, ◌++◌, length, take, get_or}
-use Rattle.std.proofs.Common.{refl, sym, ap, subst, append_assoc, append-nil, arith}
+use Rattle.std.proofs.Common.{refl, ap, subst, append_assoc, arith}
 use Rattle.marked_lines.specs.Places.{BeginsWith, OfFirst}
-
-pub begins_itself : (text : List ℕ) → BeginsWith text text
-begins_itself text = record { rest = []; is = sym (append-nil text) }
 
 -- what a beginning of a text begins with
 pub begins_through : (text middle front : List ℕ) → BeginsWith text middle → BeginsWith middle front → BeginsWith text front

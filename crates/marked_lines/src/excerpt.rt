@@ -2,7 +2,7 @@
 ghost use Rattle.std.specs.Prelude.{IfOk, string_bytes};
 ghost use Rattle.marked_lines.specs.Places.{BeginsWith};
 
-use crate::escaping::{column_count, columns_of, push_escaped};
+use crate::escapes::{column_count, columns_of, push_escaped};
 use std::alloc::{AllocError, Allocator};
 
 // How many bytes of a line are shown at most in front of the offset and from it on.

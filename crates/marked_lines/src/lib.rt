@@ -8,10 +8,10 @@ ghost use Rattle.std.specs.Prelude.{◌≡◌, ◌≤◌, ◌++◌, IfOk, codes,
 ghost use Rattle.marked_lines.specs.Escaping.{shown};
 ghost use Rattle.marked_lines.specs.Places.{BeginsWith, place};
 
-mod escaping;
+mod escapes;
 mod excerpt;
 
-pub use escaping::{is_unseen, push_escaped};
+pub use escapes::{is_unseen, push_escaped};
 use excerpt::push_excerpt;
 use line_index::LineIndex;
 use std::alloc::{AllocError, Allocator};

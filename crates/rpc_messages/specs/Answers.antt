@@ -5,7 +5,7 @@ use Rattle.std.specs.Str.{IsUtf8}
 use lib.IntN.{pos, neg_ℤ}
 use Rattle.json.specs.Token.{Token, begin_object, end_object, key, string, number, null}
 use Rattle.json.specs.Json as json
-use Rattle.json.specs.Json.{Json, Members, no_members}
+use Rattle.json.specs.Json.{Json, Members}
 use Rattle.json.specs.Lex.{tokens}
 use Rattle.json.specs.Tree.{json_tokens}
 use Rattle.rpc_messages.specs.declared.message.LongAnswer.TheInside.{Inside}

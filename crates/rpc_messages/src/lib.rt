@@ -7,13 +7,13 @@
 //! `rpc_serving`, the crate above, calls `handle`; a server implements `Service`.
 #![tactic(auto)]
 
-mod handling;
 mod message;
 mod nesting;
 mod pieces;
 mod reply;
+mod service;
 
-pub use handling::{Service, handle};
 pub use message::{LongAnswer, answer, code, notice, refusal, request};
 pub use pieces::Piece;
 pub use reply::Reply;
+pub use service::{Service, handle};

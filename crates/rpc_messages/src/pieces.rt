@@ -1,5 +1,5 @@
 // Pieces of JSON, from which messages are made.
-ghost use Rattle.std.specs.Prelude.{◌≡◌, OnOk, flat_map, map};
+ghost use Rattle.std.specs.Prelude.{flat_map, map};
 ghost use Rattle.rpc_messages.specs.Pieces.{Adds, list_tokens, number_token, tokens_of};
 
 use json::Writer;

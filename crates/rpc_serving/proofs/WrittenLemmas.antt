@@ -44,7 +44,7 @@ written frame body small is =
     let pass : AllPass is_ascii_digit (decimal n) = AllPass-from_list_all is_ascii_digit (decimal n) listed in
     let trimmed : trim_ows (32 ∷ decimal n) ≡ decimal n = trim_ows_space (decimal n) (skip-digits (decimal n) pass)
     (skip-digits (reverse (decimal n)) (AllPass-reverse is_ascii_digit (decimal n) pass)) in
-    let told : numeral (trim_ows (32 ∷ decimal n)) ≡ Some n = ap numeral trimmed ∙ numeral-digits (decimal n) numeral-n.0.0 listed ∙ ap Some numeral-n.1 in
+    let stated : numeral (trim_ows (32 ∷ decimal n)) ≡ Some n = ap numeral trimmed ∙ numeral-digits (decimal n) numeral-n.0.0 listed ∙ ap Some numeral-n.1 in
     let short : length (decimal n) ≤ 10 = length-decimal-le 10 n (omega arith) (omega arith) (omega arith) in
     let value : AllPass is_value_byte (decimal n) = λ k d lt. digit-value (get_or (decimal n) k d) (pass k d lt) in
     record {
@@ -57,7 +57,7 @@ written frame body small is =
         }) (All-nil IsField),
         is ∙ ap (λ (v : List ℕ). codes "Content-Length: " ++ v) (tail (decimal n) body),
       );
-      says = told;
+      says = stated;
       few = omega arith;
       short = omega (arith, tail-length (decimal n));
       small = small;

@@ -65,8 +65,8 @@ frame_of body = codes "Content-Length: " ++ decimal (length body) ++ codes "\r\n
 
 -- a number that was read, or none where there is none below 2 ^ 64
 abbrev pub Agrees : Option ℕ → Option ℕ → Type 0
-Agrees told None = IfSome told (λ n. 2 ^ 64 ≤ n)
-Agrees told (Some n) = told ≡ Some n
+Agrees stated None = IfSome stated (λ n. 2 ^ 64 ≤ n)
+Agrees stated (Some n) = stated ≡ Some n
 
 -- A head that ends before start: what follows it is the body, of this many bytes.
 pub record IsHeadAt (bytes : List ℕ) (start size : ℕ) : Type 0 where

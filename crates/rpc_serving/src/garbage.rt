@@ -1,5 +1,5 @@
 // Bytes that begin no frame.
-ghost use Rattle.std.specs.Prelude.{◌≡◌, ◌<◌, ◌≤◌, ℕ, drop, false, length, slice_index, true};
+ghost use Rattle.std.specs.Prelude.{◌≡◌, ◌<◌, ◌≤◌, ℕ, false, length, slice_index, true};
 ghost use Rattle.httparse.specs.Grammar.{is_token_byte};
 ghost use Rattle.rpc_serving.specs.Frames.{AreGarbage};
 

@@ -5,7 +5,7 @@
 //! `serve` reads what the client sends through a reader, takes a turn after each read, and writes what is said before the next read. No
 //! read brings more than one long message, so no more than a few answers are in memory.
 //!
-//! `gqlls_run`, the crate above, calls `serve`.
+//! `gqlls_server`, the crate above, calls `serve`.
 #![tactic(auto)]
 
 mod conversation;

@@ -7,7 +7,7 @@ ghost use Rattle.rpc_messages.specs.Pieces.{tokens_of};
 ghost use Rattle.editor_answers.specs.Results.{change_tokens, location_tokens, mark_tokens};
 
 use crate::answers::ranges::push_range;
-use crate::hovering::{description_of, heading_of, hover_at};
+use crate::hovers::{description_of, heading_of, hover_at};
 use crate::labels::identifier_at;
 use crate::span::{Span, span_of};
 use apollo_tree::SyntaxNode;

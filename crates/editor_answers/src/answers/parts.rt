@@ -1,7 +1,7 @@
 // Folds and selections as the protocol answers them.
 use crate::answers::ranges::push_range;
-use crate::folding::fold_of;
-use crate::selecting::selection;
+use crate::folds::fold_of;
+use crate::selections::selection;
 use crate::span::Span;
 use apollo_tree::{SyntaxKind, SyntaxNode};
 use editor_diagnostics::Positions;

@@ -4,8 +4,8 @@ ghost use Rattle.json.specs.Tree.{HasNumbers};
 ghost use Rattle.json.specs.Value.{value_view};
 ghost use Rattle.rpc_messages.specs.Messages.{IsAnswer};
 
-use crate::coloring::{SemanticToken, semantic_tokens};
 use crate::span::Span;
+use crate::tokens::{SemanticToken, semantic_tokens};
 use apollo_tree::SyntaxNode;
 use editor_diagnostics::Positions;
 use json::Value;

@@ -8,5 +8,5 @@ use Rattle.editor_answers.proofs.usage.first_definition.Given as goal
 
 abbrev pub invariant-loop-element : goal.invariant-loop-element
 invariant-loop-element l =
-    find (is_definition l.sought.kind l.sought.text.now) (rest_descendants l.element-iterator)
-    ≡ find (is_definition l.sought.kind l.sought.text.now) (at_or_below (node_place l.sought.scope))
+    find (is_definition l.target.kind l.target.text.now) (rest_descendants l.element-iterator)
+    ≡ find (is_definition l.target.kind l.target.text.now) (at_or_below (node_place l.target.scope))

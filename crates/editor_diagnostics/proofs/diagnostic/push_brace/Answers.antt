@@ -2,7 +2,7 @@ use Rattle.std.proofs.Common.{◌++◌, List, ap, ◌∙◌, refl}
 use Rattle.std.specs.List.{flat_map}
 use Rattle.json.specs.Token.{Token}
 use Rattle.rpc_messages.specs.Pieces.{tokens_of}
-use Rattle.editor_diagnostics.proofs.Told.{added_thrice, brace_tokens}
+use Rattle.editor_diagnostics.proofs.RemarkTokens.{added_thrice, brace_tokens}
 use Rattle.editor_diagnostics.proofs.diagnostic.push_brace.Goals as goal
 
 pub returns : goal.returns

@@ -1,5 +1,5 @@
 use Rattle.rpc_messages.specs.Pieces.{tokens_of}
-use Rattle.editor_diagnostics.proofs.Told.{added_four_times}
+use Rattle.editor_diagnostics.proofs.RemarkTokens.{added_four_times}
 use Rattle.editor_diagnostics.proofs.diagnostic.push_remark.Goals as goal
 
 pub returns : goal.returns

@@ -2,15 +2,15 @@ use Rattle.std.proofs.Common.{◌≡◌, ap, ◌∙◌}
 use Rattle.std.proofs.lemmas.Result.{IfErr-weaker, IfOk-weaker}
 use Rattle.apollo_parser.specs.declared.Limits.{Limits}
 use Rattle.rpc_serving.proofs.Views.{fails_of, served_of}
-use Rattle.gqlls_run.specs.Dialogue.{Dialogue, begun}
-use Rattle.gqlls_run.specs.State.{dialogue_of}
-use Rattle.gqlls_run.specs.declared.server.Server.{Server}
+use Rattle.gqlls_server.specs.Dialogue.{Dialogue, initial_dialogue}
+use Rattle.gqlls_server.specs.State.{dialogue_of}
+use Rattle.gqlls_server.specs.declared.server.Server.{Server}
 use Rattle.gqlls_program.specs.FolderDialogues.{Steps, opening}
 use Rattle.gqlls_program.specs.State.{folder_dialogue_of}
 use Rattle.gqlls_program.specs.declared.folder.FolderServer.{FolderServer}
 use Rattle.gqlls_program.proofs.program.serve_client.Goals as goal
 
-opens : {F : Type 0} (limits : Limits) (files : F) (server : Server) (service : FolderServer F) → dialogue_of server ≡ begun limits
+opens : {F : Type 0} (limits : Limits) (files : F) (server : Server) (service : FolderServer F) → dialogue_of server ≡ initial_dialogue limits
     → folder_dialogue_of service ≡ record { dialogue = dialogue_of server; files = files } → folder_dialogue_of service ≡ opening limits files
 opens limits files server service begins is = is ∙ ap (λ (dialogue : Dialogue). record { dialogue = dialogue; files = files }) begins
 

@@ -1,5 +1,5 @@
 use Rattle.std.proofs.Common.{refl, arith}
-use Rattle.rpc_serving.proofs.FrameLemmas.{head-at, never-told, no-head-yet, head-too-long, no-few}
+use Rattle.rpc_serving.proofs.FrameLemmas.{head-at, never-stated, no-head-yet, head-too-long, no-few}
 use Rattle.rpc_serving.proofs.frames.head.Goals as goal
 
 pub returns-in-Some-clause-found : goal.returns-in-Some-clause-found
@@ -10,7 +10,7 @@ returns-in-Some-clause-found c =
 
 pub returns-in-None-clause-never : goal.returns-in-None-clause-never
 returns-in-None-clause-never c =
-    never-told c.args.bytes.now c.min.result c.parse_headers.new.headers c.in-Ok-Complete.end c.in-Ok-Complete.count c.in-Ok-Complete.count (omega arith)
+    never-stated c.args.bytes.now c.min.result c.parse_headers.new.headers c.in-Ok-Complete.end c.in-Ok-Complete.count c.in-Ok-Complete.count (omega arith)
     (rw c.in-Ok-Complete.field-0-is at c.in-Ok-Complete.ensures.complete) c.in-None.ensures
 
 pub returns-then-bytes-lt-HEAD_LIMIT-clause-none : goal.returns-then-bytes-lt-HEAD_LIMIT-clause-none

@@ -1,9 +1,9 @@
 use Rattle.std.proofs.Common.{ℕ, List, Ok, Result, ap, sym, ◌∙◌, subst}
 use Rattle.std.specs.declared.io.Error.{Error}
 use Rattle.file_uris.specs.Uris.{uri_of}
-use Rattle.gqlls_run.specs.Dialogue.{Dialogue}
-use Rattle.gqlls_run.specs.State.{dialogue_of}
-use Rattle.gqlls_run.specs.Told.{Keeps}
+use Rattle.gqlls_server.specs.Dialogue.{Dialogue}
+use Rattle.gqlls_server.specs.State.{dialogue_of}
+use Rattle.gqlls_server.specs.Diagnostics.{KeepsFile}
 use Rattle.gqlls_program.specs.FolderDialogues.{kept, nothing, passed_over}
 use Rattle.gqlls_program.proofs.Reading.{reads_on}
 use Rattle.gqlls_program.proofs.folder.FolderServer.refresh.Goals as goal
@@ -25,7 +25,7 @@ returns g c =
     (kept c.drop_file.ensures
     (subst (λ (given : Result (List ℕ) Error). g.F.Files.reads old.files.files c.args.path.now given middle.files.files)
     (c.in-Some.ensures.given.2 ∙ ap (λ (bytes : List ℕ). Ok bytes) (sym c.as_str-3.ensures.value)) c.in-Some.ensures.given.1)
-    (subst (λ (dialogue : Dialogue). Keeps (uri_of c.args.path.now) text errors dialogue (dialogue_of new)) c.text_at.ensures.dialogue
-    (subst (λ (uri : List ℕ). Keeps uri text errors (dialogue_of middle.server) (dialogue_of new)) (c.as_str-2.ensures.value ∙ c.in_ok-uri.ensures.spelling)
+    (subst (λ (dialogue : Dialogue). KeepsFile (uri_of c.args.path.now) text errors dialogue (dialogue_of new)) c.text_at.ensures.dialogue
+    (subst (λ (uri : List ℕ). KeepsFile uri text errors (dialogue_of middle.server) (dialogue_of new)) (c.as_str-2.ensures.value ∙ c.in_ok-uri.ensures.spelling)
     c.in_ok-errors.ensures)))
     c.drop_faulty.ensures

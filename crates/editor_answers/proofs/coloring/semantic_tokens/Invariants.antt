@@ -1,8 +1,0 @@
-use Rattle.editor_answers.specs.Parts.{AreInOrder, EndBefore}
-use Rattle.editor_answers.proofs.coloring.semantic_tokens.Given as goal
-
-abbrev pub invariant-loop-element : goal.invariant-loop-element
-invariant-loop-element l = record {
-  order : AreInOrder l.source l.tokens.items;
-  before : EndBefore l.end l.tokens.items;
-}

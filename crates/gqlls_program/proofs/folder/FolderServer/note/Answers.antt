@@ -1,5 +1,0 @@
-use Rattle.gqlls_program.specs.FolderDialogues.{nothing}
-use Rattle.gqlls_program.proofs.folder.FolderServer.note.Goals as goal
-
-pub returns-in_default : goal.returns-in_default
-returns-in_default g c = nothing

@@ -1,9 +1,0 @@
-use Rattle.gqlls_program.specs.FolderDialogues.{nothing}
-use Rattle.gqlls_program.proofs.Reading.{reads_on}
-use Rattle.gqlls_program.proofs.folder.FolderServer.note_changes.Goals as goal
-
-pub loop-uri-init : goal.loop-uri-init
-loop-uri-init g c = nothing
-
-pub loop-uri-preserved : goal.loop-uri-preserved
-loop-uri-preserved g c = reads_on g.F.Files.lists g.F.Files.reads g.F.Files.locates c.loop-uri.invariant c.in_ok-note_change.ensures

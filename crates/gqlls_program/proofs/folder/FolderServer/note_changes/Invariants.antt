@@ -1,6 +1,0 @@
-use Rattle.gqlls_program.specs.FolderDialogues.{Reads}
-use Rattle.gqlls_program.specs.State.{folder_dialogue_of}
-use Rattle.gqlls_program.proofs.folder.FolderServer.note_changes.Given as goal
-
-abbrev pub invariant-loop-uri : goal.invariant-loop-uri
-invariant-loop-uri g l = Reads g.F.Files.lists g.F.Files.reads g.F.Files.locates (folder_dialogue_of l.fn.self) (folder_dialogue_of l.self)

@@ -1,9 +1,0 @@
-use Rattle.std.proofs.Common.{refl}
-use Rattle.gqlls_run.specs.Registration.{params}
-use Rattle.gqlls_run.proofs.capabilities.registration.Goals as goal
-
-pub request-requires : goal.request-requires
-request-requires c = record { members = params; is = refl }
-
-pub returns-clause-registers : goal.returns-clause-registers
-returns-clause-registers c = c.in_ok-body.ensures.params params refl

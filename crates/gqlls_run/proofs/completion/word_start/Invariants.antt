@@ -1,4 +1,0 @@
-use Rattle.gqlls_run.proofs.completion.word_start.Given as goal
-
-abbrev pub decreases-loop-start : goal.decreases-loop-start
-decreases-loop-start l = l.start

@@ -1,0 +1,74 @@
+-- What is published of a document is a function of its text, its limits and the fragments of others.
+use Rattle.std.proofs.Common.{◌≡◌, ℕ, ℤ, Bool, List, Option, None, subst}
+use Rattle.std.specs.Prelude.{◌↔◌, MatchOption}
+use Rattle.std.specs.List.{Contains}
+use Rattle.apollo_parser.specs.Parsed.{Parsed}
+use Rattle.apollo_parser.proofs.OneParse.{one-parse}
+use Rattle.editor_diagnostics.specs.Publication.{IsPublication}
+use Rattle.editor_diagnostics.specs.Remarks.{Remarked}
+use Rattle.editor_validation.specs.Fragments.{Fragments}
+use Rattle.editor_validation.proofs.SameRemarks.{same-remarks}
+use Rattle.embedded_documents.specs.Masked.{IsMasked}
+use Rattle.embedded_documents.specs.declared.scanner.HostLanguage.{HostLanguage}
+use Rattle.formatter.specs.Comments.{HasNoDefinitions}
+use Rattle.gqlls_server.specs.Files.{OpenFile}
+use Rattle.gqlls_server.specs.Parsing.{IsParse}
+use Rattle.gqlls_server.specs.Same.{BreaksFewRules, HaveSameDiagnostics}
+use Rattle.gqlls_server.specs.Diagnostics.{AreRemarksOf, IsDiagnosticsNotification}
+
+-- the text that is parsed is the document's own
+own_text : (file : OpenFile) (source : List ℕ) (host : Option HostLanguage) → host ≡ None
+    → MatchOption host (source ≡ file.content.text) (λ language. IsMasked file.content.text source)
+    → source ≡ file.content.text
+own_text file source host none is =
+    subst (λ (h : Option HostLanguage). MatchOption h (source ≡ file.content.text)
+    (λ language. IsMasked file.content.text source)) none is
+
+-- the remarks of a document that is the text itself
+record Remarks (takes_related : Bool) (uri : List ℕ) (version : Option ℤ) (file : OpenFile) (others : List Fragments)
+    (body : List ℕ) : Type 0 where
+  parsed : Parsed
+  parse : IsParse file.limits file.content.text parsed
+  remarks : List Remarked
+  are : AreRemarksOf takes_related others parsed remarks
+  published : IsPublication uri version file.content.encoding file.content.text remarks body
+
+remarks_of : (takes_related : Bool) (uri : List ℕ) (version : Option ℤ) (file : OpenFile) (fragments : Fragments)
+    (others : List Fragments) (body : List ℕ)
+    → file.host ≡ None → (¬ HasNoDefinitions file.content.text)
+    → IsDiagnosticsNotification takes_related uri version file fragments others body
+    → Remarks takes_related uri version file others body
+remarks_of takes_related uri version file fragments others body plain some notification =
+    let own = own_text file notification.text file.host plain notification.source in
+    record {
+      parsed = notification.parsed;
+      parse = subst (λ text. IsParse file.limits text notification.parsed) own notification.promise;
+      remarks = notification.remarks;
+      are = notification.said (λ none. some (subst HasNoDefinitions own none));
+      published = notification.published;
+    }
+
+pub same-notice : (takes_related : Bool) (uri : List ℕ) (version : Option ℤ) (file : OpenFile)
+    (fragments same_fragments : Fragments)
+    (others same : List Fragments) (first second : List ℕ) → file.host ≡ None → (¬ HasNoDefinitions file.content.text)
+    → ((f : Fragments) → Contains others f ↔ Contains same f) → BreaksFewRules file
+    → IsDiagnosticsNotification takes_related uri version file fragments others first
+    → IsDiagnosticsNotification takes_related uri version file same_fragments same second
+    → HaveSameDiagnostics uri version file first second
+same-notice takes_related uri version file fragments same_fragments others same first second plain some alike
+    few notification again =
+    let f = remarks_of takes_related uri version file fragments others first plain some notification in
+    let s = remarks_of takes_related uri version file same_fragments same second plain some again in
+    let one : s.parsed ≡ f.parsed = one-parse s.parsed f.parsed s.parse.by_rules f.parse.by_rules in
+    let are : AreRemarksOf takes_related same f.parsed s.remarks =
+    subst (λ p. AreRemarksOf takes_related same p s.remarks) one s.are in
+    let list : s.remarks ≡ f.remarks =
+    same-remarks takes_related others same (record { whole = f.parsed.tree; index = 0 }) f.parsed.errors f.remarks
+    s.remarks alike (few f.parsed f.parse)
+    f.are are in
+    record {
+      remarks = f.remarks;
+      once = f.published;
+      again = subst (λ rs. IsPublication uri version file.content.encoding file.content.text rs second)
+          list s.published;
+    }

@@ -1,0 +1,30 @@
+use Rattle.std.proofs.Common.{◌≡◌, List, [], map, subst, sym}
+use Rattle.editor_diagnostics.specs.Remarks.{as_remarked}
+use Rattle.editor_diagnostics.specs.declared.remark.Remark.{Remark}
+use Rattle.editor_validation.specs.Fragments.{as_fragments}
+use Rattle.editor_validation.specs.declared.fragments.FragmentNames.{FragmentNames}
+use denote.Ref.{Bor}
+use Rattle.formatter.specs.Comments.{HasNoDefinitions}
+use Rattle.gqlls_server.specs.Diagnostics.{AreRemarksOf}
+use Rattle.gqlls_server.proofs.Texts.{same_publication}
+use Rattle.gqlls_server.proofs.documents.Document.notification.Goals as goal
+
+pub returns-clause-published : goal.returns-clause-published
+returns-clause-published c =
+    let document = c.args.self.now in
+    let parsed = c.in_ok-remarks.ensures.parsed in
+    let found = sym c.as_slice.ensures.value in
+    let others = map (λ (f : Bor FragmentNames). as_fragments f.now) c.args.others.now in
+    record {
+      text = document.source;
+      source = parsed.source;
+      parsed = document.parsed;
+      promise = parsed.promise;
+      named = parsed.named;
+      remarks = map as_remarked c.as_slice.result.now;
+      said = subst
+          (λ (found : List Remark). (¬ HasNoDefinitions document.source)
+          → AreRemarksOf c.args.takes_related others document.parsed (map as_remarked found)) found c.in_ok-remarks.ensures.said;
+      silent = subst (λ (found : List Remark). HasNoDefinitions document.source → map as_remarked found ≡ []) found c.in_ok-remarks.ensures.silent;
+      published = same_publication _ _ _ _ _ _ _ _ c.in_ok-positions.ensures.encoding c.in_ok-positions.ensures.text c.in_ok-body.ensures.published;
+    }

@@ -1,0 +1,14 @@
+pub mod Announcement
+pub mod Conversation
+pub mod Layout
+pub mod Parameters
+pub mod Registration
+pub mod Dialogue
+pub mod Edits
+pub mod Files
+pub mod Kept
+pub mod Parsing
+pub mod Same
+pub mod Renaming
+pub mod State
+pub mod Diagnostics

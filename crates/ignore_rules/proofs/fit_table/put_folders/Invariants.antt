@@ -1,0 +1,10 @@
+use Rattle.std.proofs.Common.{◌≡◌, ℕ, Bool, List, drop}
+use Rattle.ignore_rules.specs.Fits.{after_sign, after_slash, folders}
+use Rattle.ignore_rules.specs.Tables.{IsWindow}
+use Rattle.ignore_rules.proofs.TableLemmas.{IsDown}
+use Rattle.ignore_rules.proofs.fit_table.put_folders.Given as goal
+
+abbrev pub invariant-loop-index : goal.invariant-loop-index
+invariant-loop-index l =
+    (test : List ℕ → Bool) → IsWindow test l.path l.fn.window l.initial.table
+    → IsDown (after_sign folders test) l.path l.index l.initial.table l.table × (l.below ≡ after_slash test (drop l.index l.path))
