@@ -5,7 +5,7 @@
 #![tactic(auto)]
 
 use byte_streams::{Patient, StdSink, StdSource, views, words};
-use gqlfmt_run::{Formatter, run};
+use gqlfmt_run::{Desk, Formatter, run};
 use std::process::ExitCode;
 use std_files::StdFiles;
 use unignored_files::Unignored;
@@ -20,16 +20,16 @@ fn main(rt: HostRuntime) -> ExitCode {
         return ExitCode::from(2);
     };
     let mut reader = StdSource::new(Patient::new(&rt, rt.stdin()));
-    let mut writer = StdSink::new(rt.stdout());
-    let mut complaints = StdSink::new(rt.stderr());
-    let mut files = Unignored::new(rt.alloc(), StdFiles::new(&rt));
+    let mut desk = Desk {
+        files: Unignored::new(rt.alloc(), StdFiles::new(&rt)),
+        output: StdSink::new(rt.stdout()),
+        complaints: StdSink::new(rt.stderr()),
+    };
     let status = run(
         rt.alloc(),
         &Formatter,
         &mut reader,
-        &mut writer,
-        &mut complaints,
-        &mut files,
+        &mut desk,
         views.as_slice(),
     );
     ExitCode::from(status)

@@ -2,6 +2,7 @@
 use Rattle.std.proofs.Common.{◌≡◌, ◌≢◌, ℕ, List, [], inl, inr, sym, subst}
 use Rattle.command_lines.specs.declared.gqlfmt.Mode.{Mode}
 use Rattle.command_lines.specs.declared.gqlfmt.Mode.TheVariants.{Write, Check, Diff, Print}
+use Rattle.gqlfmt_run.specs.declared.settlement.Settled.{Settled}
 use Rattle.gqlfmt_run.specs.declared.settlement.Settled.TheVariants as settled
 use Rattle.gqlfmt_run.specs.declared.settlement.Settled.TheVariants.{Done}
 use Rattle.gqlfmt_run.specs.declared.revision.Refusal.{Refusal}
@@ -17,16 +18,22 @@ of_same Print bounds name source output formatted same = subst (λ (text : List 
 of_same Check bounds name source output formatted same = (formatted, same)
 of_same Diff bounds name source output formatted same = (formatted, same)
 
-pub of_changed : (mode : Mode) (bounds : Bounds) (name source text output : List ℕ) → IsChanged bounds source text
+shown_output : (mode : Mode) (bounds : Bounds) (name source text output : List ℕ) → IsChanged bounds source text
     → (text ≢ source → IsShown mode name text output) → IsOutput mode bounds name source (settled_of mode) output
-of_changed Write bounds name source text output changed shown =
+shown_output Write bounds name source text output changed shown =
     subst (λ (text : List ℕ). IsLaidOut bounds source text) (sym (shown changed.other)) changed.formatted
-of_changed Print bounds name source text output changed shown =
+shown_output Print bounds name source text output changed shown =
     subst (λ (text : List ℕ). IsLaidOut bounds source text) (sym (shown changed.other)) changed.formatted
-of_changed Check bounds name source text output changed shown =
+shown_output Check bounds name source text output changed shown =
     record { looks = λ e. (cc); text = text; changed = changed; shown = shown changed.other }
-of_changed Diff bounds name source text output changed shown =
+shown_output Diff bounds name source text output changed shown =
     record { looks = λ e. (cc); text = text; changed = changed; shown = shown changed.other }
+
+pub of_changed : (mode : Mode) (bounds : Bounds) (name source text output : List ℕ) (ended : Settled) → ended ≡ settled_of mode
+    → IsChanged bounds source text → (text ≢ source → IsShown mode name text output) → IsOutput mode bounds name source ended output
+of_changed mode bounds name source text output ended is changed shown =
+    subst (λ (s : Settled). IsOutput mode bounds name source s output) (sym is)
+    (shown_output mode bounds name source text output changed shown)
 
 pub is-refused : {A : Type 0} (bounds : Bounds) (source : List ℕ) (refusal : Refusal A) → IsRefusedFor bounds source refusal → IsRefused bounds source
 is-refused bounds source (Errors first) h = inl h.0

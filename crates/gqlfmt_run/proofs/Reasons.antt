@@ -1,11 +1,11 @@
 -- Why a text is refused, in words.
-use Rattle.std.proofs.Common.{◌≡◌, ◌≢◌, ℕ, List, [], ◌∷◌, map, take, refl, sym, ap, ◌∙◌, subst, arith, inl}
+use Rattle.std.proofs.Common.{◌≡◌, ◌≢◌, ℕ, List, [], ◌∷◌, map, take, refl, sym, ap, ◌∙◌, arith, inl}
 use Rattle.apollo_parser.specs.Diagnostics.{Diagnostic}
 use Rattle.apollo_parser.specs.Parsed.{Parsed}
 use Rattle.apollo_parser.specs.Promise.{Promise}
 use Rattle.apollo_parser.specs.declared.Limits.{Limits}
 use Rattle.apollo_parser.proofs.OneParse.{one-parse}
-use Rattle.first_errors.specs.Places.{IsFirstErrorOf, shown_at}
+use Rattle.first_errors.specs.Places.{shown_at}
 use Rattle.first_errors.proofs.Firsts.{first_shown}
 use Rattle.formatter.specs.Finding.{AreFirstOf}
 use Rattle.formatter.specs.Formatted as format

@@ -1,8 +1,7 @@
 -- What the program says on standard error of a text that it was to format.
-use Rattle.std.specs.Prelude.{◌≡◌, ◌⊎◌, ℕ, List, Result, Ok, Err, map}
+use Rattle.std.specs.Prelude.{◌≡◌, ◌⊎◌, ℕ, List, Result, Ok, Err}
 use Rattle.std.specs.declared.io.Error.{Error}
 use Rattle.apollo_parser.specs.Diagnostics.{Diagnostic}
-use Rattle.apollo_parser.specs.Errors.{error_of}
 use Rattle.apollo_parser.specs.declared.Limits.{Limits}
 use Rattle.byte_streams.specs.Devices.{Account}
 use Rattle.byte_streams.specs.declared.fault.Fault.{Fault}
@@ -11,7 +10,7 @@ use Rattle.gqlfmt_run.specs.declared.settlement.Revised.{Revised}
 use Rattle.gqlfmt_run.specs.declared.settlement.Revised.TheVariants as revised
 use Rattle.gqlfmt_run.specs.declared.settlement.Settled.{Settled}
 use Rattle.gqlfmt_run.specs.declared.settlement.Settled.TheVariants.{Done, Found, Refused}
-use Rattle.marked_lines.specs.Places.{BeginsWith, OfFirst, place}
+use Rattle.marked_lines.specs.Places.{BeginsWith, place}
 use Rattle.command_lines.specs.Complaints.{Tells, TellsOfFile, line_about}
 use Rattle.command_lines.specs.Streams.{IsSaid}
 use Rattle.command_lines.specs.declared.complaints.FileFault.{FileFault}

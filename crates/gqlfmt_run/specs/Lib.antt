@@ -1,4 +1,5 @@
 pub mod Complaints
+pub mod Desks
 pub mod Folders
 pub mod Formatting
 pub mod Input

@@ -4,7 +4,7 @@ ghost use Rattle.byte_streams.specs.Runs.{Reads, Writes};
 ghost use Rattle.byte_streams.specs.declared.fault.Fault.TheVariants.{Read};
 ghost use Rattle.gqlfmt_run.specs.declared.settlement.Settled.TheVariants.{Refused};
 ghost use Rattle.gqlfmt_run.specs.Complaints.{IsSilent};
-ghost use Rattle.gqlfmt_run.specs.Input.{IsOutput, PassesOn, kept, settled_of};
+ghost use Rattle.gqlfmt_run.specs.Input.{IsOutput, PassesOn, kept};
 
 use crate::job::Job;
 use crate::settlement::{Revised, Settled};
@@ -34,16 +34,6 @@ fn kept_bytes(mode: Mode, bytes: &[u8]) -> &[u8]
     }
 }
 
-// What comes of a text that has another layout.
-fn settled_of(mode: Mode) -> Settled
-    ensures { result ≡ settled_of mode }
-{
-    match mode {
-        Mode::Write | Mode::Print => Settled::Done,
-        Mode::Check | Mode::Diff => Settled::Found,
-    }
-}
-
 impl<A: Allocator + Copy, L: DocumentFormatter> Job<'_, A, L> {
     // What is written of a text of this name, and what came of it: nothing where it is refused, and `complaints` have why.
     #[tactic(auto, using(crate::proofs::Outputs::of_same, crate::proofs::Outputs::of_changed, crate::proofs::Outputs::of_refused))]
@@ -62,8 +52,8 @@ impl<A: Allocator + Copy, L: DocumentFormatter> Job<'_, A, L> {
         match self.revise(source)? {
             Revised::Same => Ok((Settled::Done, kept(self.alloc, self.mode, source)?)),
             Revised::Changed(text) => {
-                let output = shown(self.alloc, self.mode, name, source, text)?;
-                Ok((settled_of(self.mode), output))
+                let (settled, output) = shown(self.alloc, self.mode, name, source, text)?;
+                Ok((settled, output))
             }
             Revised::Refused(refusal) => {
                 self.complain(complaints, name, source, &refusal)?;

@@ -6,6 +6,7 @@
 #![tactic(auto)]
 
 mod command;
+mod desk;
 mod diff;
 mod edits;
 mod folders;
@@ -23,6 +24,7 @@ mod shown_changes;
 pub use apollo_parser::Limits;
 pub use command::{HELP, USAGE, VERSION};
 pub use command_lines::gqlfmt::INPUT;
+pub use desk::Desk;
 pub use diff::unified_diff;
 pub use formatter::{DocumentFormatter, Formatter};
 pub use job::{Bounds, Job};

@@ -1,13 +1,14 @@
 // Formatting files.
-ghost use Rattle.std.specs.Prelude.{◌≡◌, ℕ, List, Result, map};
+ghost use Rattle.std.specs.Prelude.{ℕ, List, Result, map};
 ghost use Rattle.std.specs.declared.io.Error.{Error};
 ghost use Rattle.named_files.specs.Finding.{as_named, path_of};
 ghost use Rattle.named_files.specs.Handling.{FollowsRead, InTurn};
-ghost use Rattle.command_lines.specs.declared.gqlfmt.Mode.TheVariants.{Write};
 ghost use Rattle.gqlfmt_run.specs.Complaints.{IsSilent};
+ghost use Rattle.gqlfmt_run.specs.Desks.{desk_of};
 ghost use Rattle.gqlfmt_run.specs.Input.{IsOutput};
 ghost use Rattle.gqlfmt_run.specs.Paths.{FormatsFound, HandlesFile, HandlesFound, Rewrites};
 
+use crate::desk::Desk;
 use crate::job::Job;
 use crate::outcome::end_of_file;
 use crate::settlement::{Settled, settle};
@@ -27,7 +28,6 @@ impl<A: Allocator + Copy, L: DocumentFormatter> Job<'_, A, L> {
         complaints: &mut E,
         path: &str,
     ) -> Result<Settled, FileFault>
-        requires { self.now.mode ≡ Write }
         ensures { (given : Result (List ℕ) Error) × Rewrites F.reads F.replaces self.now.bounds path.now given result files.old files.new
             × IsSilent self.now.bounds path.now given result (E.account complaints.old) (E.account complaints.new) }
     {
@@ -40,7 +40,7 @@ impl<A: Allocator + Copy, L: DocumentFormatter> Job<'_, A, L> {
         };
         let revised = self.revise(source)?;
         self.complain_if_refused(complaints, path, source, &revised)?;
-        match settle(files, path, self.mode, &revised) {
+        match settle(files, path, &revised) {
             Ok(settled) => Ok(settled),
             Err(error) => Err(FileFault::NotReplaced(error)),
         }
@@ -70,37 +70,36 @@ impl<A: Allocator + Copy, L: DocumentFormatter> Job<'_, A, L> {
     /// Formats the file at a path: replaces it, or writes what the mode shows of it. `complaints` have why its text is refused, and nothing else.
     pub fn format_file<F: Files, W: Sink, E: Sink>(
         &self,
-        files: &mut F,
-        writer: &mut W,
-        complaints: &mut E,
+        desk: &mut Desk<F, W, E>,
         path: &str,
     ) -> Result<Settled, FileFault>
         ensures { (given : Result (List ℕ) Error) × HandlesFile F.reads F.replaces self.now.bounds self.now.mode path.now given result
-            files.old (W.account writer.old) files.new (W.account writer.new)
-            × IsSilent self.now.bounds path.now given result (E.account complaints.old) (E.account complaints.new) }
+            desk.old.files (W.account desk.old.output) desk.new.files (W.account desk.new.output)
+            × IsSilent self.now.bounds path.now given result (E.account desk.old.complaints) (E.account desk.new.complaints) }
     {
         match self.mode {
-            Mode::Write => self.rewrite_file(files, complaints, path),
-            Mode::Check | Mode::Diff | Mode::Print => {
-                self.show_file(files, writer, complaints, path)
-            }
+            Mode::Write => self.rewrite_file(&mut desk.files, &mut desk.complaints, path),
+            Mode::Check | Mode::Diff | Mode::Print => self.show_file(
+                &mut desk.files,
+                &mut desk.output,
+                &mut desk.complaints,
+                path,
+            ),
         }
     }
 
     // Formats what was found, if it is a file.
     fn format_named<F: Files, W: Sink, E: Sink>(
         &self,
-        files: &mut F,
-        writer: &mut W,
-        complaints: &mut E,
+        desk: &mut Desk<F, W, E>,
         named: &Named<A>,
     ) -> Result<Settled, FileFault>
         ensures { (given : Result (List ℕ) Error) × HandlesFound F.reads F.replaces self.now.bounds self.now.mode (as_named named.now) given result
-            files.old (W.account writer.old) files.new (W.account writer.new)
-            × IsSilent self.now.bounds (path_of (as_named named.now)) given result (E.account complaints.old) (E.account complaints.new) }
+            desk.old.files (W.account desk.old.output) desk.new.files (W.account desk.new.output)
+            × IsSilent self.now.bounds (path_of (as_named named.now)) given result (E.account desk.old.complaints) (E.account desk.new.complaints) }
     {
         match named {
-            Named::File(path) => self.format_file(files, writer, complaints, path.as_str()),
+            Named::File(path) => self.format_file(desk, path.as_str()),
             Named::Failed(_, error) => Err(FileFault::NotRead(*error)),
         }
     }
@@ -108,35 +107,35 @@ impl<A: Allocator + Copy, L: DocumentFormatter> Job<'_, A, L> {
     // Does that, tells why it was not formatted, and gives the status.
     fn format_found<F: Files, W: Sink, E: Sink>(
         &self,
-        files: &mut F,
-        writer: &mut W,
-        complaints: &mut E,
+        desk: &mut Desk<F, W, E>,
         named: &Named<A>,
     ) -> u8
         ensures { FormatsFound F.reads F.replaces self.now.bounds self.now.mode (as_named named.now) result
-            (record { files = files.old; output = W.account writer.old; complaints = E.account complaints.old })
-            (record { files = files.new; output = W.account writer.new; complaints = E.account complaints.new }) }
+            (desk_of W.account E.account desk.old) (desk_of W.account E.account desk.new) }
     {
-        let ended = self.format_named(files, writer, complaints, named);
-        end_of_file(self.alloc, files, complaints, named.path(), &ended)
+        let ended = self.format_named(desk, named);
+        end_of_file(
+            self.alloc,
+            &desk.files,
+            &mut desk.complaints,
+            named.path(),
+            &ended,
+        )
     }
 
     /// Formats the files that were found in order, also after one that fails, and gives the greatest of their statuses. `complaints` have why a text is
     /// refused or was not formatted.
     pub fn format_files<F: Files, W: Sink, E: Sink>(
         &self,
-        files: &mut F,
-        writer: &mut W,
-        complaints: &mut E,
+        desk: &mut Desk<F, W, E>,
         found: &[Named<A>],
     ) -> u8
         ensures { InTurn (FormatsFound F.reads F.replaces self.now.bounds self.now.mode) (map as_named found.now) result
-            (record { files = files.old; output = W.account writer.old; complaints = E.account complaints.old })
-            (record { files = files.new; output = W.account writer.new; complaints = E.account complaints.new }) }
+            (desk_of W.account E.account desk.old) (desk_of W.account E.account desk.new) }
     {
         let mut status = 0;
         for named in found {
-            let one = self.format_found(files, writer, complaints, named);
+            let one = self.format_found(desk, named);
             status = status.max(one);
         }
         status

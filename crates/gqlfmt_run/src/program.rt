@@ -1,9 +1,12 @@
 // A run of the program.
 ghost use Rattle.std.specs.Prelude.{◌≡◌};
 ghost use Rattle.command_lines.specs.Words.{texts};
+ghost use Rattle.named_files.specs.Handling.{streams};
+ghost use Rattle.gqlfmt_run.specs.Desks.{state_of};
 ghost use Rattle.gqlfmt_run.specs.Program.{information_text, FormatsInput, Formats, HandlesInput, KeepsInput, Runs};
 
 use crate::command::{HELP, PROGRAM, USAGE, VERSION};
+use crate::desk::Desk;
 use crate::job::{Bounds, Job};
 use crate::outcome::end;
 use byte_streams::{Sink, Source};
@@ -27,59 +30,57 @@ fn information_text(page: Information) -> &'static str
 
 impl<A: Allocator + Copy, L: DocumentFormatter> Job<'_, A, L> {
     // Formats standard input, and gives the status.
-    fn format_standard_input<R: Source, W: Sink, E: Sink>(
+    fn format_standard_input<R: Source, W: Sink, E: Sink, F>(
         &self,
         reader: &mut R,
-        writer: &mut W,
-        complaints: &mut E,
+        desk: &mut Desk<F, W, E>,
         name: &str,
     ) -> u8
-        ensures { FormatsInput self.now.mode self.now.bounds name.now result
-            (record { input = R.account reader.old; output = W.account writer.old; complaints = E.account complaints.old })
-            (record { input = R.account reader.new; output = W.account writer.new; complaints = E.account complaints.new }) }
+        ensures formats { FormatsInput self.now.mode self.now.bounds name.now result
+            (streams (state_of R.account W.account E.account reader.old desk.old))
+            (streams (state_of R.account W.account E.account reader.new desk.new)) }
+        ensures files { desk.new.files ≡ desk.old.files }
     {
-        let ended = self.format_input(reader, writer, complaints, name);
-        end(self.alloc, complaints, name, &ended)
+        let ended = self.format_input(reader, &mut desk.output, &mut desk.complaints, name);
+        end(self.alloc, &mut desk.complaints, name, &ended)
     }
 
     // Passes standard input on as it is, and gives the status.
-    fn keep_standard_input<R: Source, W: Sink, E: Sink>(
+    fn keep_standard_input<R: Source, W: Sink, E: Sink, F>(
         &self,
         reader: &mut R,
-        writer: &mut W,
-        complaints: &mut E,
+        desk: &mut Desk<F, W, E>,
         name: &str,
     ) -> u8
-        ensures { KeepsInput self.now.mode name.now result
-            (record { input = R.account reader.old; output = W.account writer.old; complaints = E.account complaints.old })
-            (record { input = R.account reader.new; output = W.account writer.new; complaints = E.account complaints.new }) }
+        ensures keeps { KeepsInput self.now.mode name.now result
+            (streams (state_of R.account W.account E.account reader.old desk.old))
+            (streams (state_of R.account W.account E.account reader.new desk.new)) }
+        ensures files { desk.new.files ≡ desk.old.files }
     {
-        let ended = self.pass_on(reader, writer);
-        end(self.alloc, complaints, name, &ended)
+        let ended = self.pass_on(reader, &mut desk.output);
+        end(self.alloc, &mut desk.complaints, name, &ended)
     }
 
     // Formats standard input, unless it has a path that is left alone, and gives the status.
     fn handle_standard_input<R: Source, W: Sink, E: Sink, F: Files>(
         &self,
         reader: &mut R,
-        writer: &mut W,
-        complaints: &mut E,
-        files: &mut F,
+        desk: &mut Desk<F, W, E>,
         name: &str,
     ) -> u8
         ensures { HandlesInput F.lists F.omits F.reads F.replaces self.now.mode self.now.bounds name.now result
-            (record { input = R.account reader.old; output = W.account writer.old; complaints = E.account complaints.old; files = files.old })
-            (record { input = R.account reader.new; output = W.account writer.new; complaints = E.account complaints.new; files = files.new }) }
+            (state_of R.account W.account E.account reader.old desk.old)
+            (state_of R.account W.account E.account reader.new desk.new) }
     {
         if name == INPUT {
-            return self.format_standard_input(reader, writer, complaints, name);
+            return self.format_standard_input(reader, desk, name);
         }
-        match files.leaves_out(self.alloc, name) {
-            Ok(true) => self.keep_standard_input(reader, writer, complaints, name),
-            Ok(false) => self.format_standard_input(reader, writer, complaints, name),
+        match desk.files.leaves_out(self.alloc, name) {
+            Ok(true) => self.keep_standard_input(reader, desk, name),
+            Ok(false) => self.format_standard_input(reader, desk, name),
             Err(error) => {
                 let fault = FileFault::NotRead(error);
-                tell_of_file(self.alloc, PROGRAM, complaints, name, &fault);
+                tell_of_file(self.alloc, PROGRAM, &mut desk.complaints, name, &fault);
                 2
             }
         }
@@ -89,19 +90,17 @@ impl<A: Allocator + Copy, L: DocumentFormatter> Job<'_, A, L> {
     fn format<R: Source, W: Sink, E: Sink, F: Files>(
         &self,
         reader: &mut R,
-        writer: &mut W,
-        complaints: &mut E,
-        files: &mut F,
+        desk: &mut Desk<F, W, E>,
         name: &str,
         paths: &[&str],
     ) -> u8
         ensures { Formats F.lists F.omits F.reads F.replaces self.now.mode self.now.bounds name.now (texts paths.now) result
-            (record { input = R.account reader.old; output = W.account writer.old; complaints = E.account complaints.old; files = files.old })
-            (record { input = R.account reader.new; output = W.account writer.new; complaints = E.account complaints.new; files = files.new }) }
+            (state_of R.account W.account E.account reader.old desk.old)
+            (state_of R.account W.account E.account reader.new desk.new) }
     {
         match paths {
-            [] => self.handle_standard_input(reader, writer, complaints, files, name),
-            _ => self.format_paths(files, writer, complaints, paths),
+            [] => self.handle_standard_input(reader, desk, name),
+            _ => self.format_paths(desk, paths),
         }
     }
 }
@@ -112,17 +111,18 @@ pub fn run<A: Allocator + Copy, L: DocumentFormatter, R: Source, W: Sink, E: Sin
     alloc: A,
     formatter: &L,
     reader: &mut R,
-    writer: &mut W,
-    complaints: &mut E,
-    files: &mut F,
+    desk: &mut Desk<F, W, E>,
     words: &[&str],
 ) -> u8
     ensures { Runs F.lists F.omits F.reads F.replaces (texts words.now) result
-        (record { input = R.account reader.old; output = W.account writer.old; complaints = E.account complaints.old; files = files.old })
-        (record { input = R.account reader.new; output = W.account writer.new; complaints = E.account complaints.new; files = files.new }) }
+        (state_of R.account W.account E.account reader.old desk.old)
+        (state_of R.account W.account E.account reader.new desk.new) }
 {
     match options(alloc, words) {
-        Ok(Request::Print(page)) => print(PROGRAM, writer, complaints, information_text(page)),
+        Ok(Request::Print(page)) => {
+            let text = information_text(page);
+            print(PROGRAM, &mut desk.output, &mut desk.complaints, text)
+        }
         Ok(Request::Process(plan)) => {
             let job = Job {
                 alloc,
@@ -134,21 +134,14 @@ pub fn run<A: Allocator + Copy, L: DocumentFormatter, R: Source, W: Sink, E: Sin
                     line_endings: plan.line_endings(),
                 },
             };
-            job.format(
-                reader,
-                writer,
-                complaints,
-                files,
-                plan.name(),
-                plan.files.as_slice(),
-            )
+            job.format(reader, desk, plan.name(), plan.files.as_slice())
         }
         Err(WordsError::Usage(misuse)) => {
-            explain(alloc, PROGRAM, USAGE, complaints, misuse);
+            explain(alloc, PROGRAM, USAGE, &mut desk.complaints, misuse);
             2
         }
         Err(WordsError::Memory) => {
-            say_no_memory(PROGRAM, complaints);
+            say_no_memory(PROGRAM, &mut desk.complaints);
             2
         }
     }

@@ -1,5 +1,5 @@
 // What becomes of a text.
-ghost use Rattle.std.specs.Prelude.{◌≤◌, ℕ, List, IfOk, length, map, string_bytes};
+ghost use Rattle.std.specs.Prelude.{◌≤◌, IfOk, length, map, string_bytes};
 ghost use Rattle.lexical_grammar.specs.Reads.{items_of};
 ghost use Rattle.document_grammar.specs.Derivation.{nest};
 ghost use Rattle.apollo_parser.specs.Errors.{error_of};

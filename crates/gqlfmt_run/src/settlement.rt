@@ -1,8 +1,8 @@
 // Whether a file is replaced. This is the one call of the program that destroys something, so it is small, and its contract can be read alone. It does not know
 // what is formatted: the errors and the files are type parameters.
+ghost use Rattle.command_lines.specs.declared.gqlfmt.Mode.TheVariants.{Write};
 ghost use Rattle.gqlfmt_run.specs.Settling.{Settles};
 
-use command_lines::gqlfmt::Mode;
 use file_access::Files;
 use std::alloc::Allocator;
 use std::io;
@@ -29,24 +29,20 @@ pub enum Settled {
     Refused,
 }
 
-/// Replaces the file at a path, of whose text the formatter made this, or leaves it as it is.
+/// In mode write, replaces the file at a path if the formatter made another text of its own, or leaves it as it is.
 pub fn settle<F: Files, A: Allocator, E>(
     files: &mut F,
     path: &str,
-    mode: Mode,
     revised: &Revised<A, E>,
 ) -> io::Result<Settled>
-    ensures { Settles F.replaces mode path.now revised.now result files.old files.new }
+    ensures { Settles F.replaces Write path.now revised.now result files.old files.new }
 {
     match revised {
         Revised::Same => Ok(Settled::Done),
         Revised::Refused(_) => Ok(Settled::Refused),
-        Revised::Changed(text) => match mode {
-            Mode::Write => {
-                files.replace(path, text.as_str())?;
-                Ok(Settled::Done)
-            }
-            Mode::Check | Mode::Diff | Mode::Print => Ok(Settled::Found),
-        },
+        Revised::Changed(text) => {
+            files.replace(path, text.as_str())?;
+            Ok(Settled::Done)
+        }
     }
 }

@@ -1,8 +1,8 @@
 use Rattle.gqlfmt_run.proofs.Saying.{silent_says}
 use Rattle.gqlfmt_run.proofs.job.Job.format_standard_input.Goals as goal
 
-pub returns : goal.returns
-returns g c =
+pub returns-clause-formats : goal.returns-clause-formats
+returns-clause-formats g c =
     let ended = c.format_input-ended.result in
     let done = c.format_input-ended.ensures in record {
       ended = ended;
