@@ -9,6 +9,7 @@ from .layout import CRATES, TOP, mark
 PLACES = {
     CRATES / "gqlcst_run/src/command.rt": ('pub const VERSION: &str = "gqlcst ', '\\n";'),
     CRATES / "gqlcheck_run/src/command.rt": ('pub const VERSION: &str = "gqlcheck ', '\\n";'),
+    CRATES / "gqlcheck_run/src/sarif_log.rt": ('\\"version\\":\\"', '\\",'),
     CRATES / "gqlfmt_run/src/command.rt": ('pub const VERSION: &str = "gqlfmt ', '\\n";'),
     CRATES / "gqlls_program/src/command.rt": ('pub const VERSION: &str = "gqlls ', '\\n";'),
     CRATES / "gqlls_server/src/capabilities.rt": ('const VERSION: &str = "', '";'),

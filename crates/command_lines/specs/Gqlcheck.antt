@@ -1,8 +1,10 @@
 -- The words of `gqlcheck`: options and files in any order, each option at most once; or a page of the program.
-use Rattle.std.specs.Prelude.{ℕ, ◌-◌, ◌^◌, List, codes, map, Option, unwrap_or}
+use Rattle.std.specs.Prelude.{ℕ, ◌-◌, ◌^◌, List, bytes_eq, codes, map, if◌then◌else◌, Option, unwrap_or}
 use Rattle.cost_figures.specs.declared.figures.Figures.{Figures}
 use Rattle.command_lines.specs.FilePrograms as files
 use Rattle.command_lines.specs.Options.{Given, number, text}
+use Rattle.command_lines.specs.declared.gqlcheck.Format.{Format}
+use Rattle.command_lines.specs.declared.gqlcheck.Format.TheVariants.{Text, Json, Github, Sarif}
 use Rattle.command_lines.specs.declared.gqlcheck.TheConstants.{OPTIONS}
 use Rattle.command_lines.specs.declared.information.Request.{Request}
 
@@ -29,3 +31,14 @@ most_of given = record {
 -- the name of the operation that has to be within them, or nothing for all operations
 abbrev pub operation_of : Given → Option (List ℕ)
 operation_of given = text (codes "--operation") given
+
+-- in which form findings are printed
+abbrev pub format_named : List ℕ → Format
+format_named name =
+    if bytes_eq name (codes "json") then Json
+    else (if bytes_eq name (codes "github") then Github
+    else (if bytes_eq name (codes "sarif") then Sarif
+    else Text))
+
+abbrev pub format_of : Given → Format
+format_of given = format_named (unwrap_or (text (codes "--format") given) (codes "text"))

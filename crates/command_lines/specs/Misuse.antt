@@ -3,7 +3,8 @@ use Rattle.std.specs.Prelude.{◌≡◌, ◌⊎◌, ℕ, List, [], ◌++◌, cod
 use Rattle.std.specs.List.{Contains}
 use Rattle.marked_lines.specs.Escaping.{shown}
 use Rattle.command_lines.specs.declared.misuse.Mistake.{Mistake}
-use Rattle.command_lines.specs.declared.misuse.Mistake.TheVariants.{Unknown, NoOption, UnknownMode, NoMode, NoValue, NoNumber, NoLineEnding, Again, BesideFiles}
+use Rattle.command_lines.specs.declared.misuse.Mistake.TheVariants.{Unknown, NoOption, UnknownMode, NoMode, NoValue, NoNumber}
+use Rattle.command_lines.specs.declared.misuse.Mistake.TheVariants.{NoLineEnding, NoFormat, Again, BesideFiles}
 use Rattle.command_lines.specs.declared.misuse.WordsError.{WordsError}
 use Rattle.command_lines.specs.declared.misuse.WordsError.TheVariants.{Usage, Memory}
 
@@ -16,6 +17,7 @@ before NoMode = codes "no mode is given"
 before NoValue = []
 before NoNumber = []
 before NoLineEnding = []
+before NoFormat = []
 before Again = []
 before BesideFiles = []
 
@@ -28,6 +30,7 @@ after NoMode = []
 after NoValue = codes " has no value"
 after NoNumber = codes " takes a number"
 after NoLineEnding = codes " takes lf, crlf or keep"
+after NoFormat = codes " takes text, json, github or sarif"
 after Again = codes " is given twice, or beside an option that excludes it"
 after BesideFiles = codes " is given beside files"
 

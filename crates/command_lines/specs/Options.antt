@@ -7,8 +7,9 @@ use Rattle.apollo_lexer.specs.declared.limits.Limits.{Limits}
 use Rattle.command_lines.specs.Numbers.{number_of}
 use Rattle.command_lines.specs.OwnValue.{has_own_value, option_name, own_value}
 use Rattle.command_lines.specs.declared.options.Takes.{Takes}
-use Rattle.command_lines.specs.declared.options.Takes.TheVariants.{Ignored, Nothing, Mode}
-use Rattle.command_lines.specs.declared.options.Takes.TheVariants.{Number as TakesNumber, LineEnding as TakesLineEnding, Text as TakesText}
+use Rattle.command_lines.specs.declared.options.Takes.TheVariants.{Ignored, Nothing, Mode, Json}
+use Rattle.command_lines.specs.declared.options.Takes.TheVariants.{Number as TakesNumber, LineEnding as TakesLineEnding}
+use Rattle.command_lines.specs.declared.options.Takes.TheVariants.{Format as TakesFormat, Text as TakesText}
 use Rattle.command_lines.specs.declared.options.Value.{Value}
 use Rattle.command_lines.specs.declared.options.Value.TheVariants.{Flag, Number as NumberValue, Text as TextValue}
 
@@ -22,9 +23,10 @@ Row = List ℕ × List ℕ × Takes
 abbrev pub row_called : List ℕ → List Row → Option Row
 row_called name rows = find (λ row. bytes_eq name row.0 || bytes_eq name row.1) rows
 
--- what it sets: itself, or the mode
+-- what it sets: itself, the mode, or the format
 abbrev pub key_of : Row → List ℕ
 key_of (name, short, Mode) = codes "mode"
+key_of (name, short, Json) = codes "--format"
 key_of (name, short, takes) = name
 
 -- what that is set to without a value, if the option takes none
@@ -32,15 +34,20 @@ abbrev pub alone : Row → Option (Value (List ℕ))
 alone (name, short, Ignored) = Some Flag
 alone (name, short, Nothing) = Some Flag
 alone (name, short, Mode) = Some (TextValue name)
+alone (name, short, Json) = Some (TextValue (codes "json"))
 alone (name, short, takes) = None
 
 abbrev pub is_line_ending : List ℕ → Bool
 is_line_ending word = bytes_eq word (codes "lf") || bytes_eq word (codes "crlf") || bytes_eq word (codes "keep")
 
+abbrev pub is_format : List ℕ → Bool
+is_format word = bytes_eq word (codes "text") || bytes_eq word (codes "json") || bytes_eq word (codes "github") || bytes_eq word (codes "sarif")
+
 -- and with a value
 abbrev pub value_of : Takes → List ℕ → Option (Value (List ℕ))
 value_of TakesNumber word = option_map NumberValue (number_of word)
 value_of TakesLineEnding word = if is_line_ending word then Some (TextValue word) else None
+value_of TakesFormat word = if is_format word then Some (TextValue word) else None
 value_of TakesText word = Some (TextValue word)
 value_of takes word = None
 

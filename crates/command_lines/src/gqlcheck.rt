@@ -1,6 +1,6 @@
 // The words of `gqlcheck`.
 ghost use Rattle.std.specs.Prelude.{◌≡◌, option_map};
-ghost use Rattle.command_lines.specs.Gqlcheck.{most_named, most_of, operation_of, request_of};
+ghost use Rattle.command_lines.specs.Gqlcheck.{format_named, format_of, most_named, most_of, operation_of, request_of};
 ghost use Rattle.command_lines.specs.Misuse.{IsAbout, IsAmong};
 ghost use Rattle.command_lines.specs.Reading.{as_given};
 ghost use Rattle.command_lines.specs.Words.{IsRead, request_map, texts};
@@ -12,7 +12,7 @@ use cost_figures::Figures;
 use std::alloc::Allocator;
 
 /// The options of the program.
-pub const OPTIONS: [Row; 12] = [
+pub const OPTIONS: [Row; 13] = [
     ("--max-depth", "", Takes::Number),
     ("--max-fields", "", Takes::Number),
     ("--max-root-fields", "", Takes::Number),
@@ -22,10 +22,35 @@ pub const OPTIONS: [Row; 12] = [
     ("--max-distinct-root-fields", "", Takes::Number),
     ("--operation", "", Takes::Text),
     ("--figures", "", Takes::Nothing),
-    ("--json", "", Takes::Nothing),
+    ("--format", "", Takes::Format),
+    ("--json", "", Takes::Json),
     RECURSION,
     TOKENS,
 ];
+
+/// In which form findings are printed.
+#[derive(Clone, Copy)]
+pub enum Format {
+    /// Lines for people.
+    Text,
+    /// An object of JSON a line.
+    Json,
+    /// Workflow commands of GitHub Actions.
+    Github,
+    /// One log of SARIF 2.1.0.
+    Sarif,
+}
+
+fn format_named(name: &str) -> Format
+    ensures { result ≡ format_named name.now }
+{
+    match name {
+        "json" => Format::Json,
+        "github" => Format::Github,
+        "sarif" => Format::Sarif,
+        _ => Format::Text,
+    }
+}
 
 impl<'a, A: Allocator> Plan<'a, A> {
     // The greatest figure that an option allows.
@@ -58,6 +83,13 @@ impl<'a, A: Allocator> Plan<'a, A> {
         ensures { option_map (λ name. name.now) result ≡ operation_of (as_given self.now) }
     {
         self.text("--operation")
+    }
+
+    /// In which form findings are printed.
+    pub fn format(&self) -> Format
+        ensures { result ≡ format_of (as_given self.now) }
+    {
+        format_named(self.text("--format").unwrap_or("text"))
     }
 }
 

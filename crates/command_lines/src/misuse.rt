@@ -24,6 +24,8 @@ pub enum Mistake {
     NoNumber,
     /// The value is not one of the three line endings.
     NoLineEnding,
+    /// The value is not one of the four formats.
+    NoFormat,
     /// The option is given twice, or with another one that excludes it.
     Again,
     /// Standard input is given beside files.
@@ -51,6 +53,7 @@ impl Misuse<'_> {
             Mistake::NoValue => ("", " has no value"),
             Mistake::NoNumber => ("", " takes a number"),
             Mistake::NoLineEnding => ("", " takes lf, crlf or keep"),
+            Mistake::NoFormat => ("", " takes text, json, github or sarif"),
             Mistake::Again => ("", " is given twice, or beside an option that excludes it"),
             Mistake::BesideFiles => ("", " is given beside files"),
         }

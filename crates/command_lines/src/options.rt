@@ -28,6 +28,10 @@ pub enum Takes {
     Number,
     /// `lf`, `crlf` or `keep`.
     LineEnding,
+    /// `text`, `json`, `github` or `sarif`.
+    Format,
+    /// No value. It is `--format json` in another word.
+    Json,
     /// Any word.
     Text,
 }
@@ -76,12 +80,13 @@ fn row_called(rows: &[Row], name: &str) -> Option<Row>
     None
 }
 
-// What an option sets: itself, or the mode.
+// What an option sets: itself, the mode, or the format.
 fn key_of(row: Row) -> &'static str
     ensures { result.now ≡ key_of (as_row row.entry) }
 {
     match row.2 {
         Takes::Mode => "mode",
+        Takes::Json => "--format",
         _ => row.0,
     }
 }
@@ -93,7 +98,8 @@ fn alone<'a>(row: Row) -> Option<Value<&'a str>>
     match row.2 {
         Takes::Ignored | Takes::Nothing => Some(Value::Flag),
         Takes::Mode => Some(Value::Text(row.0)),
-        Takes::Number | Takes::LineEnding | Takes::Text => None,
+        Takes::Json => Some(Value::Text("json")),
+        Takes::Number | Takes::LineEnding | Takes::Format | Takes::Text => None,
     }
 }
 
@@ -134,8 +140,12 @@ impl Takes {
                 "lf" | "crlf" | "keep" => Some(Value::Text(word)),
                 _ => None,
             },
+            Takes::Format => match word {
+                "text" | "json" | "github" | "sarif" => Some(Value::Text(word)),
+                _ => None,
+            },
             Takes::Text => Some(Value::Text(word)),
-            Takes::Ignored | Takes::Nothing | Takes::Mode => None,
+            Takes::Ignored | Takes::Nothing | Takes::Mode | Takes::Json => None,
         }
     }
 
@@ -144,7 +154,10 @@ impl Takes {
         match self {
             Takes::Number => Mistake::NoNumber,
             Takes::LineEnding => Mistake::NoLineEnding,
-            Takes::Ignored | Takes::Nothing | Takes::Mode | Takes::Text => Mistake::Unknown,
+            Takes::Format => Mistake::NoFormat,
+            Takes::Ignored | Takes::Nothing | Takes::Mode | Takes::Json | Takes::Text => {
+                Mistake::Unknown
+            }
         }
     }
 }

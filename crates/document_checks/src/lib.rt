@@ -7,8 +7,9 @@
 mod operations;
 mod report;
 mod text_check;
+mod violations;
 
 pub use apollo_parser::Limits;
 pub use cost_figures::{Figures, Limit};
-pub use report::{Checks, Finding, OperationReport, Report};
+pub use report::{Checks, ExceededLimit, Finding, OperationReport, OtherPlace, Report};
 pub use text_check::{Checker, DocumentChecker, check};

@@ -7,7 +7,7 @@ ghost use Rattle.cost_limits.specs.Measures.{as_measure};
 ghost use Rattle.cost_limits.specs.declared.measures.MeasureError.TheVariants.{Memory};
 ghost use Rattle.document_checks.specs.Checking.{AreWithin, IsChosenWithin, as_asked, is_chosen};
 
-use crate::report::{Checks, Finding, OperationReport, Report};
+use crate::report::{Checks, ExceededLimit, Finding, OperationReport, Report};
 use apollo_tree::SyntaxNode;
 use cost_figures::{Figures, Limit, Span};
 use cost_limits::{Exceeded, MeasureError, OperationFigures, measure, within};
@@ -78,9 +78,17 @@ fn words_of(limit: Limit) -> &'static str {
 
 fn limit_finding(alloc: Global, exceeded: &Exceeded<'_>) -> Result<Finding, AllocError> {
     let words = words_of(exceeded.limit);
-    let (found, most) = (exceeded.found, exceeded.most);
-    let message = format!(in alloc; "The {words} is {found}, and the limit {most}.")?;
-    Ok(Finding::at(exceeded.operation.node, "Limits", message))
+    let (value, most) = (exceeded.found, exceeded.most);
+    let message = format!(in alloc; "The {words} is {value}, and the limit {most}.")?;
+    let name = exceeded.operation.operation_name().unwrap_or("");
+    let mut finding = Finding::at(exceeded.operation.node, "Limits", message);
+    finding.operation = Some(String::from_str(alloc, name)?);
+    finding.limit = Some(ExceededLimit {
+        limit: exceeded.limit,
+        value,
+        most,
+    });
+    Ok(finding)
 }
 
 // A finding for each operation that exceeds a limit: the first that it exceeds.
@@ -106,12 +114,8 @@ fn unknown_operation(alloc: Global, name: &str) -> Result<Report, AllocError>
     ensures found { IfOk result (λ report. 0 < vec_len report.findings) }
 {
     let message = format!(in alloc; "Unknown operation named \"{name}\".")?;
-    let finding = Finding {
-        start: 0,
-        end: 0,
-        rule: "KnownOperation",
-        message,
-    };
+    let mut finding = Finding::of(0, 0, "KnownOperation", message);
+    finding.operation = Some(String::from_str(alloc, name)?);
     Report::of(alloc, finding)
 }
 
@@ -136,6 +140,7 @@ fn limited(
         passes: findings.is_empty(),
         findings,
         more: 0,
+        at_least: false,
         operations,
     })
 }
@@ -166,12 +171,8 @@ fn unmeasured(alloc: Global, error: MeasureError<'_>) -> Result<Report, AllocErr
     ensures memory { OnOk result (error.entry ≢ Memory) }
 {
     let (span, words) = fault_of(error)?;
-    let finding = Finding {
-        start: span.start,
-        end: span.end,
-        rule: "Limits",
-        message: String::from_str(alloc, words)?,
-    };
+    let message = String::from_str(alloc, words)?;
+    let finding = Finding::of(span.start, span.end, "Limits", message);
     let report = Report::of(alloc, finding)?;
     Ok(report)
 }

@@ -3,7 +3,7 @@ ghost use Rattle.std.specs.Prelude.{◌≡◌, ◌<◌, IfOk, true, false, vec_l
 
 use apollo_parser::{BorrowedError, Limits};
 use apollo_tree::SyntaxNode;
-use cost_figures::Figures;
+use cost_figures::{Figures, Limit};
 use std::alloc::{AllocError, Global};
 
 /// What a text is checked against.
@@ -19,6 +19,27 @@ pub struct Checks<'a> {
     pub findings: usize,
 }
 
+/// A second place that a finding is about, as the first definition of a name.
+#[derive(Clone, Copy)]
+pub struct OtherPlace {
+    /// The byte offset at which it begins.
+    pub start: usize,
+    /// The byte offset behind it.
+    pub end: usize,
+    /// What is there, as `first defined here`.
+    pub words: &'static str,
+}
+
+/// A limit that an operation exceeds.
+#[derive(Clone, Copy)]
+pub struct ExceededLimit {
+    pub limit: Limit,
+    /// The operation's figure.
+    pub value: u64,
+    /// The greatest figure that the limit allows.
+    pub most: u64,
+}
+
 /// Something that keeps a text from passing, or the first of the places of one.
 #[derive(Drop)]
 pub struct Finding {
@@ -29,6 +50,12 @@ pub struct Finding {
     /// What it offends: `Syntax`, `Limits`, `KnownOperation`, or the rule of validation under its name in graphql-js.
     pub rule: &'static str,
     pub message: String,
+    /// The other place, if the rule is about two.
+    pub other: Option<OtherPlace>,
+    /// The name of the operation that it concerns, if it concerns one; empty where that has no name.
+    pub operation: Option<String>,
+    /// The limit that the operation exceeds, if it does.
+    pub limit: Option<ExceededLimit>,
 }
 
 /// The figures of an operation.
@@ -48,8 +75,10 @@ pub struct Report {
     pub passes: bool,
     /// The first things that keep it from passing, in the order in which they are found: of errors the first of each definition.
     pub findings: Vec<Finding>,
-    /// How many more there are. If rules are broken, this counts up to a thousand.
+    /// How many more there are.
     pub more: usize,
+    /// Whether there may be still more, as where more than a thousand rules are broken.
+    pub at_least: bool,
     /// The figures of its operations, if they have any and no rule is broken.
     pub operations: Vec<OperationReport>,
 }
@@ -63,6 +92,7 @@ impl Report {
             passes: true,
             findings: Vec::new(alloc),
             more: 0,
+            at_least: false,
             operations: Vec::new(alloc),
         }
     }
@@ -76,6 +106,7 @@ impl Report {
             passes: false,
             findings,
             more,
+            at_least: false,
             operations: Vec::new(alloc),
         }
     }
@@ -92,26 +123,36 @@ impl Report {
 }
 
 impl Finding {
-    /// A finding at a node.
-    pub(crate) fn at(node: SyntaxNode<'_>, rule: &'static str, message: String) -> Finding {
-        let range = node.text_range();
-        Finding {
-            start: range.start(),
-            end: range.end(),
-            rule,
-            message,
-        }
-    }
-
-    /// A finding that an error of the parser is, with the byte offset at which it is shown.
-    pub(crate) fn of_error(error: &BorrowedError<'_>, start: usize, message: String) -> Finding
+    /// A finding from one byte offset to another, of one place alone.
+    pub(crate) fn of(start: usize, end: usize, rule: &'static str, message: String) -> Finding
         ensures { result.start ≡ start }
     {
         Finding {
             start,
-            end: start.saturating_add(error.data().len()),
-            rule: "Syntax",
+            end,
+            rule,
             message,
+            other: None,
+            operation: None,
+            limit: None,
         }
+    }
+
+    /// A finding at a node.
+    pub(crate) fn at(node: SyntaxNode<'_>, rule: &'static str, message: String) -> Finding {
+        let range = node.text_range();
+        Finding::of(range.start(), range.end(), rule, message)
+    }
+
+    /// A finding that an error of the parser is, with the byte offset at which it is shown. At the end of the text it has no length.
+    pub(crate) fn of_error(error: &BorrowedError<'_>, start: usize, message: String) -> Finding
+        ensures { result.start ≡ start }
+    {
+        let length = if error.is_eof() {
+            0
+        } else {
+            error.data().len()
+        };
+        Finding::of(start, start.saturating_add(length), "Syntax", message)
     }
 }

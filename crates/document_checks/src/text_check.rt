@@ -8,15 +8,16 @@ ghost use Rattle.document_checks.specs.Findings.{AreFindings};
 
 use crate::operations::check_operations;
 use crate::report::{Checks, Finding, Report};
+use crate::violations::violation_finding;
 use apollo_parser::{BorrowedError, Parser};
 use apollo_tree::SyntaxNode;
-use document_validation::{Violation, message, validate};
+use document_validation::{Violation, validate};
 use first_errors::{first_errors, for_people, shown_at};
 use formatter::{has_no_definitions, stays_within};
 use std::alloc::{AllocError, Global};
 
-// How many violations are looked for.
-const MOST: usize = 1000;
+// How many violations are looked for: one more than are reported at most, so that it is known of a thousand whether they are all.
+const MOST: usize = 1001;
 
 // An error, in words for people.
 fn finding_of(alloc: Global, source: &str, error: &BorrowedError<'_>) -> Result<Finding, AllocError>
@@ -47,11 +48,6 @@ fn refused(
     Ok(Report::failed(alloc, findings, first.more))
 }
 
-fn violation_finding(alloc: Global, violation: &Violation<'_>) -> Result<Finding, AllocError> {
-    let text = message(alloc, violation)?;
-    Ok(Finding::at(violation.node, violation.rule.name(), text))
-}
-
 // The report of a document that breaks rules.
 fn violated(alloc: Global, violations: &[Violation<'_>], most: usize) -> Result<Report, AllocError>
     ensures passes { IfOk result (λ report. report.passes ≡ false) }
@@ -62,7 +58,9 @@ fn violated(alloc: Global, violations: &[Violation<'_>], most: usize) -> Result<
     for violation in shown {
         findings.push(violation_finding(alloc, violation)?)?;
     }
-    Ok(Report::failed(alloc, findings, others.len()))
+    let mut report = Report::failed(alloc, findings, others.len());
+    report.at_least = violations.len() >= MOST;
+    Ok(report)
 }
 
 // The report on a document, by the root of its tree without errors.

@@ -1,49 +1,79 @@
 -- What is printed of a text that does not pass begins with its first finding.
-use Rattle.std.proofs.Common.{◌≡◌, ◌∙◌, ◌<◌, ◌+◌, ℕ, Bool, true, false, List, [], ◌∷◌, ◌++◌, length, take, get_or, ap, append_assoc, min, arith}
-use Rattle.marked_lines.specs.Places.{BeginsWith, place}
-use Rattle.marked_lines.proofs.Fronts.{begins_through, of_first_kept, of_first_more}
+use Rattle.std.proofs.Common.{◌≡◌, ◌∙◌, ◌<◌, ◌≤◌, ◌+◌, ℕ, List, [], ◌∷◌, ◌++◌, length, take, get_or, sym, ap, subst, append_assoc, append-nil, min, arith}
+use Rattle.std.proofs.lemmas.List.{take_all}
+use Rattle.json.specs.Json.{Json}
+use Rattle.marked_lines.specs.Places.{BeginsWith, OfFirst}
+use Rattle.marked_lines.proofs.Fronts.{begins_through, of_first_front, of_first_kept}
 use Rattle.document_checks.specs.Checking.{Asked}
 use Rattle.document_checks.specs.Findings.{AreFindings}
 use Rattle.document_checks.specs.declared.report.Finding.{Finding}
-use Rattle.gqlcheck_run.specs.Places.{BeginsAt, IsAboutFirst}
+use Rattle.command_lines.specs.declared.gqlcheck.Format.{Format}
+use Rattle.command_lines.specs.declared.gqlcheck.Format.TheVariants.{Sarif}
+use Rattle.gqlcheck_run.specs.Places.{BeginsWithJson, BeginsWithLine, BeginsWithResult, IsAboutFirst}
 use Rattle.gqlcheck_run.specs.Rendering.{BeginsAtFirst}
+use Rattle.gqlcheck_run.specs.SarifResults.{artifact_uri}
 
--- what an output begins with stays where more is added
-kept : (json : Bool) (name source : List ℕ) (offset : ℕ) (old new : List ℕ) → BeginsWith new old → BeginsAt json name source offset old
-    → BeginsAt json name source offset new
-kept true name source offset old new grown first = record {
-  others = first.others;
+pub begins_itself : (text : List ℕ) → BeginsWith text text
+begins_itself text = record { rest = []; is = sym (append-nil text) }
+
+-- ---- what an output begins with stays where more is added
+
+line_kept : (before : List ℕ) (value : Json) (old new : List ℕ) → BeginsWith new old → BeginsWithLine before value old → BeginsWithLine before value new
+line_kept before value old new grown first = record {
   line = first.line;
   is = first.is;
   rest = first.rest ++ grown.rest;
-  joined = grown.is ∙ ap (λ (t : List ℕ). t ++ grown.rest) first.joined ∙ append_assoc first.line (10 ∷ first.rest) grown.rest;
+  joined = grown.is ∙ ap (λ (t : List ℕ). t ++ grown.rest) first.joined ∙ append_assoc before (first.line ++ 10 ∷ first.rest) grown.rest
+      ∙ ap (λ (t : List ℕ). before ++ t) (append_assoc first.line (10 ∷ first.rest) grown.rest);
 }
-kept false name source offset old new grown first = begins_through new old (place name source offset) grown first
 
--- and so does what one for some findings begins with
-pub kept_first : (json : Bool) (name source : List ℕ) (findings : List Finding) (old new : List ℕ) → BeginsWith new old
-    → BeginsAtFirst json name source findings old → BeginsAtFirst json name source findings new
-kept_first json name source findings old new grown so_far =
-    of_first_kept (λ f output. BeginsAt json name source (min f.start (length source)) output) findings old new so_far
-    (λ f. kept json name source (min f.start (length source)) old new grown)
+pub json_kept : (name source : List ℕ) (offset : ℕ) (old new : List ℕ) → BeginsWith new old → BeginsWithJson name source offset old
+    → BeginsWithJson name source offset new
+json_kept name source offset old new grown first = (first.0, line_kept _ _ old new grown first.1)
 
--- one finding more
-pub one_more : (json : Bool) (name source : List ℕ) (findings : List Finding) (i : ℕ) (d : Finding) (old new : List ℕ) → i < length findings
-    → (i ≡ 0 → old ≡ []) → BeginsAtFirst json name source (take i findings) old → BeginsWith new old
-    → (old ≡ [] → BeginsAt json name source (min (get_or findings i d).start (length source)) new)
-    → BeginsAtFirst json name source (take (i + 1) findings) new
-one_more json name source findings i d old new inside none so_far grown first =
-    of_first_more (λ f output. BeginsAt json name source (min f.start (length source)) output) findings i d old new inside none so_far
-    (λ f. kept json name source (min f.start (length source)) old new grown) first
+pub result_kept : (uri source : List ℕ) (offset : ℕ) (old new : List ℕ) → BeginsWith new old → BeginsWithResult uri source offset old
+    → BeginsWithResult uri source offset new
+result_kept uri source offset old new grown first = (first.0, first.1, first.2, line_kept _ _ old new grown first.3)
+
+-- ---- an output for findings
+
+-- one finding more, whose text has a front of its own
+pub front_more : (front : Finding → List ℕ) (findings items : List Finding) (i : ℕ) (item : Finding) (old new : List ℕ) → items ≡ findings
+    → i < length items → item ≡ get_or items i item → (i ≡ 0 → old ≡ []) → OfFirst (λ f. BeginsWith old (front f)) (take i findings)
+    → BeginsWith new (old ++ front item) → OfFirst (λ f. BeginsWith new (front f)) (take (i + 1) findings)
+front_more front findings items i item old new same inside is none so_far added =
+    let within : i < length findings = omega (arith, inside, ap length same) in
+    let it : item ≡ get_or findings i item = is ∙ ap (λ (fs : List Finding). get_or fs i item) same in
+    of_first_front front findings i item old new within none so_far (subst (λ (f : Finding). BeginsWith new (old ++ front f)) it added)
+
+-- what comes after all of them leaves the first where it is
+pub front_kept : (front : Finding → List ℕ) (findings items : List Finding) (i : ℕ) (old new : List ℕ) → items ≡ findings → length items ≤ i
+    → OfFirst (λ f. BeginsWith old (front f)) (take i findings) → BeginsWith new old → OfFirst (λ f. BeginsWith new (front f)) findings
+front_kept front findings items i old new same past so_far grown =
+    let all : take i findings ≡ findings = take_all i findings (omega (arith, past, ap length same)) in
+    of_first_kept (λ f output. BeginsWith output (front f)) findings old new
+    (subst (λ (fs : List Finding). OfFirst (λ f. BeginsWith old (front f)) fs) all so_far) (λ f. begins_through new old (front f) grown)
+
+-- the same of results in a file with a URI
+pub results_kept : (name uri source : List ℕ) (findings items : List Finding) (old new : List ℕ) → uri ≡ artifact_uri name → items ≡ findings
+    → OfFirst (λ f. BeginsWithResult uri source (min f.start (length source)) old) items → BeginsWith new old
+    → BeginsAtFirst Sarif name source findings new
+results_kept name uri source findings items old new spelled same so_far grown =
+    subst (λ (fs : List Finding). BeginsAtFirst Sarif name source fs new) same
+    (subst (λ (u : List ℕ). OfFirst (λ f. BeginsWithResult u source (min f.start (length source)) new) items) spelled
+    (of_first_kept (λ f output. BeginsWithResult uri source (min f.start (length source)) output) items old new so_far
+    (λ f. result_kept uri source (min f.start (length source)) old new grown)))
+
+-- ---- a text that does not pass
 
 within_again : (offset n : ℕ) → min (min offset n) n ≡ min offset n
 within_again offset n = omega arith
 
 -- the first finding is where the first error is shown
-pub about_first : (asked : Asked) (json : Bool) (name source : List ℕ) (findings : List Finding) (output : List ℕ)
-    → AreFindings asked.limits source findings → BeginsAtFirst json name source findings output → IsAboutFirst asked json name source output
-about_first asked json name source [] output found begins = absurd found
-about_first asked json name source (f ∷ fs) output found begins = record {
+pub about_first : (asked : Asked) (format : Format) (name source : List ℕ) (findings : List Finding) (output : List ℕ)
+    → AreFindings asked.limits source findings → BeginsAtFirst format name source findings output → IsAboutFirst asked format name source output
+about_first asked format name source [] output found begins = absurd found
+about_first asked format name source (f ∷ fs) output found begins = record {
   offset = min f.start (length source);
   inside = omega arith;
   begins = begins;

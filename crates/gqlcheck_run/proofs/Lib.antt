@@ -1,2 +1,5 @@
+pub mod Members
 pub mod Beginnings
+pub mod Openings
 pub mod Lines
+pub mod Quiet

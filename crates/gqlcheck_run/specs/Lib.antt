@@ -1,6 +1,10 @@
 pub mod Ending
+pub mod Framing
+pub mod GithubCommands
 pub mod JsonLines
+pub mod Numbers
 pub mod Places
 pub mod Program
 pub mod Rendering
+pub mod SarifResults
 pub mod Titles

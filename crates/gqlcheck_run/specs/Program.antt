@@ -1,5 +1,5 @@
 -- What a run of the program does, by the request in its words.
-use Rattle.std.specs.Prelude.{◌≡◌, ◌⊎◌, ℕ, Bool, List, [], ◌∷◌, codes, Option, Some, None, Result, Err}
+use Rattle.std.specs.Prelude.{◌≡◌, ◌⊎◌, ℕ, zero, suc, Bool, List, [], ◌∷◌, codes, Option, Some, None, Result, Err}
 use Rattle.std.specs.declared.io.Error.{Error}
 use Rattle.byte_streams.specs.Devices.{Account}
 use Rattle.byte_streams.specs.Runs.{Reads, Writes}
@@ -8,7 +8,7 @@ use Rattle.document_checks.specs.Checking.{Asked}
 use Rattle.file_access.specs.Listing.{Listing}
 use Rattle.named_files.specs.Finding.{FoundPath, file, unreadable, path_of}
 use Rattle.named_files.specs.Handling.{Desk, HandlesNamed, InTurn, ReadsAndWrites, State, desk, streams}
-use Rattle.command_lines.specs.Gqlcheck.{most_of, operation_of, request_of}
+use Rattle.command_lines.specs.Gqlcheck.{format_of, most_of, operation_of, request_of}
 use Rattle.command_lines.specs.Misuse.{IsAmong}
 use Rattle.command_lines.specs.Options.{Given, is_set, limits_of}
 use Rattle.command_lines.specs.Streams.{Streams, OnlyPrints, OnlySays, OnlyExplains, no_memory}
@@ -22,6 +22,7 @@ use Rattle.gqlcheck_run.specs.declared.command.TheConstants.{PROGRAM, USAGE, HEL
 use Rattle.gqlcheck_run.specs.declared.job.Printing.{Printing}
 use Rattle.gqlcheck_run.specs.declared.texts.TheConstants.{INPUT}
 use Rattle.gqlcheck_run.specs.Ending.{IsOutput, Says, SaysOfFile, status_of}
+use Rattle.gqlcheck_run.specs.Framing.{Closes, opening}
 
 abbrev pub information_text : Information → List ℕ
 information_text Help = HELP.now
@@ -33,7 +34,7 @@ asked_by given = record { limits = limits_of given; most = most_of given; operat
 
 -- what it prints of texts
 abbrev pub printing_of : Given → Printing
-printing_of given = record { figures = is_set (codes "--figures") given; json = is_set (codes "--json") given }
+printing_of given = record { figures = is_set (codes "--figures") given; format = format_of given }
 
 -- Standard input is read and checked, what comes of that is written, and why it was not checked is said.
 pub record ChecksInput (asked : Asked) (printing : Printing) (status : ℕ) (old new : Streams) : Type 0 where
@@ -70,10 +71,32 @@ module _ {S : Type 0} (lists : S → List ℕ → Listing → S → Type 0) (rea
   ChecksTexts asked printing [] status old new = ChecksInput asked printing status (streams old) (streams new) × (new.files ≡ old.files)
   ChecksTexts asked printing (path ∷ paths) status old new = ChecksPaths asked printing (path ∷ paths) status (desk old) (desk new) × (new.input ≡ old.input)
 
+  -- That is done, and what comes after the texts is printed.
+  pub record ChecksAndCloses (asked : Asked) (printing : Printing) (paths : List (List ℕ)) (status : ℕ) (old new : State S) : Type 0 where
+    pub checked : State S
+    pub texts : ℕ
+    pub checks : ChecksTexts asked printing paths texts old checked
+    pub closes : Closes printing.format texts status checked.output new.output checked.complaints new.complaints
+    pub input : new.input ≡ checked.input
+    pub files : new.files ≡ checked.files
+
+  -- The same by the status of the output before the texts. Where that broke off, nothing else is done.
+  abbrev pub Continues : Asked → Printing → List (List ℕ) → ℕ → ℕ → State S → State S → Type 0
+  Continues asked printing paths zero status old new = ChecksAndCloses asked printing paths status old new
+  Continues asked printing paths (suc n) status old new = (status ≡ suc n) × (new ≡ old)
+
+  -- What comes before the texts is printed, and then that is done.
+  pub record ChecksAll (asked : Asked) (printing : Printing) (paths : List (List ℕ)) (status : ℕ) (old new : State S) : Type 0 where
+    pub opened : State S
+    pub printed : ℕ
+    pub opens : OnlyPrints PROGRAM.now (opening printing.format) printed (streams old) (streams opened)
+    pub files : opened.files ≡ old.files
+    pub continues : Continues asked printing paths printed status opened new
+
   -- What a run does for the request in its words. Where there is none, a word is wrong.
   abbrev pub Does : List (List ℕ) → Option (Request Given) → ℕ → State S → State S → Type 0
   Does words (Some (Print page)) status old new = OnlyPrints PROGRAM.now (information_text page) status (streams old) (streams new) × (new.files ≡ old.files)
-  Does words (Some (Process given)) status old new = ChecksTexts (asked_by given) (printing_of given) given.files status old new
+  Does words (Some (Process given)) status old new = ChecksAll (asked_by given) (printing_of given) given.files status old new
   Does words None status old new = OnlyExplains PROGRAM.now USAGE.now (IsAmong words) status (streams old) (streams new) × (new.files ≡ old.files)
 
   -- What a run does: that, or it says that memory was refused before the last of its words was read, and nothing else.

@@ -31,7 +31,11 @@ unless an operation is named.
                       root fields, counted like the height
   --operation NAME    limits and figures of this operation alone
   --figures           print the figures of each operation
-  --json              print JSON, an object a line
+  --format text|json|github|sarif
+                      print findings for people (if not given), as JSON with an
+                      object a line, as annotations of GitHub Actions, or as one
+                      SARIF log
+  --json              print JSON, as with --format json
   --recursion N       how deep a document may nest (500 if not given)
   --tokens N          how many tokens it may have, with white space, commas and
                       comments (no limit if not given)

@@ -1,4 +1,5 @@
 // Checking the files that paths of the command line name.
+ghost use Rattle.std.specs.Prelude.{◌≡◌};
 ghost use Rattle.document_checks.specs.Checking.{as_asked};
 ghost use Rattle.command_lines.specs.Words.{texts};
 ghost use Rattle.named_files.specs.Handling.{HandlesNamed};
@@ -6,6 +7,7 @@ ghost use Rattle.gqlcheck_run.specs.Program.{ChecksFound, ChecksPaths};
 
 use crate::command::PROGRAM;
 use crate::job::Job;
+use crate::tally::Tally;
 use byte_streams::{Fault, Sink};
 use command_lines::complaints::tell;
 use document_checks::DocumentChecker;
@@ -20,14 +22,16 @@ impl<A: Allocator + Copy, C: DocumentChecker> Job<'_, '_, A, C> {
         files: &mut F,
         writer: &mut W,
         complaints: &mut E,
+        tally: &mut Tally,
         path: &str,
     ) -> u8
-        ensures { HandlesNamed F.lists PROGRAM.now (ChecksFound F.reads (as_asked self.now.checks) self.now.printing) path.now result
+        ensures checks { HandlesNamed F.lists PROGRAM.now (ChecksFound F.reads (as_asked self.now.checks) self.now.printing) path.now result
             (record { files = files.old; output = W.account writer.old; complaints = E.account complaints.old })
             (record { files = files.new; output = W.account writer.new; complaints = E.account complaints.new }) }
+        ensures quiet { result ≡ 0 → tally.new.errors ≡ tally.old.errors }
     {
         match named_files(self.alloc, files, path) {
-            Ok(found) => self.check_files(files, writer, complaints, found.as_slice()),
+            Ok(found) => self.check_files(files, writer, complaints, tally, found.as_slice()),
             Err(_) => {
                 tell(self.alloc, PROGRAM, complaints, path, Fault::Memory);
                 2
@@ -41,15 +45,17 @@ impl<A: Allocator + Copy, C: DocumentChecker> Job<'_, '_, A, C> {
         files: &mut F,
         writer: &mut W,
         complaints: &mut E,
+        tally: &mut Tally,
         paths: &[&str],
     ) -> u8
-        ensures { ChecksPaths F.lists F.reads (as_asked self.now.checks) self.now.printing (texts paths.now) result
+        ensures checks { ChecksPaths F.lists F.reads (as_asked self.now.checks) self.now.printing (texts paths.now) result
             (record { files = files.old; output = W.account writer.old; complaints = E.account complaints.old })
             (record { files = files.new; output = W.account writer.new; complaints = E.account complaints.new }) }
+        ensures quiet { result ≡ 0 → tally.new.errors ≡ tally.old.errors }
     {
         let mut status = 0;
         for path in paths {
-            let one = self.check_path(files, writer, complaints, path);
+            let one = self.check_path(files, writer, complaints, tally, path);
             status = status.max(one);
         }
         status

@@ -1,13 +1,16 @@
 // What is printed for other programs: an object of JSON a line.
-ghost use Rattle.std.specs.Prelude.{◌≡◌, ◌≤◌, ◌-◌, ◌^◌, ◌∷◌, [], IfOk, length, min, true};
-ghost use Rattle.json.specs.Token.{begin_object};
-ghost use Rattle.marked_lines.specs.Places.{BeginsWith, column_number, line_number};
-ghost use Rattle.gqlcheck_run.specs.JsonLines.{Adds, IsEnded, number_tokens, place_tokens, text_tokens};
+ghost use Rattle.std.specs.Prelude.{◌≡◌, ◌≤◌, [], IfOk, length, min};
+ghost use Rattle.marked_lines.specs.Places.{BeginsWith};
+ghost use Rattle.command_lines.specs.declared.gqlcheck.Format.TheVariants.{Json};
+ghost use Rattle.gqlcheck_run.specs.JsonLines.{Adds, AddsMembers, place_tokens};
 ghost use Rattle.gqlcheck_run.specs.Places.{BeginsWithJson};
 ghost use Rattle.gqlcheck_run.specs.Rendering.{BeginsAtFirst};
 
-use crate::places::offset_within;
-use document_checks::{Finding, Limit, OperationReport, Report};
+use crate::json_members::{
+    begun, close_object, ended, open_object, put_end, put_flag, put_number, put_text,
+};
+use crate::places::{Part, column_of, line_of, offset_within, part_between};
+use document_checks::{ExceededLimit, Finding, Limit, OperationReport, OtherPlace, Report};
 use json::Writer;
 use line_index::LineIndex;
 use std::alloc::{AllocError, Allocator};
@@ -25,45 +28,7 @@ fn key_of(limit: Limit) -> &'static str {
     }
 }
 
-// A member of an object: its name, and a number.
-fn put_number<A: Allocator>(
-    out: &mut Writer<A>,
-    name: &str,
-    number: usize,
-) -> Result<(), AllocError>
-    ensures { IfOk result (λ _. Adds (number_tokens name.now number) out.old out.new) }
-{
-    out.key(name)?;
-    out.u64(number as u64)
-}
-
-// The same with a text.
-fn put_text<A: Allocator>(out: &mut Writer<A>, name: &str, text: &str) -> Result<(), AllocError>
-    ensures { IfOk result (λ _. Adds (text_tokens name.now text.now) out.old out.new) }
-{
-    out.key(name)?;
-    out.string(text)
-}
-
-// The number of the line of an offset.
-fn line_of<A: Allocator>(source: &str, index: &LineIndex<'_, A>, offset: usize) -> usize
-    requires index { index.now ≡ source.now }
-    requires within { offset ≤ length source.now }
-    ensures { result ≡ min (line_number source.now offset) (2 ^ 64 - 1) }
-{
-    index.line_column(offset).line.saturating_add(1)
-}
-
-// And its column there.
-fn column_of<A: Allocator>(source: &str, index: &LineIndex<'_, A>, offset: usize) -> usize
-    requires index { index.now ≡ source.now }
-    requires within { offset ≤ length source.now }
-    ensures { result ≡ min (column_number source.now offset) (2 ^ 64 - 1) }
-{
-    index.column_in_chars(offset).saturating_add(1)
-}
-
-// The file, and the position in it.
+// The file, and the line and the column in it.
 fn put_position<A: Allocator>(
     out: &mut Writer<A>,
     name: &str,
@@ -73,32 +38,103 @@ fn put_position<A: Allocator>(
 ) -> Result<(), AllocError>
     requires index { index.now ≡ source.now }
     requires within { offset ≤ length source.now }
-    ensures { IfOk result (λ _. Adds (place_tokens name.now source.now offset) out.old out.new) }
+    ensures adds { IfOk result (λ _. Adds (place_tokens name.now source.now offset) out.old out.new) }
+    ensures members { IfOk result (λ _. AddsMembers out.old out.new) }
 {
     put_text(out, "file", name)?;
-    put_number(out, "line", line_of(source, index, offset))?;
-    put_number(out, "column", column_of(source, index, offset))?;
-    put_number(out, "offset", offset)
+    put_number(out, "line", line_of(source, index, offset) as u64)?;
+    put_number(out, "column", column_of(source, index, offset) as u64)?;
+    Ok(())
 }
 
-// A line that an object begins, after other lines.
-fn begun<A: Allocator>(lines: Vec<u8, A>) -> Result<Writer<A>, AllocError>
-    ensures before { IfOk result (λ out. out.before ≡ lines.items) }
-    ensures tokens { IfOk result (λ out. out.tokens ≡ begin_object ∷ []) }
+// Where a part ends, and its byte offsets.
+#[tactic(auto, using(crate::proofs::Members::both))]
+fn put_extent<A: Allocator>(
+    out: &mut Writer<A>,
+    source: &str,
+    index: &LineIndex<'_, A>,
+    part: Part,
+) -> Result<(), AllocError>
+    requires index { index.now ≡ source.now }
+    requires within { part.end ≤ length source.now }
+    ensures { IfOk result (λ _. AddsMembers out.old out.new) }
 {
-    let mut out = Writer::new(lines);
-    out.begin_object()?;
-    Ok(out)
+    put_end(out, source, index, part)?;
+    put_number(out, "offset", part.start as u64)?;
+    put_number(out, "endOffset", part.end as u64)?;
+    Ok(())
 }
 
-// All lines, the last of them with the end of its object and its line feed.
-fn ended<A: Allocator>(mut out: Writer<A>) -> Result<Vec<u8, A>, AllocError>
-    ensures { IfOk result (λ lines. IsEnded out lines.items) }
+// The other place, if there is one.
+fn put_other<A: Allocator>(
+    out: &mut Writer<A>,
+    name: &str,
+    source: &str,
+    index: &LineIndex<'_, A>,
+    other: Option<OtherPlace>,
+) -> Result<(), AllocError>
+    requires { index.now ≡ source.now }
+    ensures { IfOk result (λ _. AddsMembers out.old out.new) }
 {
-    out.end_object()?;
-    let mut lines = out.into_inner();
-    lines.push(b'\n')?;
-    Ok(lines)
+    let Some(other) = other else {
+        return Ok(());
+    };
+    let part = part_between(source, other.start, other.end);
+    open_object(out, "other")?;
+    put_position(out, name, source, index, part.start)?;
+    put_extent(out, source, index, part)?;
+    put_text(out, "message", other.words)?;
+    close_object(out)?;
+    Ok(())
+}
+
+// The operation, if the finding concerns one.
+#[tactic(auto, using(crate::proofs::Members::none))]
+fn put_operation<A: Allocator>(out: &mut Writer<A>, finding: &Finding) -> Result<(), AllocError>
+    ensures { IfOk result (λ _. AddsMembers out.old out.new) }
+{
+    match &finding.operation {
+        Some(name) => put_text(out, "operation", name.as_str()),
+        None => Ok(()),
+    }
+}
+
+// The limit, if one is exceeded.
+fn put_limit<A: Allocator>(
+    out: &mut Writer<A>,
+    limit: Option<ExceededLimit>,
+) -> Result<(), AllocError>
+    ensures { IfOk result (λ _. AddsMembers out.old out.new) }
+{
+    let Some(exceeded) = limit else {
+        return Ok(());
+    };
+    open_object(out, "limit")?;
+    put_text(out, "name", key_of(exceeded.limit))?;
+    put_number(out, "value", exceeded.value)?;
+    put_number(out, "most", exceeded.most)?;
+    close_object(out)?;
+    Ok(())
+}
+
+// What is found.
+fn put_finding<A: Allocator>(
+    out: &mut Writer<A>,
+    name: &str,
+    source: &str,
+    index: &LineIndex<'_, A>,
+    finding: &Finding,
+) -> Result<(), AllocError>
+    requires { index.now ≡ source.now }
+    ensures { IfOk result (λ _. AddsMembers out.old out.new) }
+{
+    put_text(out, "rule", finding.rule)?;
+    put_text(out, "severity", "error")?;
+    put_text(out, "message", finding.message.as_str())?;
+    put_other(out, name, source, index, finding.other)?;
+    put_operation(out, finding)?;
+    put_limit(out, finding.limit)?;
+    Ok(())
 }
 
 // The line of a finding.
@@ -113,11 +149,11 @@ fn finding_line<A: Allocator>(
     ensures grows { IfOk result (λ it. BeginsWith it.items lines.items) }
     ensures first { IfOk result (λ it. lines.items ≡ [] → BeginsWithJson name.now source.now (min finding.now.start (length source.now)) it.items) }
 {
-    let start = offset_within(source, finding.start);
+    let part = part_between(source, finding.start, finding.end);
     let mut out = begun(lines)?;
-    put_position(&mut out, name, source, index, start)?;
-    put_text(&mut out, "rule", finding.rule)?;
-    put_text(&mut out, "message", finding.message.as_str())?;
+    put_position(&mut out, name, source, index, part.start)?;
+    put_extent(&mut out, source, index, part)?;
+    put_finding(&mut out, name, source, index, finding)?;
     ended(out)
 }
 
@@ -125,13 +161,14 @@ fn finding_line<A: Allocator>(
 fn more_line<A: Allocator>(
     lines: Vec<u8, A>,
     name: &str,
-    more: usize,
+    report: &Report,
 ) -> Result<Vec<u8, A>, AllocError>
     ensures { IfOk result (λ it. BeginsWith it.items lines.items) }
 {
     let mut out = begun(lines)?;
     put_text(&mut out, "file", name)?;
-    put_number(&mut out, "more", more)?;
+    put_number(&mut out, "more", report.more as u64)?;
+    put_flag(&mut out, "atLeast", report.at_least)?;
     ended(out)
 }
 
@@ -164,6 +201,7 @@ fn operation_line<A: Allocator>(
     let start = offset_within(source, operation.start);
     let mut out = begun(lines)?;
     put_position(&mut out, name, source, index, start)?;
+    put_number(&mut out, "offset", start as u64)?;
     put_text(&mut out, "operation", operation.name.as_str())?;
     put_figures(&mut out, operation)?;
     ended(out)
@@ -178,7 +216,7 @@ fn finding_lines<A: Allocator>(
     findings: &[Finding],
 ) -> Result<Vec<u8, A>, AllocError>
     requires { index.now ≡ source.now }
-    ensures { IfOk result (λ lines. BeginsAtFirst true name.now source.now findings.now lines.items) }
+    ensures { IfOk result (λ lines. BeginsAtFirst Json name.now source.now findings.now lines.items) }
 {
     let mut lines = Vec::new(alloc);
     for finding in findings {
@@ -214,12 +252,12 @@ pub fn json_lines<A: Allocator + Copy>(
     report: &Report,
     figures: bool,
 ) -> Result<Vec<u8, A>, AllocError>
-    ensures { IfOk result (λ output. BeginsAtFirst true name.now source.now report.now.findings.items output.items) }
+    ensures { IfOk result (λ output. BeginsAtFirst Json name.now source.now report.now.findings.items output.items) }
 {
     let index = LineIndex::new(alloc, source)?;
     let mut lines = finding_lines(alloc, name, source, &index, report.findings.as_slice())?;
     if report.more > 0 {
-        lines = more_line(lines, name, report.more)?;
+        lines = more_line(lines, name, report)?;
     }
     if figures {
         let operations = report.operations.as_slice();

@@ -6,12 +6,18 @@
 
 mod command;
 mod folders;
+mod framing;
+mod github;
 mod job;
 mod json_lines;
+mod json_members;
 mod outcome;
 mod places;
 mod program;
 mod report;
+mod sarif_log;
+mod sarif_results;
+mod tally;
 mod texts;
 
 pub use command::{HELP, USAGE, VERSION};

@@ -3,12 +3,14 @@ ghost use Rattle.std.specs.Prelude.{◌≡◌};
 ghost use Rattle.document_checks.specs.Checking.{as_asked};
 ghost use Rattle.command_lines.specs.Words.{texts};
 ghost use Rattle.command_lines.specs.Reading.{as_given};
-ghost use Rattle.gqlcheck_run.specs.Program.{ChecksTexts, Runs, asked_by, information_text, printing_of};
+ghost use Rattle.gqlcheck_run.specs.Program.{ChecksAll, ChecksTexts, Runs, asked_by, information_text, printing_of};
 
 use crate::command::{HELP, PROGRAM, USAGE, VERSION};
+use crate::framing::{close, opening};
 use crate::job::{Job, Printing};
+use crate::tally::Tally;
 use byte_streams::{Sink, Source};
-use command_lines::gqlcheck::options;
+use command_lines::gqlcheck::{Format, options};
 use command_lines::information::{Information, Request};
 use command_lines::misuse::WordsError;
 use command_lines::options::Plan;
@@ -17,11 +19,13 @@ use document_checks::{Checks, DocumentChecker};
 use file_access::Files;
 use std::alloc::Allocator;
 
-// How many findings of a text are printed at most.
-const FINDINGS: usize = 20;
-
-// The same as JSON.
-const JSON_FINDINGS: usize = 1000;
+// How many findings of a text are printed at most, in a format.
+fn most_findings(format: Format) -> usize {
+    match format {
+        Format::Text | Format::Github => 20,
+        Format::Json | Format::Sarif => 1000,
+    }
+}
 
 fn information_text(page: Information) -> &'static str
     ensures { result.now ≡ information_text page }
@@ -45,21 +49,38 @@ impl<'c, 'w, A: Allocator + Copy, C: DocumentChecker> Job<'c, 'w, A, C> {
                 limits: plan.limits(),
                 most: plan.most(),
                 operation: plan.operation(),
-                findings: if plan.is_set("--json") {
-                    JSON_FINDINGS
-                } else {
-                    FINDINGS
-                },
+                findings: most_findings(plan.format()),
             },
             printing: Printing {
                 figures: plan.is_set("--figures"),
-                json: plan.is_set("--json"),
+                format: plan.format(),
             },
         }
     }
 
     // Checks the files that these paths name, or standard input where there are none, and gives the status.
-    fn check<R: Source, W: Sink, E: Sink, F: Files>(
+    fn check_texts<R: Source, W: Sink, E: Sink, F: Files>(
+        &self,
+        reader: &mut R,
+        writer: &mut W,
+        complaints: &mut E,
+        files: &mut F,
+        tally: &mut Tally,
+        paths: &[&str],
+    ) -> u8
+        ensures checks { ChecksTexts F.lists F.reads (as_asked self.now.checks) self.now.printing (texts paths.now) result
+            (record { input = R.account reader.old; output = W.account writer.old; complaints = E.account complaints.old; files = files.old })
+            (record { input = R.account reader.new; output = W.account writer.new; complaints = E.account complaints.new; files = files.new }) }
+        ensures quiet { result ≡ 0 → tally.new.errors ≡ tally.old.errors }
+    {
+        match paths {
+            [] => self.check_input(reader, writer, complaints, tally),
+            _ => self.check_paths(files, writer, complaints, tally, paths),
+        }
+    }
+
+    // Does that between what comes before the texts and what comes after them, and gives the status of the run.
+    fn check_all<R: Source, W: Sink, E: Sink, F: Files>(
         &self,
         reader: &mut R,
         writer: &mut W,
@@ -67,20 +88,25 @@ impl<'c, 'w, A: Allocator + Copy, C: DocumentChecker> Job<'c, 'w, A, C> {
         files: &mut F,
         paths: &[&str],
     ) -> u8
-        ensures { ChecksTexts F.lists F.reads (as_asked self.now.checks) self.now.printing (texts paths.now) result
+        ensures { ChecksAll F.lists F.reads (as_asked self.now.checks) self.now.printing (texts paths.now) result
             (record { input = R.account reader.old; output = W.account writer.old; complaints = E.account complaints.old; files = files.old })
             (record { input = R.account reader.new; output = W.account writer.new; complaints = E.account complaints.new; files = files.new }) }
     {
-        match paths {
-            [] => self.check_input(reader, writer, complaints),
-            _ => self.check_paths(files, writer, complaints, paths),
+        let format = self.printing.format;
+        let opened = print(PROGRAM, writer, complaints, opening(format));
+        if opened != 0 {
+            return opened;
         }
+        let mut tally = Tally::NONE;
+        let status = self.check_texts(reader, writer, complaints, files, &mut tally, paths);
+        close(self.alloc, format, writer, complaints, &tally, status)
     }
 }
 
 /// Carries out the request in the words after the program's name, and gives the status: 0 when all texts pass, 1 when one does not, 2 when something
 /// could not be read or written, memory was refused, or the program is not called so. Nothing is said on standard error but with status 2, and a text
-/// that passes prints nothing but its figures, if they are wanted. No file is changed.
+/// that passes prints nothing but its figures, if they are wanted. A SARIF log is one object for all texts: it is begun before the first and ended after
+/// the last. No file is changed.
 pub fn run<A: Allocator + Copy, C: DocumentChecker, R: Source, W: Sink, E: Sink, F: Files>(
     alloc: A,
     checker: &C,
@@ -98,7 +124,7 @@ pub fn run<A: Allocator + Copy, C: DocumentChecker, R: Source, W: Sink, E: Sink,
         Ok(Request::Print(page)) => print(PROGRAM, writer, complaints, information_text(page)),
         Ok(Request::Process(plan)) => {
             let job = Job::of(alloc, checker, &plan);
-            job.check(reader, writer, complaints, files, plan.files.as_slice())
+            job.check_all(reader, writer, complaints, files, plan.files.as_slice())
         }
         Err(WordsError::Usage(misuse)) => {
             explain(alloc, PROGRAM, USAGE, complaints, misuse);

@@ -1,16 +1,43 @@
 // What is printed for people.
-ghost use Rattle.std.specs.Prelude.{◌≡◌, ◌++◌, IfOk, false, length, min, string_bytes};
+ghost use Rattle.std.specs.Prelude.{◌≡◌, ◌++◌, IfOk, length, min, string_bytes};
 ghost use Rattle.marked_lines.specs.Places.{BeginsWith, place};
+ghost use Rattle.command_lines.specs.declared.gqlcheck.Format.TheVariants.{Text};
 ghost use Rattle.gqlcheck_run.specs.Rendering.{BeginsAtFirst};
 ghost use Rattle.gqlcheck_run.specs.Titles.{title_of};
 
-use crate::places::offset_within;
-use document_checks::{Figures, Finding, Limit, OperationReport, Report};
+use crate::places::{offset_within, part_between};
+use crate::tally::words_before;
+use document_checks::{Figures, Finding, Limit, OperationReport, OtherPlace, Report};
 use line_index::LineIndex;
-use marked_lines::{Remark, push_message, push_more, push_place};
+use marked_lines::{Remark, push_escaped, push_message, push_place};
 use std::alloc::{AllocError, Allocator};
 
-// The finding, and the line of the text with its place marked.
+// The other place, if there is one, and the line of the text with it marked.
+fn push_other<'t, A: Allocator>(
+    text: &mut String<A>,
+    name: &str,
+    source: &'t str,
+    index: &LineIndex<'_, A>,
+    other: Option<OtherPlace>,
+) -> Result<(), AllocError>
+    requires { index.now ≡ source.now }
+    ensures { IfOk result (λ _. BeginsWith (string_bytes text.new) (string_bytes text.old)) }
+{
+    let Some(other) = other else {
+        return Ok(());
+    };
+    let part = part_between(source, other.start, other.end);
+    let remark = Remark {
+        offset: part.start,
+        message: (other.words, "", "", ""),
+        marked: source.get(part.start..part.end).unwrap_or(""),
+    };
+    push_message(text, name, index, &remark)?;
+    Ok(())
+}
+
+// The finding with its rule, and the line of the text with its place marked; then the same of the other place.
+#[tactic(auto, using(marked_lines::proofs::Fronts::begins_through))]
 fn push_finding<'t, A: Allocator>(
     text: &mut String<A>,
     name: &str,
@@ -21,13 +48,32 @@ fn push_finding<'t, A: Allocator>(
     requires { index.now ≡ source.now }
     ensures { IfOk result (λ _. BeginsWith (string_bytes text.new) (string_bytes text.old ++ place name.now source.now (min finding.now.start (length source.now)))) }
 {
-    let start = offset_within(source, finding.start);
+    let part = part_between(source, finding.start, finding.end);
     let remark = Remark {
-        offset: start,
-        message: (finding.message.as_str(), "", "", ""),
-        marked: source.get(start..finding.end).unwrap_or(""),
+        offset: part.start,
+        message: (finding.message.as_str(), " [", finding.rule, "]"),
+        marked: source.get(part.start..part.end).unwrap_or(""),
     };
-    push_message(text, name, index, &remark)
+    push_message(text, name, index, &remark)?;
+    push_other(text, name, source, index, finding.other)?;
+    Ok(())
+}
+
+// How many more findings there are, if there are more.
+fn push_more<A: Allocator>(
+    text: &mut String<A>,
+    name: &str,
+    report: &Report,
+) -> Result<(), AllocError>
+    ensures { IfOk result (λ _. BeginsWith (string_bytes text.new) (string_bytes text.old)) }
+{
+    if report.more == 0 {
+        return Ok(());
+    }
+    let (words, more) = (words_before(report.at_least), report.more);
+    push_escaped(text, name)?;
+    writeln!(text, ": and {words}{more} more")?;
+    Ok(())
 }
 
 // The findings, and how many more there are.
@@ -39,13 +85,13 @@ fn findings_text<A: Allocator>(
     report: &Report,
 ) -> Result<String<A>, AllocError>
     requires { index.now ≡ source.now }
-    ensures { IfOk result (λ text. BeginsAtFirst false name.now source.now report.now.findings.items (string_bytes text)) }
+    ensures { IfOk result (λ text. BeginsAtFirst Text name.now source.now report.now.findings.items (string_bytes text)) }
 {
     let mut text = String::new(alloc);
     for finding in &report.findings {
         push_finding(&mut text, name, source, index, finding)?;
     }
-    push_more(&mut text, name, report.more)?;
+    push_more(&mut text, name, report)?;
     Ok(text)
 }
 
@@ -119,7 +165,7 @@ pub fn rendered<A: Allocator + Copy>(
     report: &Report,
     figures: bool,
 ) -> Result<Vec<u8, A>, AllocError>
-    ensures { IfOk result (λ output. BeginsAtFirst false name.now source.now report.now.findings.items output.items) }
+    ensures { IfOk result (λ output. BeginsAtFirst Text name.now source.now report.now.findings.items output.items) }
 {
     let index = LineIndex::new(alloc, source)?;
     let mut text = findings_text(alloc, name, source, &index, report)?;

@@ -1,0 +1,25 @@
+-- Workflow commands of GitHub Actions, as its documentation has them ("Workflow commands for GitHub Actions", "Setting an error message").
+use Rattle.std.specs.Prelude.{◌==◌, ℕ, List, [], ◌∷◌, ◌++◌, codes, decimal, if◌then◌else◌}
+use Rattle.std.specs.List.{flat_map}
+
+-- A byte of a message: `%`, CR and LF are escaped.
+abbrev pub data_byte : ℕ → List ℕ
+data_byte b = if b == 37 then codes "%25" else (if b == 13 then codes "%0D" else (if b == 10 then codes "%0A" else b ∷ []))
+
+-- one of a property's value: `:` and `,` are too
+abbrev pub property_byte : ℕ → List ℕ
+property_byte b = if b == 58 then codes "%3A" else (if b == 44 then codes "%2C" else data_byte b)
+
+-- a message, and a property's value
+abbrev pub message_data : List ℕ → List ℕ
+message_data text = flat_map data_byte text
+
+abbrev pub property : List ℕ → List ℕ
+property text = flat_map property_byte text
+
+-- how the command for an error begins that is in a file of this name, at a line and a column
+abbrev pub position : ℕ → ℕ → List ℕ
+position line column = codes ",line=" ++ decimal line ++ codes ",col=" ++ decimal column ++ codes ","
+
+abbrev pub error_at : List ℕ → ℕ → ℕ → List ℕ
+error_at name line column = codes "::error file=" ++ property name ++ position line column
