@@ -8,7 +8,7 @@ usage() {
 usage: ./do COMMAND
 
 While you change something:
-  quick              the checks that need no proof: generated files, names, pages, lists. Ten seconds
+  quick              the checks that need no proof: generated files, names, pages, lists. Half a minute
   generate           writes all files that are generated
   affected [CRATE..] says which crates have to be proved again since the last commit, or after a
                      change of these crates, and how long that takes
@@ -69,7 +69,7 @@ quick() {
     must "Run ./do generate, or mend the page or the list that it names." tools/evidence/run --check
     must "Show in the page what the file has." tests/readme --text
     must "Say in README what docs/SPEED.md has, or change the phrases of tools/speed." tools/speed
-    must "Write the sentence in other words." tools/words
+    must "Break the line, or write the sentence in other words." tools/words
     must "Mend the line." tools/lint
     return $failed
 }
