@@ -33,9 +33,9 @@ PARTS = {
         line_index/src editor_text/src rpc_messages/src rpc_serving/src editor_diagnostics/src editor_validation/src
         editor_answers/src embedded_documents/src schema_members/src command_lines/src/gqlls.rt
         gqlls_server/src/server.rt file_uris/src gqlls_program/src/program.rt""",
-    "validation": (
-        "document_validation/src/validation.rt document_validation/src/messages.rt document_validation/src/lists.rt"
-    ),
+    "validation": """
+        document_validation/src/validation.rt document_validation/src/messages.rt document_validation/src/lists.rt
+        variable_rules/src/judging.rt variable_rules/src/steps.rt""",
     "the cost of operations": (
         "cost_limits/src/measures.rt cost_limits/src/limits.rt cost_figures/src/limits.rt"
     ),
@@ -166,7 +166,7 @@ def fields_of(call, text):
     """The fields, each with its text, of the record of this repository that a clause says holds, by its name or by an
     `abbrev` of its file; nothing for a record of one field."""
     source = Source.of(call.file)
-    said = re.match(r"\s*ensures \w* ?\{ (?:IfOk \w+ |IfErr \w+ |\(|λ \w+\. )*(\w+)", text)
+    said = re.match(r"\s*ensures \w* ?\{\s+(?:IfOk \w+\s+|IfErr \w+\s+|\(|λ \w+\.\s+)*(\w+)", text)
     path = spec(source.uses[said[1]][0]) if said and said[1] in source.uses else None
     if path and CRATES in path.parents:
         name = source.uses[said[1]][1]

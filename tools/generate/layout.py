@@ -40,9 +40,9 @@ def use(path, names):
 
 
 def uses(path, names):
-    """The same in lines of at most 160 characters."""
+    """The same in lines of at most 120 characters."""
     rows = textwrap.wrap(
-        ", ".join(names), 160 - len(use(path, ["", ""])) + 3, break_long_words=False, break_on_hyphens=False
+        ", ".join(names), 120 - len(use(path, ["", ""])) + 3, break_long_words=False, break_on_hyphens=False
     )
     return "".join(use(path, [row.removesuffix(",")]) for row in rows)
 

@@ -1207,7 +1207,8 @@ class InputFieldsDefinition(Node, kind="INPUT_FIELDS_DEFINITION"):
 class DirectiveDefinition(Node, kind="DIRECTIVE_DEFINITION"):
     """The definition of a directive (GraphQL October 2021, section 3.13, "Directives").
 
-    *DirectiveDefinition*: Description? `directive` `@` Name ArgumentsDefinition? `repeatable`? `on` DirectiveLocations
+    *DirectiveDefinition*: Description? `directive` `@` Name ArgumentsDefinition? `repeatable`? `on`
+    DirectiveLocations
     """
 
     __slots__ = ()

@@ -364,7 +364,8 @@ pub enum SyntaxKind {
     INPUT_FIELDS_DEFINITION,
     /// The definition of a directive (section 3.13, "Directives").
     ///
-    /// *DirectiveDefinition*: Description? `directive` `@` Name ArgumentsDefinition? `repeatable`? `on` DirectiveLocations
+    /// *DirectiveDefinition*: Description? `directive` `@` Name ArgumentsDefinition? `repeatable`? `on`
+    /// DirectiveLocations
     DIRECTIVE_DEFINITION,
     /// The locations where a directive may be used (section 3.13, "Directives").
     ///

@@ -17,7 +17,8 @@ pub data Multiplicity : Type 0 where
   at_least_one : Multiplicity
   any_number : Multiplicity
 
--- an accessor: the kind of its node; the kinds of the child nodes that it looks for, or the kind of the leaf; and how many the row allows
+-- an accessor: the kind of its node; the kinds of the child nodes that it looks for, or the kind of the leaf; and how
+-- many the row allows
 pub data Accessor : Type 0 where
   nodes : ℕ → List ℕ → Multiplicity → Accessor
   leaf : ℕ → ℕ → Multiplicity → Accessor
@@ -39,4 +40,5 @@ HasMultiplicity any_number found = ⊤
 -- a node of the accessor's kind has as many children of the kinds that it looks for as the accessor says
 abbrev pub ReadsAt : Place → Accessor → Type 0
 ReadsAt p (nodes kind kinds n) = number (kind_at p) ≡ kind → HasMultiplicity n (cast_children (one_of kinds) p)
-ReadsAt p (leaf kind of n) = number (kind_at p) ≡ kind → (k : SyntaxKind) → number k ≡ of → HasMultiplicity n (leaves_of k p)
+ReadsAt p (leaf kind of n) =
+    number (kind_at p) ≡ kind → (k : SyntaxKind) → number k ≡ of → HasMultiplicity n (leaves_of k p)

@@ -10,8 +10,8 @@ impl<'t> StringValue<'t> {
     ghost use Rattle.apollo_tree.specs.References.{node_place};
     ghost use Rattle.apollo_cst_core.specs.StringValues.{IsStringValue};
 
-    /// The string's value: without quotes, with each escape replaced by its character, and for a block string without its common indent
-    /// and its blank lines at both ends (GraphQL September 2025, "String Value").
+    /// The string's value: without quotes, with each escape replaced by its character, and for a block string without
+    /// its common indent and its blank lines at both ends (GraphQL September 2025, "String Value").
     ///
     /// Fails only when memory is refused.
     pub fn to_string_in<A: Allocator + Copy>(&self, alloc: A) -> Result<String<A>, AllocError>

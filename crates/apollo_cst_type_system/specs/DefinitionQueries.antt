@@ -6,12 +6,20 @@ use Rattle.apollo_tree.specs.Order.{Place}
 use Rattle.apollo_tree.specs.References.{node_place}
 use Rattle.apollo_cst_core.specs.Cast.{cast_children, first_of}
 use Rattle.apollo_cst_type_system.specs.declared.document.Definition.{Definition}
-use Rattle.apollo_cst_type_system.specs.declared.document.Definition.TheVariants.{OperationDefinition, FragmentDefinition, DirectiveDefinition}
-use Rattle.apollo_cst_type_system.specs.declared.document.Definition.TheVariants.{SchemaDefinition, ScalarTypeDefinition, ObjectTypeDefinition}
-use Rattle.apollo_cst_type_system.specs.declared.document.Definition.TheVariants.{InterfaceTypeDefinition, UnionTypeDefinition, EnumTypeDefinition}
-use Rattle.apollo_cst_type_system.specs.declared.document.Definition.TheVariants.{InputObjectTypeDefinition, SchemaExtension, ScalarTypeExtension}
-use Rattle.apollo_cst_type_system.specs.declared.document.Definition.TheVariants.{ObjectTypeExtension, InterfaceTypeExtension, UnionTypeExtension}
-use Rattle.apollo_cst_type_system.specs.declared.document.Definition.TheVariants.{EnumTypeExtension, InputObjectTypeExtension}
+use Rattle.apollo_cst_type_system.specs.declared.document.Definition.TheVariants.{OperationDefinition}
+use Rattle.apollo_cst_type_system.specs.declared.document.Definition.TheVariants.{FragmentDefinition}
+use Rattle.apollo_cst_type_system.specs.declared.document.Definition.TheVariants.{DirectiveDefinition, SchemaDefinition}
+use Rattle.apollo_cst_type_system.specs.declared.document.Definition.TheVariants.{ScalarTypeDefinition}
+use Rattle.apollo_cst_type_system.specs.declared.document.Definition.TheVariants.{ObjectTypeDefinition}
+use Rattle.apollo_cst_type_system.specs.declared.document.Definition.TheVariants.{InterfaceTypeDefinition}
+use Rattle.apollo_cst_type_system.specs.declared.document.Definition.TheVariants.{UnionTypeDefinition}
+use Rattle.apollo_cst_type_system.specs.declared.document.Definition.TheVariants.{EnumTypeDefinition}
+use Rattle.apollo_cst_type_system.specs.declared.document.Definition.TheVariants.{InputObjectTypeDefinition}
+use Rattle.apollo_cst_type_system.specs.declared.document.Definition.TheVariants.{SchemaExtension, ScalarTypeExtension}
+use Rattle.apollo_cst_type_system.specs.declared.document.Definition.TheVariants.{ObjectTypeExtension}
+use Rattle.apollo_cst_type_system.specs.declared.document.Definition.TheVariants.{InterfaceTypeExtension}
+use Rattle.apollo_cst_type_system.specs.declared.document.Definition.TheVariants.{UnionTypeExtension, EnumTypeExtension}
+use Rattle.apollo_cst_type_system.specs.declared.document.Definition.TheVariants.{InputObjectTypeExtension}
 use Rattle.apollo_cst_type_system.specs.Definition.{definition_node}
 
 -- the first child NAME of an element
@@ -27,7 +35,8 @@ name_in (Some p) = name_at p
 abbrev pub definition_name : Definition → Option Place
 definition_name (SchemaDefinition n) = None
 definition_name (SchemaExtension n) = None
-definition_name (FragmentDefinition n) = name_in (first_of (cast_children (is_kind FRAGMENT_NAME) (node_place n.syntax)))
+definition_name (FragmentDefinition n) =
+    name_in (first_of (cast_children (is_kind FRAGMENT_NAME) (node_place n.syntax)))
 definition_name d = name_at (node_place (definition_node d))
 
 -- operations and fragments

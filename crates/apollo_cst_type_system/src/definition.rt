@@ -5,10 +5,15 @@ use apollo_cst_executable::Name;
 impl<'t> Definition<'t> {
     ghost use Rattle.std.specs.Prelude.{◌≡◌, option_map};
     ghost use Rattle.apollo_tree.specs.References.{node_place};
-    ghost use Rattle.apollo_cst_type_system.specs.DefinitionQueries.{definition_name, is_executable, is_extension, kind_name};
+    ghost use Rattle.apollo_cst_type_system.specs.DefinitionQueries.{
+      definition_name,
+      is_executable,
+      is_extension,
+      kind_name,
+    };
 
-    /// The name of the definition, or of the type that it extends. `None` for a schema and its extension, which have no name, for an operation without
-    /// a name, and when a syntax error left it out.
+    /// The name of the definition, or of the type that it extends. `None` for a schema and its extension, which have no
+    /// name, for an operation without a name, and when a syntax error left it out.
     pub fn name(&self) -> Option<Name<'t>>
         ensures { option_map (λ n. node_place n.syntax) result ≡ definition_name self.now }
     {

@@ -13,7 +13,8 @@ use apollo_tree::{SyntaxKind, SyntaxNode, SyntaxToken};
 
 /// The definition of a directive (GraphQL October 2021, section 3.13, "Directives").
 ///
-/// *DirectiveDefinition*: Description? `directive` `@` Name ArgumentsDefinition? `repeatable`? `on` DirectiveLocations
+/// *DirectiveDefinition*: Description? `directive` `@` Name ArgumentsDefinition? `repeatable`? `on`
+/// DirectiveLocations
 #[derive(Clone, Copy)]
 pub struct DirectiveDefinition<'t> {
     syntax: SyntaxNode<'t>,

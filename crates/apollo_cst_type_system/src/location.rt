@@ -22,7 +22,8 @@ fn is_location(kind: SyntaxKind) -> bool
 impl<'t> DirectiveLocation<'t> {
     /// The location, such as `FIELD_DEFINITION`, or `None` when a syntax error left it out.
     pub fn text(&self) -> Option<TokenText<'t>>
-        ensures { option_map token_text result ≡ option_map text_at (first_of (location_leaves (node_place self.now.syntax))) }
+        ensures { option_map token_text result
+            ≡ option_map text_at (first_of (location_leaves (node_place self.now.syntax))) }
     {
         let mut elements = self.syntax().children_with_tokens();
         while let Some(element) = elements.next() {

@@ -1,5 +1,7 @@
--- What the keyword of a definition says of the rules: their tests, one after the other, choose the definition that it begins.
-use Rattle.std.proofs.Common.{◌≡◌, ◌∙◌, ℕ, Bool, true, false, ◌&&◌, ◌||◌, eqb, cond, List, [], ◌∷◌, Option, Some, None, refl, sym, ap, subst, inl, inr}
+-- What the keyword of a definition says of the rules: their tests, one after the other, choose the definition that it
+-- begins.
+use Rattle.std.proofs.Common.{◌≡◌, ◌∙◌, ℕ, Bool, true, false, ◌&&◌, ◌||◌, eqb, cond, List, [], ◌∷◌, Option, Some, None}
+use Rattle.std.proofs.Common.{refl, sym, ap, subst, inl, inr}
 use Rattle.std.specs.Prelude.{codes}
 use Rattle.std.specs.Str.{bytes_eq}
 use Rattle.std.proofs.lemmas.Bool.{eqb-true, and_parts, and_right, or_left, or_right}
@@ -17,7 +19,8 @@ use Rattle.parser_rules.specs.declared.message.Message.TheVariants as message
 use Rattle.parser_rules.specs.State.{State, Text, Lexeme, same_kind, is_word, is_at, second}
 use Rattle.parser_rules.specs.Nodes as rule
 use Rattle.parser_rules.specs.Nodes.{Definition, DescribedDefinition, Extensions}
-use Rattle.parser_rules.specs.RuleLanguage.{TokenTest, Kind, Keyword, Test, Here, At, Word, Next, fits, holds, Rule, When, Child, Call, refuse}
+use Rattle.parser_rules.specs.RuleLanguage.{TokenTest, Kind, Keyword, Test, Here, At, Word, Next, fits, holds, Rule}
+use Rattle.parser_rules.specs.RuleLanguage.{When, Child, Call, refuse}
 use Rattle.parser_rules.specs.Rules.{operation_type, no_definition, no_described, body}
 use Rattle.parser_rules.specs.Runs.{Runs, yes, no, call}
 use Rattle.parser_rules.proofs.runs.Running.{sequence}
@@ -25,8 +28,10 @@ use Rattle.parser_state.specs.View.{current_of, lexeme_of}
 use Rattle.parser_state.proofs.Keywords.{name-is-word}
 use Rattle.apollo_document.specs.Keywords.{kind_of, IsKeyword, definition_of, extension_of}
 use Rattle.apollo_document.specs.declared.grammar.keyword.DefinitionKeyword.{DefinitionKeyword}
-use Rattle.apollo_document.specs.declared.grammar.keyword.DefinitionKeyword.TheVariants.{Query, Mutation, Subscription, Fragment, Schema, Directive, Scalar}
-use Rattle.apollo_document.specs.declared.grammar.keyword.DefinitionKeyword.TheVariants.{Object, Interface, Union, Enum, InputObject}
+use Rattle.apollo_document.specs.declared.grammar.keyword.DefinitionKeyword.TheVariants.{Query, Mutation, Subscription}
+use Rattle.apollo_document.specs.declared.grammar.keyword.DefinitionKeyword.TheVariants.{Fragment, Schema, Directive}
+use Rattle.apollo_document.specs.declared.grammar.keyword.DefinitionKeyword.TheVariants.{Scalar, Object, Interface}
+use Rattle.apollo_document.specs.declared.grammar.keyword.DefinitionKeyword.TheVariants.{Union, Enum, InputObject}
 
 -- ---- the text of a keyword
 
@@ -54,17 +59,20 @@ are-keywords Query = refl
 are-keywords _ = refl
 
 -- a name with this text
-module _ {o : Option Token} {t : Token} {text : Text} (is : o ≡ Some t) (name : true ≡ is_at token.Name (current_of o)) (text-is : text ≡ t.text.now) where
+module _ {o : Option Token} {t : Token} {text : Text} (is : o ≡ Some t) (name : true ≡ is_at token.Name (current_of o))
+    (text-is : text ≡ t.text.now) where
   same-text : (k : DefinitionKeyword) → bytes_eq text (word_of k) ≡ is_word (kind_of k) (current_of o)
   same-text k =
-      let named : true ≡ is_at token.Name (current_of (Some t)) = subst (λ p. true ≡ is_at token.Name (current_of p)) is name in
+      let named : true ≡ is_at token.Name (current_of (Some t)) =
+      subst (λ p. true ≡ is_at token.Name (current_of p)) is name in
       name-is-word (kind_of k) (lexeme_of t) text (word_of k) (are-keywords k) (words-are k) named text-is
       ∙ sym (ap (λ p. is_word (kind_of k) (current_of p)) is)
 
   pub spelled : (k : DefinitionKeyword) → text ≡ word_of k → is_word (kind_of k) (current_of o) ≡ true
   spelled k e = sym (same-text k) ∙ (bytes_eq-Decides text (word_of k)).1 e
 
-  pub misspelled : ((k : DefinitionKeyword) → text ≡ word_of k → ⊥) → (k : DefinitionKeyword) → is_word (kind_of k) (current_of o) ≡ false
+  pub misspelled : ((k : DefinitionKeyword) → text ≡ word_of k → ⊥) → (k : DefinitionKeyword)
+      → is_word (kind_of k) (current_of o) ≡ false
   misspelled h k = sym (same-text k) ∙ elim (either (bytes_eq text (word_of k))) [
     | inl e ↦ absurd (h k ((bytes_eq-Decides text (word_of k)).0 e))
     | inr e ↦ e
@@ -72,15 +80,18 @@ module _ {o : Option Token} {t : Token} {text : Text} (is : o ≡ Some t) (name 
 
 -- ---- a token that is one keyword is nothing else
 
-other-word : (k j : SyntaxKind) (o : Option Lexeme) → is_word k o ≡ true → eqb (number k) (number j) ≡ false → is_word j o ≡ false
+other-word : (k j : SyntaxKind) (o : Option Lexeme) → is_word k o ≡ true
+    → eqb (number k) (number j) ≡ false → is_word j o ≡ false
 other-word k j None h n = refl
 other-word k j (Some x) h n =
-    and_right (same_kind x.kind token.Name) _ (subst (λ class. eqb class (number j) ≡ false) (sym (eqb-true _ _ (and_parts _ _ h).1)) n)
+    and_right (same_kind x.kind token.Name) _
+    (subst (λ class. eqb class (number j) ≡ false) (sym (eqb-true _ _ (and_parts _ _ h).1)) n)
 
 equal-class : (b : Bool) (class m n : ℕ) → (b && eqb class m) ≡ true → eqb m n ≡ true → (b && eqb class n) ≡ true
 equal-class b class m n h e = subst (λ l. (b && eqb class l) ≡ true) (eqb-true m n e) h
 
-same-word : (k j : SyntaxKind) (o : Option Lexeme) → is_word k o ≡ true → eqb (number k) (number j) ≡ true → is_word j o ≡ true
+same-word : (k j : SyntaxKind) (o : Option Lexeme) → is_word k o ≡ true
+    → eqb (number k) (number j) ≡ true → is_word j o ≡ true
 same-word k j None h e = h
 same-word k j (Some x) h e = equal-class (same_kind x.kind token.Name) _ (number k) (number j) h e
 
@@ -97,10 +108,12 @@ none-of-three : (a b c : Bool) → a ≡ false → b ≡ false → c ≡ false �
 none-of-three a b c e f g = rw (e, f, g) refl
 
 no-operation : (k : SyntaxKind) (o : Option Lexeme) → is_word k o ≡ true
-    → eqb (number k) (number kind.query_KW) ≡ false → eqb (number k) (number kind.mutation_KW) ≡ false → eqb (number k) (number kind.subscription_KW) ≡ false
+    → eqb (number k) (number kind.query_KW) ≡ false → eqb (number k) (number kind.mutation_KW) ≡ false
+    → eqb (number k) (number kind.subscription_KW) ≡ false
     → fits operation_type o ≡ false
 no-operation k o h l m n =
-    none-of-three _ _ _ (other-word k kind.query_KW o h l) (other-word k kind.mutation_KW o h m) (other-word k kind.subscription_KW o h n)
+    none-of-three _ _ _ (other-word k kind.query_KW o h l) (other-word k kind.mutation_KW o h m)
+    (other-word k kind.subscription_KW o h n)
 
 -- ---- tests of keywords, one after the other
 
@@ -113,7 +126,8 @@ abbrev choice : ℕ → List (SyntaxKind × Rule) → Rule → Rule
 choice n [] none = none
 choice n (w ∷ more) none = cond (eqb n (number w.0)) w.1 (choice n more none)
 
-module _ (at : TokenTest → Test) (o : Option Lexeme) {s : State} (is : (q : TokenTest) → holds (at q) s ≡ fits q o) where
+module _ (at : TokenTest → Test) (o : Option Lexeme) {s : State}
+    (is : (q : TokenTest) → holds (at q) s ≡ fits q o) where
   there : {q : TokenTest} {a b : Rule} {t : State} → fits q o ≡ true → Runs a s t → Runs (When (at q) a b) s t
   there {q = q} e r = yes (sym (is q ∙ e)) r
 
@@ -151,10 +165,12 @@ definition_at at brace extension none =
 
 module _ (at : TokenTest → Test) (o : Option Lexeme) {s : State} (is : (q : TokenTest) → holds (at q) s ≡ fits q o)
     {brace extension none : Rule} {t : State} where
-  found : (k : DefinitionKeyword) → is_word (kind_of k) o ≡ true → Runs (Child (definition_of k)) s t → Runs (definition_at at brace extension none) s t
+  found : (k : DefinitionKeyword) → is_word (kind_of k) o ≡ true → Runs (Child (definition_of k)) s t
+      → Runs (definition_at at brace extension none) s t
   found Query h r = there at o is (or_left _ _ h) r
   found Mutation h r = there at o is (or_right (is_word kind.query_KW o) _ (or_left _ _ h)) r
-  found Subscription h r = there at o is (or_right (is_word kind.query_KW o) _ (or_right (is_word kind.mutation_KW o) _ h)) r
+  found Subscription h r =
+      there at o is (or_right (is_word kind.query_KW o) _ (or_right (is_word kind.mutation_KW o) _ h)) r
   found Fragment h r = missing at o is (no-operation kind.fragment_KW o h refl refl refl) (there at o is h r)
   found k h r =
       missing at o is (no-operation (kind_of k) o h refl refl refl)
@@ -163,13 +179,17 @@ module _ (at : TokenTest → Test) (o : Option Lexeme) {s : State} (is : (q : To
       (chosen at o is (kind_of k) ((kind.extend_KW, extension) ∷ type_system) none h r)))
 
   not-found : ((k : DefinitionKeyword) → is_word (kind_of k) o ≡ false)
-      → Runs (When (at (Kind token.LCurly)) brace (When (at (Keyword kind.extend_KW)) extension none)) s t → Runs (definition_at at brace extension none) s t
-  not-found h r = missing at o is (none-of-three _ _ _ (h Query) (h Mutation) (h Subscription)) (missing at o is (h Fragment) (after r))
+      → Runs (When (at (Kind token.LCurly)) brace (When (at (Keyword kind.extend_KW)) extension none)) s t
+      → Runs (definition_at at brace extension none) s t
+  not-found h r = missing at o is (none-of-three _ _ _ (h Query) (h Mutation) (h Subscription))
+      (missing at o is (h Fragment) (after r))
     where
       rest : Runs none s t → Runs (ladder at type_system none) s t
       rest r =
-          missing at o is (h Schema) (missing at o is (h Directive) (missing at o is (h Scalar) (missing at o is (h Object)
-          (missing at o is (h Interface) (missing at o is (h Union) (missing at o is (h Enum) (missing at o is (h InputObject) r)))))))
+          missing at o is (h Schema)
+          (missing at o is (h Directive) (missing at o is (h Scalar) (missing at o is (h Object)
+          (missing at o is (h Interface)
+          (missing at o is (h Union) (missing at o is (h Enum) (missing at o is (h InputObject) r)))))))
 
       after : Runs (When (at (Kind token.LCurly)) brace (When (at (Keyword kind.extend_KW)) extension none)) s t
           → Runs (When (at (Kind token.LCurly)) brace (ladder at ((kind.extend_KW, extension) ∷ type_system) none)) s t
@@ -177,27 +197,33 @@ module _ (at : TokenTest → Test) (o : Option Lexeme) {s : State} (is : (q : To
       after (no e (yes f r)) = no e (yes f r)
       after (no e (no f r)) = no e (no f (rest r))
 
-pub by_keyword : (k : DefinitionKeyword) {o : Option Lexeme} {s t : State} → is_word (kind_of k) o ≡ true → o ≡ s.current
+pub by_keyword : (k : DefinitionKeyword) {o : Option Lexeme} {s t : State}
+    → is_word (kind_of k) o ≡ true → o ≡ s.current
     → Runs (Child (definition_of k)) s t → Runs (Call Definition) s t
 unfolding holds body
 by_keyword k {o = o} h e r = call {part = Definition} (found Here o (λ q. sym (ap (fits q) e)) k h r)
 
-pub without_keyword : {o : Option Lexeme} {s t : State} → ((k : DefinitionKeyword) → is_word (kind_of k) o ≡ false) → o ≡ s.current
-    → Runs (When (At token.LCurly) (Child rule.QueryShorthand) (When (Word kind.extend_KW) (Call Extensions) no_definition)) s t → Runs (Call Definition) s t
+pub without_keyword : {o : Option Lexeme} {s t : State}
+    → ((k : DefinitionKeyword) → is_word (kind_of k) o ≡ false) → o ≡ s.current
+    → Runs (When (At token.LCurly) (Child rule.QueryShorthand)
+    (When (Word kind.extend_KW) (Call Extensions) no_definition)) s t → Runs (Call Definition) s t
 unfolding holds body
 without_keyword {o = o} h e r = call {part = Definition} (not-found Here o (λ q. sym (ap (fits q) e)) h r)
 
-pub described_by_keyword : (k : DefinitionKeyword) {o : Option Lexeme} {s t : State} → is_word (kind_of k) o ≡ true → o ≡ second s.items
+pub described_by_keyword : (k : DefinitionKeyword) {o : Option Lexeme} {s t : State}
+    → is_word (kind_of k) o ≡ true → o ≡ second s.items
     → Runs (Child (definition_of k)) s t → Runs (Call DescribedDefinition) s t
 unfolding holds body
 described_by_keyword k {o = o} h e r = call {part = DescribedDefinition} (found Next o (λ q. sym (ap (fits q) e)) k h r)
 
-pub described_without_keyword : {o : Option Lexeme} {s t : State} → ((k : DefinitionKeyword) → is_word (kind_of k) o ≡ false) → o ≡ second s.items
+pub described_without_keyword : {o : Option Lexeme} {s t : State}
+    → ((k : DefinitionKeyword) → is_word (kind_of k) o ≡ false) → o ≡ second s.items
     → Runs (When (Next (Kind token.LCurly)) (refuse message.ExpectedOperation)
     (When (Next (Keyword kind.extend_KW)) (refuse message.InvalidExtension) no_described)) s t
     → Runs (Call DescribedDefinition) s t
 unfolding holds body
-described_without_keyword {o = o} h e r = call {part = DescribedDefinition} (not-found Next o (λ q. sym (ap (fits q) e)) h r)
+described_without_keyword {o = o} h e r =
+    call {part = DescribedDefinition} (not-found Next o (λ q. sym (ap (fits q) e)) h r)
 
 -- ---- an extension
 
@@ -218,7 +244,8 @@ module _ (o : Option Lexeme) {s t : State} (is : (q : TokenTest) → holds (Next
   extended (Some Query) h r = chosen Next o is kind.query_KW extensions _ h r
   extended (Some k) h r = chosen Next o is (kind_of k) extensions _ h r
   extended None h r =
-      missing Next o is (h Schema) (missing Next o is (h Scalar) (missing Next o is (h Object) (missing Next o is (h Interface)
+      missing Next o is (h Schema)
+      (missing Next o is (h Scalar) (missing Next o is (h Object) (missing Next o is (h Interface)
       (missing Next o is (h Union) (missing Next o is (h Enum) (missing Next o is (h InputObject) r))))))
 
 pub extended_by_keyword : (k : Option DefinitionKeyword) {o : Option Lexeme} {s t : State}

@@ -8,8 +8,10 @@ use Rattle.parser_rules.specs.Nodes as rule
 use Rattle.parser_rules.specs.Nodes.{Node}
 use Rattle.parser_rules.specs.RuleLanguage.{Rule, Child, refuse}
 use Rattle.apollo_document.specs.declared.grammar.keyword.DefinitionKeyword.{DefinitionKeyword}
-use Rattle.apollo_document.specs.declared.grammar.keyword.DefinitionKeyword.TheVariants.{Query, Mutation, Subscription, Fragment, Schema, Directive, Scalar}
-use Rattle.apollo_document.specs.declared.grammar.keyword.DefinitionKeyword.TheVariants.{Object, Interface, Union, Enum, InputObject}
+use Rattle.apollo_document.specs.declared.grammar.keyword.DefinitionKeyword.TheVariants.{Query, Mutation, Subscription}
+use Rattle.apollo_document.specs.declared.grammar.keyword.DefinitionKeyword.TheVariants.{Fragment, Schema, Directive}
+use Rattle.apollo_document.specs.declared.grammar.keyword.DefinitionKeyword.TheVariants.{Scalar, Object, Interface}
+use Rattle.apollo_document.specs.declared.grammar.keyword.DefinitionKeyword.TheVariants.{Union, Enum, InputObject}
 
 -- the word
 abbrev pub kind_of : DefinitionKeyword → SyntaxKind

@@ -1,6 +1,7 @@
--- The search for a token among the words of directive locations: it finds the word that the rules test, and that they run.
-use Rattle.std.proofs.Common.{◌≡◌, ℕ, ◌+◌, ◌<◌, ◌≤◌, Bool, true, false, cond, ◌||◌, List, [], ◌∷◌, Option, Some, None, is_some, length, get_or, drop, refl, sym}
-use Rattle.std.proofs.Common.{◌∙◌, ap, subst, inl, inr, arith}
+-- The search for a token among the words of directive locations: it finds the word that the rules test, and that they
+-- run.
+use Rattle.std.proofs.Common.{◌≡◌, ℕ, ◌+◌, ◌<◌, ◌≤◌, Bool, true, false, cond, ◌||◌, List, [], ◌∷◌, Option, Some, None}
+use Rattle.std.proofs.Common.{is_some, length, get_or, drop, refl, sym, ◌∙◌, ap, subst, inl, inr, arith}
 use Rattle.std.specs.List.{find, list_all}
 use Rattle.std.specs.Option.{option_or}
 use Rattle.std.proofs.lemmas.List.Folds.{find-append}
@@ -17,7 +18,8 @@ use Rattle.lexical_grammar.specs.declared.TokenKind.TheVariants as token
 use Rattle.parser_rules.specs.Nodes.{DirectiveLocation, Location}
 use Rattle.parser_rules.specs.State.{State, Lexeme, is_word, flush, opened, closed}
 use Rattle.parser_rules.specs.RuleLanguage.{Here, At, fits, holds, Bump, Note, Rule, Do, When, Child, Call}
-use Rattle.parser_rules.specs.Rules.{any_word, one_of, location, word_of, executable_locations, type_system_locations, inside, body}
+use Rattle.parser_rules.specs.Rules.{any_word, one_of, location, word_of, executable_locations, type_system_locations}
+use Rattle.parser_rules.specs.Rules.{inside, body}
 use Rattle.parser_rules.specs.Runs.{Runs, yes, no, child, call}
 use Rattle.parser_rules.proofs.runs.Frame.{is-open, still-open}
 use Rattle.parser_rules.proofs.runs.Running.{sequence}
@@ -43,14 +45,16 @@ pub start : (o : Option Lexeme) → found_from 0 o ≡ location_word o
 unfolding found_from location_word
 start o = refl
 
-next : (i : ℕ) (o : Option Lexeme) → i < length locations → found_from i o ≡ cond (is_word (at i) o) (Some (at i)) (found_from (i + 1) o)
+next : (i : ℕ) (o : Option Lexeme) → i < length locations
+    → found_from i o ≡ cond (is_word (at i) o) (Some (at i)) (found_from (i + 1) o)
 unfolding found_from
 next i o h = at_drop_more (λ ks. find (λ k. is_word k o) ks) locations i kind.WHITESPACE h
 
 pub here : (i : ℕ) (o : Option Lexeme) → i < length locations → true ≡ is_word (at i) o → found_from i o ≡ Some (at i)
 here i o h e = next i o h ∙ cond-true (is_word (at i) o) (Some (at i)) (found_from (i + 1) o) (sym e)
 
-pub later : (i : ℕ) (o : Option Lexeme) → i < length locations → false ≡ is_word (at i) o → found_from i o ≡ found_from (i + 1) o
+pub later : (i : ℕ) (o : Option Lexeme) → i < length locations → false ≡ is_word (at i) o
+    → found_from i o ≡ found_from (i + 1) o
 later i o h e = next i o h ∙ cond-false (is_word (at i) o) (Some (at i)) (found_from (i + 1) o) (sym e)
 
 pub end : (i : ℕ) (o : Option Lexeme) → length locations ≤ i → found_from i o ≡ None
@@ -71,11 +75,14 @@ or-none : (b : Bool) → b || false ≡ b
 or-none true = refl
 or-none false = refl
 
-found-any : (k : SyntaxKind) (ks : List SyntaxKind) (o : Option Lexeme) → is_some (find (λ j. is_word j o) (k ∷ ks)) ≡ fits (any_word k ks) o
+found-any : (k : SyntaxKind) (ks : List SyntaxKind) (o : Option Lexeme)
+    → is_some (find (λ j. is_word j o) (k ∷ ks)) ≡ fits (any_word k ks) o
 found-any k [] o = some-first (is_word k o) k None ∙ or-none (is_word k o)
-found-any k (l ∷ ks) o = some-first (is_word k o) k (find (λ j. is_word j o) (l ∷ ks)) ∙ ap (λ b. is_word k o || b) (found-any l ks o)
+found-any k (l ∷ ks) o =
+    some-first (is_word k o) k (find (λ j. is_word j o) (l ∷ ks)) ∙ ap (λ b. is_word k o || b) (found-any l ks o)
 
-found-one : (ks : List SyntaxKind) (o : Option Lexeme) → 0 < length ks → is_some (find (λ j. is_word j o) ks) ≡ fits (one_of ks) o
+found-one : (ks : List SyntaxKind) (o : Option Lexeme) → 0 < length ks
+    → is_some (find (λ j. is_word j o) ks) ≡ fits (one_of ks) o
 found-one [] o h = absurd (omega arith)
 found-one (k ∷ ks) o h = found-any k ks o
 
@@ -96,7 +103,8 @@ abbrev chosen : Option SyntaxKind → Rule → Rule
 chosen None none = none
 chosen (Some k) none = Do (Bump k)
 
-word-runs : (ks : List SyntaxKind) (none : Rule) {s t : State} → Runs (chosen (find (λ k. is_word k s.current) ks) none) s t → Runs (word_of ks none) s t
+word-runs : (ks : List SyntaxKind) (none : Rule) {s t : State}
+    → Runs (chosen (find (λ k. is_word k s.current) ks) none) s t → Runs (word_of ks none) s t
 unfolding holds
 word-runs [] none h = h
 word-runs (k ∷ ks) none {s = s} h = elim (either (is_word k s.current)) [
@@ -107,19 +115,24 @@ word-runs (k ∷ ks) none {s = s} h = elim (either (is_word k s.current)) [
 pub found_location : {k : SyntaxKind} {o : Option Lexeme} {s t : State} → Some k ≡ location_word o → o ≡ s.current
     → Runs (Child DirectiveLocation) s t → Runs (Call Location) s t
 unfolding body
-found_location {s = s} e f h = call {part = Location} (yes (sym (is-location s ∙ ap is_some (sym (e ∙ ap location_word f)))) h)
+found_location {s = s} e f h =
+    call {part = Location} (yes (sym (is-location s ∙ ap is_some (sym (e ∙ ap location_word f)))) h)
 
 pub no_location : {o : Option Lexeme} {s t : State} → None ≡ location_word o → o ≡ s.current
-    → Runs (When (At token.Name) (Do (Note message.ExpectedValidLocation)) (Do (Note message.ExpectedLocation))) s t → Runs (Call Location) s t
+    → Runs (When (At token.Name) (Do (Note message.ExpectedValidLocation)) (Do (Note message.ExpectedLocation))) s t
+    → Runs (Call Location) s t
 unfolding body
-no_location {s = s} e f h = call {part = Location} (no (sym (is-location s ∙ ap is_some (sym (e ∙ ap location_word f)))) h)
+no_location {s = s} e f h =
+    call {part = Location} (no (sym (is-location s ∙ ap is_some (sym (e ∙ ap location_word f)))) h)
 
 -- the node of a location, where one was found
-pub in_location : {k : SyntaxKind} {s t u v : State} → Some k ≡ location_word s.current → t ≡ opened kind.DIRECTIVE_LOCATION s
+pub in_location : {k : SyntaxKind} {s t u v : State} → Some k ≡ location_word s.current
+    → t ≡ opened kind.DIRECTIVE_LOCATION s
     → Runs (Do (Bump k)) t u → v ≡ closed u → Runs (Child DirectiveLocation) s v
 unfolding inside location_word opened flush
 in_location {k = k} {s = s} {t = t} {u = u} e o h c =
-    let found : Some k ≡ find (λ j. is_word j t.current) locations = e ∙ sym (ap (λ (z : State). find (λ j. is_word j z.current) locations) o) in
+    let found : Some k ≡ find (λ j. is_word j t.current) locations =
+    e ∙ sym (ap (λ (z : State). find (λ j. is_word j z.current) locations) o) in
     child {node = DirectiveLocation} o c (word-runs locations (Do (Note message.ExpectedLocation))
     (subst (λ x. Runs (chosen x (Do (Note message.ExpectedLocation))) t u) found h))
 

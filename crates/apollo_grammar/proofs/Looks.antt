@@ -22,12 +22,14 @@ other true b e f = absurd cc
 other false b e f = e
 
 -- one of two tokens is there, and not the first
-pub other-at : (j k : TokenKind) (s : State) → true ≡ holds (Here (Or (Kind j) (Kind k))) s → false ≡ holds (At j) s → true ≡ holds (At k) s
+pub other-at : (j k : TokenKind) (s : State) → true ≡ holds (Here (Or (Kind j) (Kind k))) s → false ≡ holds (At j) s
+    → true ≡ holds (At k) s
 unfolding holds
 other-at j k s e f = other (is_at j s.current) (is_at k s.current) e f
 
 -- where no item of a list follows, though neither `]` nor the end is there, the recursion limit is reached
-pub deep-there : (s : State) → false ≡ holds has_item s → false ≡ holds (At token.RBracket) s → true ≡ holds Ready s → true ≡ is_deep s
+pub deep-there : (s : State) → false ≡ holds has_item s → false ≡ holds (At token.RBracket) s
+    → true ≡ holds Ready s → true ≡ is_deep s
 unfolding holds
 deep-there s h a r = only (not (is_over s.current)) (is_at token.RBracket s.current) (is_deep s) h a r
   where

@@ -4,7 +4,9 @@ use Rattle.lexical_grammar.specs.declared.TokenKind.TheVariants as token
 use Rattle.parser_rules.specs.Nodes as rule
 use Rattle.parser_rules.specs.Nodes.{Node}
 use Rattle.apollo_grammar.specs.declared.grammar.extended.Block.{Block}
-use Rattle.apollo_grammar.specs.declared.grammar.extended.Block.TheVariants.{FieldsDefinition, UnionMemberTypes, EnumValuesDefinition, InputFieldsDefinition}
+use Rattle.apollo_grammar.specs.declared.grammar.extended.Block.TheVariants.{FieldsDefinition, UnionMemberTypes}
+use Rattle.apollo_grammar.specs.declared.grammar.extended.Block.TheVariants.{EnumValuesDefinition}
+use Rattle.apollo_grammar.specs.declared.grammar.extended.Block.TheVariants.{InputFieldsDefinition}
 
 -- the token with which it begins
 abbrev pub first_of : Block → TokenKind

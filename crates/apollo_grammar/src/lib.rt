@@ -1,11 +1,12 @@
-//! The parser's functions for all that is below a document: names, values, types, directives, what is executed, and the definitions and
-//! extensions of the type system.
+//! The parser's functions for all that is below a document: names, values, types, directives, what is executed, and the
+//! definitions and extensions of the type system.
 //!
-//! The rules are data (`parser_rules`, `specs/Rules.antt`), each below its production of the standard. A function's contract is one clause,
-//! `Parses rule result p.old p.new`: it runs the rule, unless memory is refused. A rule `OptionalArguments` does nothing where no
-//! arguments come next, and `RequiredName` reports that a name is missing: the functions are called `arguments` and `name`. A function
-//! `spread_before` runs the rule `Spread` where the next token is known, and `inside_list_type` what is inside a ListType.
-//! `tools/rule_names` compares the names. `apollo_document` chooses among the definitions by the keyword that comes next.
+//! The rules are data (`parser_rules`, `specs/Rules.antt`), each below its production of the standard. A function's
+//! contract is one clause, `Parses rule result p.old p.new`: it runs the rule, unless memory is refused. A rule
+//! `OptionalArguments` does nothing where no arguments come next, and `RequiredName` reports that a name is missing:
+//! the functions are called `arguments` and `name`. A function `spread_before` runs the rule `Spread` where the next
+//! token is known, and `inside_list_type` what is inside a ListType. `tools/rule_names` compares the names.
+//! `apollo_document` chooses among the definitions by the keyword that comes next.
 #![tactic(auto)]
 
 mod grammar;

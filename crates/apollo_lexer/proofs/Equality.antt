@@ -25,14 +25,16 @@ equal-same a b h =
     let n = and_parts _ _ m.1 in
     let t = and_parts _ _ n.1 in
     same-fields a b ((bytes_decides a.message b.message).0 m.0)
-    (same-subject a.subject b.subject (eqb-true _ _ n.0) ((bytes_decides (subject_text a.subject) (subject_text b.subject)).0 t.0))
+    (same-subject a.subject b.subject (eqb-true _ _ n.0)
+    ((bytes_decides (subject_text a.subject) (subject_text b.subject)).0 t.0))
     (eqb-true a.index b.index t.1)
 
 itself : (a : Diagnostic) → same_diagnostic a a ≡ true
 itself a =
     and_from _ _ ((bytes_decides a.message a.message).1 refl)
     (and_from _ _ (eq-eqb (subject_number a.subject) (subject_number a.subject) refl)
-    (and_from _ _ ((bytes_decides (subject_text a.subject) (subject_text a.subject)).1 refl) (eq-eqb a.index a.index refl)))
+    (and_from _ _ ((bytes_decides (subject_text a.subject) (subject_text a.subject)).1 refl)
+    (eq-eqb a.index a.index refl)))
 
 pub same-equal : (a b : Diagnostic) → a ≡ b → same_diagnostic a b ≡ true
 same-equal a b e = subst (λ b. same_diagnostic a b ≡ true) e (itself a)

@@ -13,7 +13,8 @@ error-no-token true text index = refl
 error-no-token false text index = refl
 
 -- an error leaves the tokens as they are
-pub tokens-kept : (tokens : List Answer) (limit : Bool) (text : List ℕ) (index : ℕ) (old rest all : List Answer) → old ≡ error_answer limit text index ∷ rest
+pub tokens-kept : (tokens : List Answer) (limit : Bool) (text : List ℕ) (index : ℕ) (old rest all : List Answer)
+    → old ≡ error_answer limit text index ∷ rest
     → tokens ++ filter is_token old ≡ all → tokens ++ filter is_token rest ≡ all
 tokens-kept tokens limit text index old rest all e h =
     let kept = rw e at h in
@@ -25,7 +26,8 @@ ErrorsBefore all [] rest = all ≡ rest
 ErrorsBefore [] (d ∷ ds) rest = ⊥
 ErrorsBefore (answer ∷ all) (d ∷ ds) rest = IsLexError answer d × ErrorsBefore all ds rest
 
-pub added-error : (all : List Answer) (ds : List Diagnostic) (answer : Answer) (d : Diagnostic) (rest : List Answer) → ErrorsBefore all ds (answer ∷ rest)
+pub added-error : (all : List Answer) (ds : List Diagnostic) (answer : Answer) (d : Diagnostic) (rest : List Answer)
+    → ErrorsBefore all ds (answer ∷ rest)
     → IsLexError answer d
     → ErrorsBefore all (ds ++ d ∷ []) rest
 added-error all [] answer d rest h t = subst (λ l. ErrorsBefore l (d ∷ []) rest) (sym h) (t, refl)
@@ -38,25 +40,31 @@ errors-complete [] (d ∷ ds) h = absurd h
 errors-complete (a ∷ all) (d ∷ ds) h = (h.0, errors-complete all ds h.1)
 
 -- an error more
-pub errors-more : (all : List Answer) (ds : List Diagnostic) (d : Diagnostic) (limit : Bool) (text : List ℕ) (index : ℕ) (old rest : List Answer)
+pub errors-more : (all : List Answer) (ds : List Diagnostic) (d : Diagnostic) (limit : Bool) (text : List ℕ) (index : ℕ)
+    (old rest : List Answer)
     → old ≡ error_answer limit text index ∷ rest → IsLexError (error_answer limit text index) d
-    → ErrorsBefore all ds (filter (λ a. not (is_token a)) old) → ErrorsBefore all (ds ++ d ∷ []) (filter (λ a. not (is_token a)) rest)
+    → ErrorsBefore all ds (filter (λ a. not (is_token a)) old)
+    → ErrorsBefore all (ds ++ d ∷ []) (filter (λ a. not (is_token a)) rest)
 errors-more all ds d limit text index old rest e t h =
     let kept = rw e at h in
-    added-error all ds (error_answer limit text index) d (filter (λ a. not (is_token a)) rest) (rw error-no-token at kept) t
+    added-error all ds (error_answer limit text index) d (filter (λ a. not (is_token a)) rest)
+    (rw error-no-token at kept) t
 
 -- the error that is made from an answer is that answer's
-pub lex-error-made : (limit : Bool) (text : List ℕ) (index : ℕ) (d : Diagnostic) → d.subject ≡ lex_subject limit text → d.index ≡ index
+pub lex-error-made : (limit : Bool) (text : List ℕ) (index : ℕ) (d : Diagnostic)
+    → d.subject ≡ lex_subject limit text → d.index ≡ index
     → IsLexMessage limit text d.message
     → IsLexError (error_answer limit text index) d
 lex-error-made true text index d s i m = λ j. record { message = m j; subject = s j; index = i j }
 lex-error-made false text index d s i m = (s, i, m)
 
 -- the messages
-pub limit-message-is : (limit : Bool) (text message : List ℕ) → limit ≡ true → message ≡ limit_message → IsLexMessage limit text message
+pub limit-message-is : (limit : Bool) (text message : List ℕ) → limit ≡ true → message ≡ limit_message
+    → IsLexMessage limit text message
 limit-message-is true text message is m = m
 limit-message-is false text message is m = absurd (cc)
 
-pub fault-message-is : (limit : Bool) (text message : List ℕ) → limit ≡ false → message ≡ bad_text_message text → IsLexMessage limit text message
+pub fault-message-is : (limit : Bool) (text message : List ℕ) → limit ≡ false → message ≡ bad_text_message text
+    → IsLexMessage limit text message
 fault-message-is true text message is m = absurd (cc)
 fault-message-is false text message is m = m

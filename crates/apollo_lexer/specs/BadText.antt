@@ -1,18 +1,21 @@
--- Which fault the message for bad text names. The standard says nothing of messages: the original's are the measure. Where a bad string has
--- several faults and an end, the last of them is named.
-use Rattle.std.specs.Prelude.{Bool, ℕ, zero, suc, ◌+◌, ◌-◌, ◌==◌, ◌&&◌, ◌||◌, nat_le, nat_lt, if◌then◌else◌, List, [], ◌∷◌, take, drop, Option, Some, None}
+-- Which fault the message for bad text names. The standard says nothing of messages: the original's are the measure.
+-- Where a bad string has several faults and an end, the last of them is named.
+use Rattle.std.specs.Prelude.{Bool, ℕ, zero, suc, ◌+◌, ◌-◌, ◌==◌, ◌&&◌, ◌||◌, nat_le, nat_lt, if◌then◌else◌, List, []}
+use Rattle.std.specs.Prelude.{◌∷◌, take, drop, Option, Some, None}
 use Rattle.std.specs.List.{prefix_len}
 use Rattle.std.specs.Char.Utf16.{is_high_surrogate}
 use Rattle.lexical_grammar.specs.Characters.{is_digit, is_hex_digit, is_line_terminator}
 use Rattle.lexical_grammar.specs.NumberStates.{run, live_len}
-use Rattle.lexical_grammar.specs.Reads.{bad_escape_len, begins_fixed_escape, braced_digits_len, fixed_value, string_character_len}
+use Rattle.lexical_grammar.specs.Reads.{bad_escape_len, begins_fixed_escape, braced_digits_len, fixed_value}
+use Rattle.lexical_grammar.specs.Reads.{string_character_len}
 use Rattle.lexical_grammar.specs.Strings.{begins}
 use Rattle.lexical_grammar.specs.declared.NumberState.TheVariants.{Begin}
 use Rattle.apollo_lexer.specs.Faults.{fault_message, number_fault}
 use Rattle.apollo_lexer.specs.declared.faults.LexFault.{LexFault}
-use Rattle.apollo_lexer.specs.declared.faults.LexFault.TheVariants.{UnexpectedCharacter, UnterminatedSpread, UnfinishedString, UnterminatedString}
-use Rattle.apollo_lexer.specs.declared.faults.LexFault.TheVariants.{LineTerminator, EscapedCharacter, IncompleteEscape, InvalidEscape, UnpairedSurrogate}
-use Rattle.apollo_lexer.specs.declared.faults.LexFault.TheVariants.{NoScalarValue}
+use Rattle.apollo_lexer.specs.declared.faults.LexFault.TheVariants.{UnexpectedCharacter, UnterminatedSpread}
+use Rattle.apollo_lexer.specs.declared.faults.LexFault.TheVariants.{UnfinishedString, UnterminatedString}
+use Rattle.apollo_lexer.specs.declared.faults.LexFault.TheVariants.{LineTerminator, EscapedCharacter, IncompleteEscape}
+use Rattle.apollo_lexer.specs.declared.faults.LexFault.TheVariants.{InvalidEscape, UnpairedSurrogate, NoScalarValue}
 
 -- ---- escapes
 
@@ -20,7 +23,8 @@ use Rattle.apollo_lexer.specs.declared.faults.LexFault.TheVariants.{NoScalarValu
 abbrev pub digits_len : List ℕ → ℕ
 digits_len text = prefix_len is_hex_digit (drop 2 text)
 
--- `\u` without four hex digits is broken off by a quote or by another character; with them it is half of a surrogate pair
+-- `\u` without four hex digits is broken off by a quote or by another character; with them it is half of a surrogate
+-- pair
 abbrev pub fixed_fault : List ℕ → LexFault
 fixed_fault text =
     if nat_le 4 (digits_len text) then UnpairedSurrogate
@@ -34,12 +38,14 @@ braced_fault after =
 
 -- a leading surrogate is blamed on the escape after it, if there is one
 abbrev pub has_second_escape : List ℕ → Bool
-has_second_escape text = (begins_fixed_escape text && is_high_surrogate (fixed_value text)) && begins (92 ∷ 117 ∷ []) (drop 6 text)
+has_second_escape text =
+    (begins_fixed_escape text && is_high_surrogate (fixed_value text)) && begins (92 ∷ 117 ∷ []) (drop 6 text)
 
 abbrev pub escape_fault : List ℕ → LexFault
 escape_fault text =
     if begins (92 ∷ 117 ∷ 123 ∷ []) text then braced_fault (drop (3 + braced_digits_len text) text)
-    else (if begins (92 ∷ 117 ∷ []) text then (if has_second_escape text then fixed_fault (drop 6 text) else fixed_fault text)
+    else (if begins (92 ∷ 117 ∷ []) text then
+    (if has_second_escape text then fixed_fault (drop 6 text) else fixed_fault text)
     else EscapedCharacter)
 
 -- ---- strings
@@ -63,7 +69,8 @@ last_fault last zero (b ∷ bs) =
 -- of the text after an opening quote
 abbrev pub string_fault : List ℕ → LexFault
 string_fault [] = UnfinishedString
-string_fault (b ∷ bs) = if begins (34 ∷ 34 ∷ []) (b ∷ bs) then UnterminatedString else last_fault UnterminatedString 0 (b ∷ bs)
+string_fault (b ∷ bs) =
+    if begins (34 ∷ 34 ∷ []) (b ∷ bs) then UnterminatedString else last_fault UnterminatedString 0 (b ∷ bs)
 
 -- ---- bad text
 

@@ -13,7 +13,9 @@ subject_number of_limit = 2
 
 abbrev pub same_diagnostic : Diagnostic → Diagnostic → Bool
 same_diagnostic = eq_of_both (on (λ d. d.message) (pointwise nat_eq))
-    (eq_of_both (on (λ d. subject_number d.subject) nat_eq) (eq_of_both (on (λ d. subject_text d.subject) (pointwise nat_eq)) (on (λ d. d.index) nat_eq)))
+    (eq_of_both (on (λ d. subject_number d.subject) nat_eq)
+    (eq_of_both (on (λ d. subject_text d.subject) (pointwise nat_eq)) (on (λ d. d.index) nat_eq)))
 
 abbrev pub hashed : Diagnostic → List (List ℕ)
-hashed d = fed.str d.message ++ fed.u8 (subject_number d.subject) ++ fed.str (subject_text d.subject) ++ fed.usize d.index
+hashed d = fed.str d.message ++ fed.u8 (subject_number d.subject)
+    ++ fed.str (subject_text d.subject) ++ fed.usize d.index

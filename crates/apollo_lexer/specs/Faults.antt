@@ -2,11 +2,15 @@
 use Rattle.std.specs.Prelude.{◌≡◌, ℕ, if◌then◌else◌, List, ◌++◌, drop, Option, Some, None, codes}
 use Rattle.lexical_grammar.specs.Characters.{is_digit}
 use Rattle.lexical_grammar.specs.declared.NumberState.{NumberState}
-use Rattle.lexical_grammar.specs.declared.NumberState.TheVariants.{Minus, Zero, Integer, Point, ExponentIndicator, ExponentSign}
+use Rattle.lexical_grammar.specs.declared.NumberState.TheVariants.{Minus, Zero, Integer, Point, ExponentIndicator}
+use Rattle.lexical_grammar.specs.declared.NumberState.TheVariants.{ExponentSign}
 use Rattle.apollo_lexer.specs.declared.faults.LexFault.{LexFault}
-use Rattle.apollo_lexer.specs.declared.faults.LexFault.TheVariants.{UnexpectedCharacter, LeadingZero, NumberSuffix, IntegerSuffix, FractionalDigit, FloatSuffix}
-use Rattle.apollo_lexer.specs.declared.faults.LexFault.TheVariants.{ExponentDigitOrSign, ExponentDigit, UnfinishedFloat, UnterminatedSpread, UnfinishedString}
-use Rattle.apollo_lexer.specs.declared.faults.LexFault.TheVariants.{UnterminatedString, LineTerminator, EscapedCharacter, IncompleteEscape, InvalidEscape}
+use Rattle.apollo_lexer.specs.declared.faults.LexFault.TheVariants.{UnexpectedCharacter, LeadingZero, NumberSuffix}
+use Rattle.apollo_lexer.specs.declared.faults.LexFault.TheVariants.{IntegerSuffix, FractionalDigit, FloatSuffix}
+use Rattle.apollo_lexer.specs.declared.faults.LexFault.TheVariants.{ExponentDigitOrSign, ExponentDigit, UnfinishedFloat}
+use Rattle.apollo_lexer.specs.declared.faults.LexFault.TheVariants.{UnterminatedSpread, UnfinishedString}
+use Rattle.apollo_lexer.specs.declared.faults.LexFault.TheVariants.{UnterminatedString, LineTerminator}
+use Rattle.apollo_lexer.specs.declared.faults.LexFault.TheVariants.{EscapedCharacter, IncompleteEscape, InvalidEscape}
 use Rattle.apollo_lexer.specs.declared.faults.LexFault.TheVariants.{UnpairedSurrogate, NoScalarValue}
 
 -- a number that was read so far, where it ends with the text, or where a byte follows that can't go on with it
@@ -43,7 +47,8 @@ fault_message NumberSuffix text next = codes "Unexpected character `" ++ next ++
 fault_message IntegerSuffix text next = codes "Unexpected character `" ++ next ++ codes "` as integer suffix"
 fault_message FractionalDigit text next = codes "Unexpected character `" ++ next ++ codes "`, expected fractional digit"
 fault_message FloatSuffix text next = codes "Unexpected character `" ++ next ++ codes "` as float suffix"
-fault_message ExponentDigitOrSign text next = codes "Unexpected character `" ++ next ++ codes "`, expected exponent digit or sign"
+fault_message ExponentDigitOrSign text next =
+    codes "Unexpected character `" ++ next ++ codes "`, expected exponent digit or sign"
 fault_message ExponentDigit text next = codes "Unexpected character `" ++ next ++ codes "`, expected exponent digit"
 fault_message fault text next = words fault
 

@@ -20,7 +20,8 @@ IsLexMessage false text message = message ≡ bad_text_message text
 -- the error keeps the answer's text and index, or that the limit is met, and has the message for it
 abbrev pub IsLexError : Answer → Diagnostic → Type 0
 IsLexError (limit_at index) d = d ≡ record { message = limit_message; subject = of_limit; index = index }
-IsLexError (gives item) d = (d.subject ≡ of_text item.text) × (d.index ≡ item.index) × (d.message ≡ bad_text_message item.text)
+IsLexError (gives item) d =
+    (d.subject ≡ of_text item.text) × (d.index ≡ item.index) × (d.message ≡ bad_text_message item.text)
 
 -- the error of each answer, in order
 abbrev pub AreLexErrors : List Answer → List Diagnostic → Type 0

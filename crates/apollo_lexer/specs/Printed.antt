@@ -2,8 +2,10 @@
 use Rattle.std.specs.Prelude.{ℕ, ◌+◌, List, ◌++◌, length, codes, decimal, Option, Some}
 use Rattle.std.specs.Fmt.{◌++?◌, debug_str}
 use Rattle.lexical_grammar.specs.declared.TokenKind.{TokenKind}
-use Rattle.lexical_grammar.specs.declared.TokenKind.TheVariants.{Whitespace, Comment, Bang, Dollar, Amp, Spread, Comma, Colon, Eq, At, LParen, RParen, LBracket}
-use Rattle.lexical_grammar.specs.declared.TokenKind.TheVariants.{RBracket, LCurly, RCurly, Pipe, Eof, Name, StringValue, Int, Float}
+use Rattle.lexical_grammar.specs.declared.TokenKind.TheVariants.{Whitespace, Comment, Bang, Dollar, Amp, Spread, Comma}
+use Rattle.lexical_grammar.specs.declared.TokenKind.TheVariants.{Colon, Eq, At, LParen, RParen, LBracket, RBracket}
+use Rattle.lexical_grammar.specs.declared.TokenKind.TheVariants.{LCurly, RCurly, Pipe, Eof, Name, StringValue, Int}
+use Rattle.lexical_grammar.specs.declared.TokenKind.TheVariants.{Float}
 use Rattle.apollo_lexer.specs.Diagnostics.{Subject, of_text, of_end, of_limit, Diagnostic, diagnostic_end}
 
 -- as `recursion limit: 500, high: 1`
@@ -41,7 +43,8 @@ range_text name start end = name ++ (codes "@" ++ (decimal start ++ (codes ":" +
 -- as `NAME@5:10 "Query"`, and `EOF@3:3` for the end
 abbrev pub token_text : TokenKind → List ℕ → ℕ → Option (List ℕ)
 token_text Eof text index = Some (range_text (token_name Eof) index (index + length text))
-token_text kind text index = Some (range_text (token_name kind) index (index + length text)) ++? (Some (codes " ") ++? debug_str text)
+token_text kind text index =
+    Some (range_text (token_name kind) index (index + length text)) ++? (Some (codes " ") ++? debug_str text)
 
 abbrev pub subject_shown : Subject → List ℕ
 subject_shown (of_text text) = text

@@ -4,7 +4,8 @@ use Rattle.lexical_grammar.specs.Characters.{is_name_start, is_digit, is_white_s
 use Rattle.lexical_grammar.specs.declared.TokenKind.{TokenKind}
 use Rattle.lexical_grammar.specs.Reads.{punctuator}
 use Rattle.apollo_lexer.specs.declared.bytes.Start.{Start}
-use Rattle.apollo_lexer.specs.declared.bytes.Start.TheVariants.{Name, Number, Quote, NumberSign, Dot, Blank, Punctuator, Other}
+use Rattle.apollo_lexer.specs.declared.bytes.Start.TheVariants.{Name, Number, Quote, NumberSign, Dot, Blank, Punctuator}
+use Rattle.apollo_lexer.specs.declared.bytes.Start.TheVariants.{Other}
 
 -- white space or a line terminator: a blank character of one byte
 abbrev pub is_blank_byte : ℕ → Bool

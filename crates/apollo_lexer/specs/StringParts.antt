@@ -8,7 +8,8 @@ use Rattle.apollo_lexer.specs.declared.strings.StringPart.TheVariants.{Open, Las
 abbrev pub IsStringPart : (List ℕ → Option ℕ) → List ℕ → StringPart → Type 0
 IsStringPart read rest Open = read rest ≡ None
 IsStringPart read rest (Last n) = (n ≤ length rest) × (read rest ≡ Some n)
-IsStringPart read rest (Inner n) = (0 < n) × (n ≤ length rest) × (read rest ≡ option_map (λ m. n + m) (read (drop n rest)))
+IsStringPart read rest (Inner n) =
+    (0 < n) × (n ≤ length rest) × (read rest ≡ option_map (λ m. n + m) (read (drop n rest)))
 
 -- a bad string has an end
 abbrev pub read_bad : List ℕ → Option ℕ

@@ -80,7 +80,8 @@ fn len_by_bytes<C: ByteClass>(bytes: &[u8]) -> usize
     bytes.iter().take_while(|byte| C::has(**byte)).count()
 }
 
-/// How many bytes at the front are of the class, where nearly all runs are shorter than sixteen bytes: it looks at sixteen together once.
+/// How many bytes at the front are of the class, where nearly all runs are shorter than sixteen bytes: it looks at
+/// sixteen together once.
 #[inline(always)]
 pub fn short_run_len<C: ByteClass>(bytes: &[u8]) -> usize
     ensures value { result ≡ prefix_len C.class bytes.now }

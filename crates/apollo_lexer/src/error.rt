@@ -4,7 +4,8 @@ ghost use Rattle.std.proofs.Common.{rules};
 ghost use Rattle.std.specs.Cmp.Rules.{comparing, hashing};
 ghost use Rattle.apollo_lexer.specs.Equal.{same_diagnostic, subject_number, hashed};
 ghost use Rattle.apollo_lexer.specs.Printed.{error_text, subject_shown};
-ghost use Rattle.apollo_lexer.specs.Diagnostics.{of_text, of_end, of_limit, subject_text, is_end_subject, is_limit_subject};
+ghost use Rattle.apollo_lexer.specs.Diagnostics.{of_text, of_end, of_limit, subject_text, is_end_subject};
+ghost use Rattle.apollo_lexer.specs.Diagnostics.{is_limit_subject};
 
 use crate::error_data::{ErrorData, MessageText};
 use arrayvec::ArrayString;
@@ -14,8 +15,8 @@ use std::hash::{Hash, Hasher};
 use std::marker::Model;
 use std::mem::size_of;
 
-/// What is wrong, and where: a message, the text of the source that it is about, and the byte where that begins. In place of a text an
-/// error may be about the end of the source, or about a limit that was met.
+/// What is wrong, and where: a message, the text of the source that it is about, and the byte where that begins. In
+/// place of a text an error may be about the end of the source, or about a limit that was met.
 #[derive(Drop)]
 pub struct Error<A: Allocator = Global> {
     data: ErrorData<A>,
@@ -42,7 +43,11 @@ impl<A: Allocator> Error<A> {
     /// An error about a text of the source, at the byte where that begins.
     pub fn with_loc(message: String<A>, text: String<A>, index: usize) -> Self
         requires { index + string_len text < 2 ^ 64 }
-        ensures { result ≡ record { message = string_bytes message; subject = of_text (string_bytes text); index = index } }
+        ensures { result ≡ record {
+          message = string_bytes message;
+          subject = of_text (string_bytes text);
+          index = index;
+        } }
     {
         Error {
             data: ErrorData::Text(message, text),
@@ -137,8 +142,8 @@ impl<A: Allocator> Error<A> {
     }
 }
 
-/// An error about a text of the source, at the byte where that begins. Only a text of more than 24 bytes takes memory, and it fails only
-/// where that is refused.
+/// An error about a text of the source, at the byte where that begins. Only a text of more than 24 bytes takes memory,
+/// and it fails only where that is refused.
 pub fn static_error<A: Allocator>(
     alloc: A,
     message: &'static str,
@@ -157,8 +162,9 @@ pub fn static_error<A: Allocator>(
     Ok(Error { data, index })
 }
 
-/// An error about a text of the source, at the byte where that begins, whose message quotes the text: the words, an opening mark, the text
-/// and a closing mark. Only a message of more than 40 bytes takes memory, and it fails only where that is refused.
+/// An error about a text of the source, at the byte where that begins, whose message quotes the text: the words, an
+/// opening mark, the text and a closing mark. Only a message of more than 40 bytes takes memory, and it fails only
+/// where that is refused.
 pub fn quoting_error<A: Allocator>(
     alloc: A,
     words: &str,
@@ -168,7 +174,12 @@ pub fn quoting_error<A: Allocator>(
     index: usize,
 ) -> Result<Error<A>, AllocError>
     requires { index + length text.now < 2 ^ 64 }
-    ensures value { IfOk result (λ e. e ≡ record { message = words.now ++ opening.now ++ text.now ++ closing.now; subject = of_text text.now; index = index }) }
+    ensures value { IfOk result
+        (λ e. e ≡ record {
+          message = words.now ++ opening.now ++ text.now ++ closing.now;
+          subject = of_text text.now;
+          index = index;
+        }) }
     ensures short { length words.now + length opening.now + length text.now + length closing.now ≤ 40 → IsOk result }
 {
     if let Ok(data) = ErrorData::quoting(words, opening, text, closing) {
@@ -178,7 +189,8 @@ pub fn quoting_error<A: Allocator>(
     Ok(Error { data, index })
 }
 
-// An error about a text of the source, at the byte where that begins, whose message quotes something else between two pieces.
+// An error about a text of the source, at the byte where that begins, whose message quotes something else between two
+// pieces.
 pub(crate) fn quoting_other<A: Allocator + Copy>(
     alloc: A,
     front: &str,
@@ -188,7 +200,8 @@ pub(crate) fn quoting_other<A: Allocator + Copy>(
     index: usize,
 ) -> Result<Error<A>, AllocError>
     requires { index + length text.now < 2 ^ 64 }
-    ensures { IfOk result (λ e. e ≡ record { message = front.now ++ quoted.now ++ end.now; subject = of_text text.now; index = index }) }
+    ensures { IfOk result (λ e. e
+        ≡ record { message = front.now ++ quoted.now ++ end.now; subject = of_text text.now; index = index }) }
 {
     if let Ok(data) = ErrorData::pair(front, quoted, end, text) {
         return Ok(Error { data, index });

@@ -1,7 +1,9 @@
-// What an error says, in little memory: a message of the program is borrowed, and short texts are in the error itself. Longer ones are owned.
+// What an error says, in little memory: a message of the program is borrowed, and short texts are in the error itself.
+// Longer ones are owned.
 ghost use Rattle.std.specs.Prelude.{◌≡◌, ◌+◌, ◌≤◌, ◌++◌, length, IfOk, IsOk};
 ghost use Rattle.apollo_lexer.specs.Diagnostics.{of_text, subject_text};
-ghost use Rattle.apollo_lexer.specs.Subjects.{IsPart, part, words_text, message_of, subject_of, IsQuoting, Quotes, Same};
+ghost use Rattle.apollo_lexer.specs.Subjects.{IsPart, part, words_text, message_of, subject_of, IsQuoting, Quotes};
+ghost use Rattle.apollo_lexer.specs.Subjects.{Same};
 
 use arrayvec::{ArrayString, CapacityError};
 use std::alloc::{AllocError, Allocator};
@@ -72,7 +74,8 @@ impl<A: Allocator> ErrorData<A> {
         closing: &'t str,
     ) -> Result<Self, CapacityError<&'t str>>
         ensures value { IfOk result (Quotes words.now opening.now text.now closing.now) }
-        ensures short { length words.now + length opening.now + length text.now + length closing.now ≤ 40 → IsOk result }
+        ensures short { length words.now + length opening.now + length text.now + length closing.now ≤ 40
+            → IsOk result }
     {
         let mut message = ArrayString::<40>::new();
         message.try_push_str(words)?;

@@ -2,7 +2,8 @@
 ghost use Rattle.std.specs.Prelude.{◌≡◌, ◌≤◌, ◌<◌, ◌&&◌, ◌∷◌, [], IsTrue, length, slice_index, true};
 ghost use Rattle.std.specs.Char.Utf16.{is_high_surrogate};
 ghost use Rattle.lexical_grammar.specs.Strings.{begins};
-ghost use Rattle.lexical_grammar.specs.Reads.{bad_escape_len, bad_fixed_len, bad_trail_len, begins_fixed_escape, breaking_len, fixed_value, string_character_len};
+ghost use Rattle.lexical_grammar.specs.Reads.{bad_escape_len, bad_fixed_len, bad_trail_len, begins_fixed_escape};
+ghost use Rattle.lexical_grammar.specs.Reads.{breaking_len, fixed_value, string_character_len};
 
 use lexical_grammar::{escape, fixed_value, hex_digits_len};
 
@@ -18,7 +19,8 @@ pub fn escape_len(bytes: &[u8]) -> usize
     }
 }
 
-// A character that breaks an escape off belongs to it, unless it is a quote. Its first byte will do: no other byte of it is looked for.
+// A character that breaks an escape off belongs to it, unless it is a quote. Its first byte will do: no other byte of
+// it is looked for.
 fn breaking_len(rest: &[u8]) -> usize
     ensures value { result ≡ breaking_len rest.now }
     ensures within { result ≤ length rest.now }

@@ -2,7 +2,8 @@
 ghost use Rattle.std.specs.Prelude.{◌≡◌, ℕ, ◌+◌, ◌≤◌, ◌<◌, ◌^◌, List, ◌++◌, IfOk, IsTrue, length, take};
 ghost use Rattle.lexical_grammar.specs.NumberStates.{run};
 ghost use Rattle.lexical_grammar.specs.declared.NumberState.TheVariants.{Begin};
-ghost use Rattle.apollo_lexer.specs.BadText.{bad_text_message, braced_fault, escape_fault, fault_behind, first, fixed_fault, has_second_escape, last_fault, string_fault};
+ghost use Rattle.apollo_lexer.specs.BadText.{bad_text_message, braced_fault, escape_fault, fault_behind, first};
+ghost use Rattle.apollo_lexer.specs.BadText.{fixed_fault, has_second_escape, last_fault, string_fault};
 ghost use Rattle.apollo_lexer.specs.Diagnostics.{of_text};
 ghost use Rattle.apollo_lexer.specs.Faults.{words, fault_message, number_fault};
 ghost use Rattle.apollo_lexer.specs.Parts.{IsPart, after_characters, or_last};
@@ -267,7 +268,8 @@ fn wording_of(fault: LexFault) -> Wording
     }
 }
 
-// How the message for bad text is worded, by the text's last fault, and what follows the beginning of a number in the text.
+// How the message for bad text is worded, by the text's last fault, and what follows the beginning of a number in the
+// text.
 fn bad_text_wording(text: &str) -> (Wording, &str)
     ensures { worded result.0 text.now result.1.now ≡ bad_text_message text.now }
 {
@@ -277,7 +279,8 @@ fn bad_text_wording(text: &str) -> (Wording, &str)
     (wording_of(fault(bytes, state, n)), next)
 }
 
-/// The message for bad text, by its last fault, in three parts: words, what they quote of the text, and words after that.
+/// The message for bad text, by its last fault, in three parts: words, what they quote of the text, and words after
+/// that.
 pub fn bad_text_message_parts(text: &str) -> (&'static str, &str, &'static str)
     ensures { result.0.now ++ result.1.now ++ result.2.now ≡ bad_text_message text.now }
 {
@@ -298,7 +301,8 @@ fn worded_error<A: Allocator + Copy>(
     next: &str,
 ) -> Result<Error<A>, AllocError>
     requires { index + length text.now < 2 ^ 64 }
-    ensures { IfOk result (λ e. e ≡ record { message = worded wording text.now next.now; subject = of_text text.now; index = index }) }
+    ensures { IfOk result (λ e. e
+        ≡ record { message = worded wording text.now next.now; subject = of_text text.now; index = index }) }
 {
     match wording {
         Wording::Plain(words) => static_error(alloc, words, text, index),

@@ -16,7 +16,8 @@ pub fn answers_are_items(lexer: &Lexer)
 
 /// Where no more items are there than the limit allows, the texts of the answers, joined, are the source.
 pub fn answers_join(source: &str)
-    ensures { (limit : ℕ) → length (items_from 0 0 source.now) ≤ limit → answers_text (limited limit (items_from 0 0 source.now)) ≡ source.now }
+    ensures { (limit : ℕ) → length (items_from 0 0 source.now) ≤ limit
+        → answers_text (limited limit (items_from 0 0 source.now)) ≡ source.now }
 {}
 
 /// There are as many answers as items, and no more than one above the limit.
@@ -29,8 +30,8 @@ pub fn answers_fit(lexer: &Lexer)
     ensures { length (answers_left lexer.now) < 2 ^ 64 }
 {}
 
-/// Errors are equal exactly where their messages, their indices and what they are about are; a text, the end and a limit are three
-/// different things.
+/// Errors are equal exactly where their messages, their indices and what they are about are; a text, the end and a
+/// limit are three different things.
 pub fn equal_errors_are_same()
     ensures { (a b : Diagnostic) → (same_diagnostic a b ≡ true) ↔ (a ≡ b) }
 {}

@@ -42,7 +42,8 @@ impl<'a> LexError<'a> {
         self.is_limit
     }
 
-    /// The message of its error in three parts: words, what they quote of the text, and words after that. It takes no memory.
+    /// The message of its error in three parts: words, what they quote of the text, and words after that. It takes no
+    /// memory.
     pub fn message_parts(&self) -> (&'static str, &'a str, &'static str)
         ensures { IsLexMessage self.now.is_limit self.now.text.now (result.0.now ++ result.1.now ++ result.2.now) }
     {

@@ -10,9 +10,10 @@ use crate::token::Token;
 use lexical_grammar::TokenKind;
 use std::alloc::{AllocError, Allocator};
 
-/// Cuts a text into its items: tokens, bad text, and the end (GraphQL October 2021, section 2.1, "Source Text"). It is an iterator of
-/// them that takes no memory. Where more items are there than the token limit allows, it gives an error in place of the next one. After
-/// the end or that error it gives nothing more. A copy gives the items that its original gives.
+/// Cuts a text into its items: tokens, bad text, and the end (GraphQL October 2021, section 2.1, "Source Text"). It is
+/// an iterator of them that takes no memory. Where more items are there than the token limit allows, it gives an error
+/// in place of the next one. After the end or that error it gives nothing more. A copy gives the items that its
+/// original gives.
 #[derive(Clone, Copy)]
 pub struct Lexer<'a> {
     rest: &'a str,
@@ -49,8 +50,9 @@ impl<'a> Lexer<'a> {
         }
     }
 
-    /// Sets the token limit: the number of items, bad text and the end among them, that are given from here on. It counts from the next
-    /// item on, whatever the limit was before. After the end, and after a limit error, nothing more is given.
+    /// Sets the token limit: the number of items, bad text and the end among them, that are given from here on. It
+    /// counts from the next item on, whatever the limit was before. After the end, and after a limit error, nothing
+    /// more is given.
     #[tactic(auto, unfolding(crate::specs::Answers::answers_left, crate::specs::Answers::items_left))]
     pub fn with_limit(self, limit: usize) -> Self
         ensures answers { answers_left result ≡ limited limit (items_left self.entry) }
@@ -93,8 +95,10 @@ impl<'a> Lexer<'a> {
         self,
         alloc: A,
     ) -> Result<(Vec<Token<'a>, A>, Vec<Error<A>, A>), AllocError>
-        ensures tokens { IfOk result (λ lists. map (λ token. answer_of (Ok token)) lists.0.items ≡ filter is_token (answers_left self.entry)) }
-        ensures errors { IfOk result (λ lists. AreLexErrors (filter (λ answer. not (is_token answer)) (answers_left self.entry)) lists.1.items) }
+        ensures tokens { IfOk result
+            (λ lists. map (λ token. answer_of (Ok token)) lists.0.items ≡ filter is_token (answers_left self.entry)) }
+        ensures errors { IfOk result
+            (λ lists. AreLexErrors (filter (λ answer. not (is_token answer)) (answers_left self.entry)) lists.1.items) }
     {
         let mut tokens = Vec::new(alloc);
         let mut errors = Vec::new(alloc);
@@ -110,7 +114,14 @@ impl<'a> Lexer<'a> {
 
 impl<'a> Lexer<'a> {
     ghost use Rattle.std.specs.Iterator.{YieldsFirstBy};
-    ghost use Rattle.apollo_lexer.specs.Answers.{answers_left, answer_of, items_left, items_after, final_high, cut_count};
+    ghost use Rattle.apollo_lexer.specs.Answers.{
+      answers_left,
+      answer_of,
+      items_left,
+      items_after,
+      final_high,
+      cut_count,
+    };
 
     // Where the next item begins, or at the last byte where that is the end of a text with some.
     #[cold]

@@ -1,5 +1,6 @@
 // Which item is at the front of a text, and how far it goes.
-ghost use Rattle.std.specs.Prelude.{◌≡◌, ◌+◌, ◌≤◌, ◌<◌, ◌==◌, ◌||◌, [], ◌∷◌, if◌then◌else◌, length, take, drop, Some, None};
+ghost use Rattle.std.specs.Prelude.{◌≡◌, ◌+◌, ◌≤◌, ◌<◌, ◌==◌, ◌||◌, [], ◌∷◌, if◌then◌else◌, length, take, drop, Some};
+ghost use Rattle.std.specs.Prelude.{None};
 ghost use Rattle.std.specs.List.{prefix_len};
 ghost use Rattle.lexical_grammar.specs.Characters.{is_comment_character, is_digit};
 ghost use Rattle.lexical_grammar.specs.declared.TokenKind.TheVariants as token;
@@ -59,7 +60,8 @@ fn blank_len(bytes: &[u8]) -> usize
     }
 }
 
-// The bytes of the blank characters at the front. Most blanks are followed by none, and few runs have a byte order mark in them.
+// The bytes of the blank characters at the front. Most blanks are followed by none, and few runs have a byte order mark
+// in them.
 #[inline(always)]
 fn blanks_len(bytes: &[u8]) -> usize
     ensures value { result ≡ blanks_len 0 bytes.now }

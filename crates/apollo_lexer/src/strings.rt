@@ -1,9 +1,10 @@
 // How far strings go: from one quote or backslash to the next, and in a quoted string no farther than its line.
 //
-// A search ends within the text that it is found to belong to, or at the end of the whole text, which is then bad text to its end. None is
-// repeated from an offset that was passed, but for one: where a quoted string turns out to be bad, its end is searched for from its opening
-// quote again, and that end is no nearer than the last byte looked at. So no byte is looked at more than a fixed number of times, also in a
-// text of nothing but quotes, of bad strings or of backslashes.
+// A search ends within the text that it is found to belong to, or at the end of the whole text, which is then bad text
+// to its end. None is repeated from an offset that was passed, but for one: where a quoted string turns out to be bad,
+// its end is searched for from its opening quote again, and that end is no nearer than the last byte looked at. So no
+// byte is looked at more than a fixed number of times, also in a text of nothing but quotes, of bad strings or of
+// backslashes.
 ghost use Rattle.std.specs.Prelude.{◌≡◌, ◌<◌, ◌≤◌, IfSome, Some, length};
 ghost use Rattle.lexical_grammar.specs.Reads.{block_len, quoted_len, string_at};
 ghost use Rattle.apollo_lexer.specs.StringParts.{IsStringPart, read_bad};
@@ -111,7 +112,8 @@ fn bad_piece(rest: &[u8]) -> StringPart
     }
 }
 
-/// How far a bad string goes after its opening quote, in bytes: to the next quote that no backslash takes along, or to the end of the text.
+/// How far a bad string goes after its opening quote, in bytes: to the next quote that no backslash takes along, or to
+/// the end of the text.
 pub fn bad_string_len(bytes: &[u8]) -> usize
     ensures value { Some result ≡ read_bad bytes.now }
     ensures within { result ≤ length bytes.now }

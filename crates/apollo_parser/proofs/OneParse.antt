@@ -42,7 +42,8 @@ one-list [] (d ∷ ds) es h k = absurd h
 one-list [] [] (e ∷ es) h k = absurd k
 one-list (r ∷ rs) [] es h k = absurd h
 one-list (r ∷ rs) (d ∷ ds) [] h k = absurd k
-one-list (r ∷ rs) (d ∷ ds) (e ∷ es) h k = ap₂ (λ (x : Diagnostic) (xs : List Diagnostic). x ∷ xs) (one-error r d e h.0 k.0) (one-list rs ds es h.1 k.1)
+one-list (r ∷ rs) (d ∷ ds) (e ∷ es) h k =
+    ap₂ (λ (x : Diagnostic) (xs : List Diagnostic). x ∷ xs) (one-error r d e h.0 k.0) (one-list rs ds es h.1 k.1)
 
 -- ---- a text has one parse
 
@@ -53,7 +54,9 @@ one-parse {k = k} a b p q =
     let errors : a.errors ≡ b.errors = one-list q.last.errors a.errors b.errors
     (subst (λ (s : State). AllZip IsErrorOf s.errors a.errors) last p.errors) q.errors in
     let recursion : a.recursion_limit ≡ b.recursion_limit =
-    p.recursion_limit ∙ ap (λ (s : State). record { current = s.depth; high = s.high; limit = s.limit }) last ∙ sym q.recursion_limit in
-    let tokens : a.token_limit ≡ b.token_limit = p.token_limit ∙ ap (λ (s : State). record { current = 0; high = s.asked; limit = k }) last
+    p.recursion_limit ∙ ap (λ (s : State). record { current = s.depth; high = s.high; limit = s.limit }) last
+    ∙ sym q.recursion_limit in
+    let tokens : a.token_limit ≡ b.token_limit =
+    p.token_limit ∙ ap (λ (s : State). record { current = 0; high = s.asked; limit = k }) last
     ∙ sym q.token_limit in
     λ i. record { tree = tree i; errors = errors i; recursion_limit = recursion i; token_limit = tokens i }

@@ -11,8 +11,9 @@ use Rattle.parser_rules.proofs.recovery.RowSymbols.{document-rowed}
 use Rattle.parser_rules.proofs.recovery.LeftOver.{all-rowed, left-over as run-left-over}
 use Rattle.parser_rules.proofs.recovery.LaterChildren.{goes-on as run-goes-on}
 use Rattle.parser_rules.proofs.recovery.IgnoredPlaces.{placed as run-placed}
-use Rattle.std.proofs.Common.{inl, inr, ◌≡◌, ◌≢◌, ℕ, Bool, ◌+◌, ◌^◌, ◌*◌, ◌<◌, ◌≤◌, append-nil, arith, min, true, false, List, [], length, map, take, drop}
-use Rattle.std.proofs.Common.{◌++◌, Option, Some, None, refl, sym, ap, ◌∙◌, subst, ◌∷◌}
+use Rattle.std.proofs.Common.{inl, inr, ◌≡◌, ◌≢◌, ℕ, Bool, ◌+◌, ◌^◌, ◌*◌, ◌<◌, ◌≤◌, append-nil, arith, min, true, false}
+use Rattle.std.proofs.Common.{List, [], length, map, take, drop, ◌++◌, Option, Some, None, refl, sym, ap, ◌∙◌, subst}
+use Rattle.std.proofs.Common.{◌∷◌}
 use Rattle.std.specs.List.Sorted.{IsNonDecreasing}
 use Rattle.lexical_grammar.specs.Cut.{Cut, texts, Item}
 use Rattle.lexical_grammar.specs.Reads.{items_of}
@@ -34,11 +35,11 @@ use Rattle.grammar_machine.proofs.SentenceTheorems.{one-derivation}
 use Rattle.apollo_lexer.proofs.Law.{limited-length, few-from}
 use Rattle.apollo_parser.specs.ByRules.{ByRules}
 use Rattle.apollo_parser.specs.Promise.{Promise}
-use Rattle.apollo_parser.specs.Parsed.{Parsed, ErrorsOf, IsRecursionLimit, IsLimitWorded, IsTokenLimit, OfFirst, HasError, IsAbout, Recovers, root_children}
-use Rattle.apollo_parser.specs.Parsed.{IsLimit}
+use Rattle.apollo_parser.specs.Parsed.{Parsed, ErrorsOf, IsRecursionLimit, IsLimitWorded, IsTokenLimit, OfFirst}
+use Rattle.apollo_parser.specs.Parsed.{HasError, IsAbout, Recovers, root_children, IsLimit}
 use Rattle.apollo_lexer.specs.Diagnostics.{Diagnostic, of_text, of_limit}
-use Rattle.apollo_parser.proofs.Errors.{same-indices, same-length, no-reports, no-errors, any-recursion, ascii-messages, limited-ascii, limit-worded, any-limit}
-use Rattle.apollo_parser.proofs.Errors.{any-said, fault-text, errors-along}
+use Rattle.apollo_parser.proofs.Errors.{same-indices, same-length, no-reports, no-errors, any-recursion, ascii-messages}
+use Rattle.apollo_parser.proofs.Errors.{limited-ascii, limit-worded, any-limit, any-said, fault-text, errors-along}
 use Rattle.apollo_parser.proofs.FirstOnes as first
 use Rattle.apollo_parser.proofs.Roots.{finished-node}
 use Rattle.parser_rules.specs.State.{State, Lexeme, Report, fault_report, is_over, begun, finished, add_all}
@@ -72,10 +73,12 @@ answers max_items source = limited max_items (items_of source)
 module _ (max_items max_depth : ℕ) (source : List ℕ) (s : State) (cut : Cut source (items_of source))
     (run : Runs (Call Document) (begun (answers max_items source) max_depth kind.DOCUMENT) s) where
   pub run-leaves : OneLeafAnItem (answers max_items source) (leaves (finished s))
-  run-leaves = document-leaves (answers max_items source) max_depth (limited-answers max_items source (items_of source) cut) run
+  run-leaves = document-leaves (answers max_items source) max_depth
+      (limited-answers max_items source (items_of source) cut) run
 
   pub run-text : text (finished s) ≡ texts (take max_items (items_of source))
-  run-text = leaves-text (finished s) run-leaves (limited-answers max_items source (items_of source) cut) ∙ limited-text max_items (items_of source)
+  run-text = leaves-text (finished s) run-leaves (limited-answers max_items source (items_of source) cut)
+      ∙ limited-text max_items (items_of source)
 
   -- the source begins with the tree's text
   pub run-begins : take (length (text (finished s))) source ≡ text (finished s)
@@ -83,34 +86,41 @@ module _ (max_items max_depth : ℕ) (source : List ℕ) (s : State) (cut : Cut 
       let items = items_of source in
       let front = texts (take max_items items) in
       let back = texts (drop max_items items) in
-      let joined : front ++ back ≡ source = sym (texts-append (take max_items items) (drop max_items items)) ∙ ap texts (take-append-drop max_items items)
+      let joined : front ++ back ≡ source =
+      sym (texts-append (take max_items items) (drop max_items items)) ∙ ap texts (take-append-drop max_items items)
       ∙ cut.joined in
-      ap (λ t. take (length t) source) run-text ∙ ap (take (length front)) (sym joined) ∙ take-append_seam front back ∙ sym run-text
+      ap (λ t. take (length t) source) run-text ∙ ap (take (length front)) (sym joined)
+      ∙ take-append_seam front back ∙ sym run-text
 
   pub run-read : s.items ≡ []
-  run-read = document-read (answers max_items source) max_depth (limited-answers max_items source (items_of source) cut) run
+  run-read = document-read (answers max_items source) max_depth
+      (limited-answers max_items source (items_of source) cut) run
 
 over-tokens : (o : Option Lexeme) → is_over o ≡ true → current_tokens o ≡ []
 over-tokens None h = refl
 over-tokens (Some x) h = ap (λ each. kind_tokens each x.text) (end-kind x.kind h)
 
 -- where no limit is reported, all items are read
-all-given-by : {taken : Bool} {xs : List Answer} {rs : List Report} → Reported taken xs rs → (Limited rs → ⊥) → list_all is_given xs ≡ true
+all-given-by : {taken : Bool} {xs : List Answer} {rs : List Report} → Reported taken xs rs → (Limited rs → ⊥)
+    → list_all is_given xs ≡ true
 all-given-by no_more n = refl
 all-given-by (bad_text {reports = rs} i h) n = all-given-by h (λ l. n (limited-later (_ ∷ []) rs l))
 all-given-by (token_limit {reports = rs} h) n = absurd (n (_, refl, record { before = []; after = rs; split = refl }))
 all-given-by (fault m {reports = rs} i j h) n = all-given-by h (λ l. n (limited-later (_ ∷ []) rs l))
-all-given-by (recursion_limit {reports = rs} i j h) n = absurd (n (_, refl, record { before = []; after = rs; split = refl }))
+all-given-by (recursion_limit {reports = rs} i j h) n =
+    absurd (n (_, refl, record { before = []; after = rs; split = refl }))
 all-given-by (passed i h) n = all-given-by h n
 
 -- So there are fewer answers than a `usize` counts.
-pub few-answers : (max_items : ℕ) (source : List ℕ) → length source < 2 ^ 63 → length (answers max_items source) + 1 < usize_max
+pub few-answers : (max_items : ℕ) (source : List ℕ) → length source < 2 ^ 63
+    → length (answers max_items source) + 1 < usize_max
 few-answers max_items source short =
     let l = limited-length max_items (items_of source) in
     let f = few-from 0 0 source in
     omega (arith, l, f, short)
 
-pub below-cap : (max_depth high : ℕ) {n : ℕ} → min (max_depth + 1) usize_max ≤ high → high ≤ n → n < usize_max → max_depth + 1 ≤ high
+pub below-cap : (max_depth high : ℕ) {n : ℕ} → min (max_depth + 1) usize_max ≤ high → high ≤ n → n < usize_max
+    → max_depth + 1 ≤ high
 below-cap max_depth high a b c = omega (arith, a, b, c)
 
 -- ---- a parse
@@ -163,11 +173,13 @@ module _ {source : List ℕ} {max_depth max_items : ℕ} {t : Parsed} (p : ByRul
 
   -- ---- its limits
 
-  pub recursion : (t.recursion_limit.current ≡ 0) × (t.recursion_limit.limit ≡ max_depth) × (t.recursion_limit.high ≤ max_depth + 1)
+  pub recursion : (t.recursion_limit.current ≡ 0) × (t.recursion_limit.limit ≡ max_depth)
+      × (t.recursion_limit.high ≤ max_depth + 1)
   recursion = rw p.recursion_limit (begun-nesting xs max_depth kind.DOCUMENT p.run)
 
   pub nesting : nest (tree_of t.tree) ≤ t.recursion_limit.high
-  nesting = let c = rw p.tree at p.counted in rw (p.tree, p.recursion_limit) (run-nesting xs max_depth s p.run (omega (arith, c)))
+  nesting = let c = rw p.tree at p.counted in
+      rw (p.tree, p.recursion_limit) (run-nesting xs max_depth s p.run (omega (arith, c)))
 
   pub tokens : (t.token_limit.limit ≡ max_items) × (t.token_limit.high ≡ min (length items) (max_items + 1))
   tokens = rw p.token_limit (refl, begun-asked xs max_depth kind.DOCUMENT p.run ∙ limited-length max_items items)
@@ -176,7 +188,8 @@ module _ {source : List ℕ} {max_depth max_items : ℕ} {t : Parsed} (p : ByRul
   pub limit_met : Any IsRecursionLimit t.errors → max_depth + 1 ≤ t.recursion_limit.high
   limit_met h =
       let past = asked-past xs max_depth kind.DOCUMENT p.run (any-recursion s.errors t.errors p.errors h) in
-      rw p.recursion_limit (below-cap max_depth s.high past (levels-within xs max_depth s p.run) (let f = few-answers max_items source p.short in
+      rw p.recursion_limit (below-cap max_depth s.high past (levels-within xs max_depth s p.run)
+      (let f = few-answers max_items source p.short in
       omega (arith, f)))
 
   pub past_limit : max_depth < t.recursion_limit.high → Any IsLimit t.errors
@@ -191,7 +204,8 @@ module _ {source : List ℕ} {max_depth max_items : ℕ} {t : Parsed} (p : ByRul
   all-sized = document-sized max_items items max_depth s p.run
 
   pub elements : length (order t.tree) ≤ 5 * min (length items) max_items + 1
-  elements = rw p.tree (let e = length-order 0 0 None (finished s) in let f = finished-count s in let b = all-sized.elements in omega (arith, e, f, b))
+  elements = rw p.tree (let e = length-order 0 0 None (finished s) in let f = finished-count s in
+      let b = all-sized.elements in omega (arith, e, f, b))
 
   pub error_count : length t.errors ≤ 3 * min (length items) max_items + 1
   error_count = let e = same-length s.errors t.errors p.errors in let b = all-sized.reports in omega (arith, e, b)
@@ -212,13 +226,17 @@ module _ {source : List ℕ} {max_depth max_items : ℕ} {t : Parsed} (p : ByRul
 
   -- ---- no errors, and acceptance
 
-  pub sound : t.errors ≡ [] → Sentence source (bare (tree_of t.tree)) document × Within source (bare (tree_of t.tree)) max_depth max_items
-  sound nil = let c = run-sound max_depth max_items source items s no-end (λ tokens. p.cut) root (silent nil) p.run in rw p.tree (c.sentence, c.within)
+  pub sound : t.errors ≡ []
+      → Sentence source (bare (tree_of t.tree)) document × Within source (bare (tree_of t.tree)) max_depth max_items
+  sound nil = let c = run-sound max_depth max_items source items s no-end (λ tokens. p.cut) root (silent nil) p.run in
+      rw p.tree (c.sentence, c.within)
 
   pub accepts : (u : Tree) → Sentence source u document → Within source u max_depth max_items → t.errors ≡ []
-  accepts u h n = no-errors s.errors t.errors p.errors (accepts-text max_depth max_items source items s p.cut root p.run u h n)
+  accepts u h n = no-errors s.errors t.errors p.errors
+      (accepts-text max_depth max_items source items s p.cut root p.run u h n)
 
-  pub only_derivation : t.errors ≡ [] → OnlyDerivation items (bare (tree_of t.tree)) × (t.recursion_limit.high ≡ nest (bare (tree_of t.tree)))
+  pub only_derivation : t.errors ≡ []
+      → OnlyDerivation items (bare (tree_of t.tree)) × (t.recursion_limit.high ≡ nest (bare (tree_of t.tree)))
   only_derivation nil =
       let h = (sound nil).0 in
       let same : h.items ≡ items = one-cut source h.items items h.cut p.cut h.tokens in
@@ -228,7 +246,8 @@ module _ {source : List ℕ} {max_depth max_items : ℕ} {t : Parsed} (p : ByRul
       )
 
   -- A sentence's derivation is the tree.
-  pub still_a_sentence : (u : Tree) → FirstSentence source u document → Within source u max_depth max_items → (t.errors ≡ []) × (bare (tree_of t.tree) ≡ u)
+  pub still_a_sentence : (u : Tree) → FirstSentence source u document → Within source u max_depth max_items
+      → (t.errors ≡ []) × (bare (tree_of t.tree) ≡ u)
   still_a_sentence u h n = let i = first-sentence source u document h in
       (accepts u i n, rw p.tree (accepts-tree max_depth max_items source items s p.cut root p.run u i n))
 
@@ -237,8 +256,10 @@ module _ {source : List ℕ} {max_depth max_items : ℕ} {t : Parsed} (p : ByRul
 
   -- ---- the first error
 
-  right : (e : Report) (more : List Report) → s.errors ≡ e ∷ more → RightFirst document source items max_depth max_items t.tree e
-  right e more h = rw p.tree (first-report-right max_depth max_items source items s p.cut root p.run p.characters e more h)
+  right : (e : Report) (more : List Report) → s.errors ≡ e ∷ more
+      → RightFirst document source items max_depth max_items t.tree e
+  right e more h = rw p.tree
+      (first-report-right max_depth max_items source items s p.cut root p.run p.characters e more h)
 
   all-leaves : OneLeafAnItem xs (leaves t.tree ++ [])
   all-leaves = subst (OneLeafAnItem xs) (sym (append-nil (leaves t.tree))) one_leaf
@@ -253,7 +274,8 @@ module _ {source : List ℕ} {max_depth max_items : ℕ} {t : Parsed} (p : ByRul
   not_early_limit = first.not_early_limit document max_depth max_items t.tree p.cut s.errors t.errors p.errors right
 
   pub ended_nodes_fit : OfFirst (λ e. EndedNodesFit items e.index (tree_of t.tree)) t.errors
-  ended_nodes_fit = first.ended_nodes_fit document max_depth max_items t.tree p.cut s.errors t.errors p.errors right [] all-leaves
+  ended_nodes_fit = first.ended_nodes_fit document max_depth max_items t.tree p.cut s.errors t.errors p.errors right
+      [] all-leaves
 
   -- ---- after errors
 
@@ -267,17 +289,22 @@ module _ {source : List ℕ} {max_depth max_items : ℕ} {t : Parsed} (p : ByRul
 
     -- each token that was left over has its error, and is where one may be
     left-over : LeftOver (HasError t.errors) items 0 (children_of (tree_of t.tree))
-    left-over = rw one-tree (run-left-over source max_items items s p.cut (HasError t.errors) has (document-recovers max_depth xs s no-end p.run none-met))
+    left-over = rw one-tree
+        (run-left-over source max_items items s p.cut (HasError t.errors) has
+        (document-recovers max_depth xs s no-end p.run none-met))
       where
-        has : (m : Message) (x : Lexeme) → is_end x.kind ≡ false → Has s.errors (fault_report m x) → HasError t.errors x.index x.text
+        has : (m : Message) (x : Lexeme) → is_end x.kind ≡ false → Has s.errors (fault_report m x)
+            → HasError t.errors x.index x.text
         has m x some h = any-said (IsAbout (of_text x.text) x.index) s.errors t.errors (fault_report m x) h
             (λ d z. record { subject = fault-text m x d some z; index = z.index }) p.errors
 
-    -- where what follows a child of the root is a document of its own, the later children are its derivation's, and no error is beyond its first token
+    -- where what follows a child of the root is a document of its own, the later children are its derivation's, and no
+    -- error is beyond its first token
     goes-on : GoesOn max_depth items (map (λ e. e.index) t.errors) (root_children t.tree)
     goes-on front later a u same whole spells nests =
         let count : length items ≤ max_items = given-within max_items items (all-given-by in-answers none-met) in
-        let taken : s.accepts ≡ true = elim (taken-or-limited xs max_depth kind.DOCUMENT s (along reports-along p.run)) [
+        let taken : s.accepts ≡ true =
+        elim (taken-or-limited xs max_depth kind.DOCUMENT s (along reports-along p.run)) [
           | inl y ↦ y
           | inr l ↦
               absurd (none-met l)
@@ -292,7 +319,8 @@ module _ {source : List ℕ} {max_depth max_items : ℕ} {t : Parsed} (p : ByRul
 
 -- ---- all of it
 
-pub promise : {source : List ℕ} {max_depth max_items : ℕ} {t : Parsed} → ByRules source max_depth max_items t → Promise source max_depth max_items t
+pub promise : {source : List ℕ} {max_depth max_items : ℕ} {t : Parsed} → ByRules source max_depth max_items t
+    → Promise source max_depth max_items t
 promise p = record {
   cut = p.cut;
   sound = sound p;

@@ -23,9 +23,11 @@ use Rattle.apollo_parser.proofs.Allowances.{none}
 
 module _ (j : SyntaxKind) {q : Rule} (k r : ℕ) (source : List ℕ) {last end : State}
     (run : Runs q (started (answers k source) r j) (none last)) (left : end ≡ left_out last) where
-  pub source-begins : RootRule j q → Cut source (items_of source) → take (length (text (finished end))) source ≡ text (finished end)
+  pub source-begins : RootRule j q → Cut source (items_of source)
+      → take (length (text (finished end))) source ≡ text (finished end)
   source-begins passes cut =
-      subst (λ (s : State). take (length (text (finished s))) source ≡ text (finished s)) (sym left) (root-begins j k r source (none last) run passes cut)
+      subst (λ (s : State). take (length (text (finished s))) source ≡ text (finished s)) (sym left)
+      (root-begins j k r source (none last) run passes cut)
 
   pub open-root : is_free j ≡ true → IsRoot end.tree
   open-root free = subst (λ (s : State). IsRoot s.tree) (sym left) (is-root (answers k source) r j run free)
@@ -48,6 +50,11 @@ module _ (j : SyntaxKind) {q : Rule} (k r : ℕ) (source : List ℕ) {last end :
     tree = tree ∙ ap finished left;
     counted = counted;
     errors = subst (λ (s : State). AllZip IsErrorOf s.errors t.errors) left errors;
-    recursion_limit = recursion_limit ∙ ap (λ (s : State). record { current = s.depth; high = s.high; limit = s.limit }) left;
-    token_limit = (token_limit.0, token_limit.1, subst (λ (n : ℕ). t.token_limit.high ≤ n) (ap (λ (s : State). s.asked) left) token_limit.2);
+    recursion_limit = recursion_limit
+        ∙ ap (λ (s : State). record { current = s.depth; high = s.high; limit = s.limit }) left;
+    token_limit = (
+      token_limit.0,
+      token_limit.1,
+      subst (λ (n : ℕ). t.token_limit.high ≤ n) (ap (λ (s : State). s.asked) left) token_limit.2,
+    );
   }

@@ -1,6 +1,7 @@
--- What follows from a run of a root's rule over the items of a text, and so what the parse of a part of a document promises.
-use Rattle.std.proofs.Common.{◌≡◌, ◌≢◌, ℕ, ◌+◌, ◌*◌, ◌^◌, ◌<◌, ◌≤◌, arith, min, None, List, [], ◌∷◌, ◌++◌, length, map, take, drop, refl, sym, ap, ◌∙◌, subst}
-use Rattle.std.proofs.Common.{append_assoc, append-nil}
+-- What follows from a run of a root's rule over the items of a text, and so what the parse of a part of a document
+-- promises.
+use Rattle.std.proofs.Common.{◌≡◌, ◌≢◌, ℕ, ◌+◌, ◌*◌, ◌^◌, ◌<◌, ◌≤◌, arith, min, None, List, [], ◌∷◌, ◌++◌, length, map}
+use Rattle.std.proofs.Common.{take, drop, refl, sym, ap, ◌∙◌, subst, append_assoc, append-nil}
 use Rattle.std.specs.Str.{IsAscii, IsUtf8}
 use Rattle.std.specs.List.{Any, All}
 use Rattle.std.specs.List.Sorted.{IsNonDecreasing}
@@ -50,15 +51,17 @@ use Rattle.apollo_parser.specs.ByRules.{ByRootRule}
 use Rattle.apollo_parser.specs.Promise.{PartPromise}
 use Rattle.apollo_parser.specs.Parsed.{Parsed, IsLimit, IsTokenLimit, IsRecursionLimit, IsLimitWorded, OfFirst}
 use Rattle.apollo_parser.specs.Parts.{FirstItems}
-use Rattle.apollo_parser.proofs.Errors.{AllTexts, no-reports, no-errors, same-indices, same-length, any-recursion, ascii-messages, limited-ascii, limit-worded}
-use Rattle.apollo_parser.proofs.Errors.{any-limit, errors-along}
+use Rattle.apollo_parser.proofs.Errors.{AllTexts, no-reports, no-errors, same-indices, same-length, any-recursion}
+use Rattle.apollo_parser.proofs.Errors.{ascii-messages, limited-ascii, limit-worded, any-limit, errors-along}
 use Rattle.apollo_parser.proofs.FirstOnes as first
 use Rattle.apollo_parser.proofs.Roots.{finished-node}
 use Rattle.apollo_parser.proofs.Parses.{answers, below-cap, few-answers}
 
 text-append : (xs ys : List Answer) → answers_text (xs ++ ys) ≡ answers_text xs ++ answers_text ys
 text-append [] ys = refl
-text-append (x ∷ xs) ys = ap (λ (t : List ℕ). answer_text x ++ t) (text-append xs ys) ∙ sym (append_assoc (answer_text x) (answers_text xs) (answers_text ys))
+text-append (x ∷ xs) ys =
+    ap (λ (t : List ℕ). answer_text x ++ t) (text-append xs ys)
+    ∙ sym (append_assoc (answer_text x) (answers_text xs) (answers_text ys))
 
 texts-front : (P : List ℕ → Type 0) (xs ys : List Answer) → AllTexts P (xs ++ ys) → AllTexts P xs
 texts-front P [] ys h = tt
@@ -78,34 +81,44 @@ module _ {q : Rule} (j : SyntaxKind) (max_items max_depth : ℕ) (source : List 
     leaves-are = ap leaves root-is ∙ append-nil (leaves s.tree.here)
 
     -- the source begins with the tree's text
-    pub root-begins : Cut source (items_of source) → take (length (text (finished (left_out s)))) source ≡ text (finished (left_out s))
+    pub root-begins : Cut source (items_of source)
+        → take (length (text (finished (left_out s)))) source ≡ text (finished (left_out s))
     root-begins cut =
         let items = items_of source in
         let front = answers_text first-leaves.front in
         let rest = answers_text first-leaves.back ++ texts (drop max_items items) in
-        let is : text (finished (left_out s)) ≡ front = text-leaves (finished (left_out s)) ∙ ap joined leaves-are ∙ first-leaves.text in
+        let is : text (finished (left_out s)) ≡ front =
+        text-leaves (finished (left_out s)) ∙ ap joined leaves-are ∙ first-leaves.text in
         let taken : front ++ answers_text first-leaves.back ≡ texts (take max_items items) =
-        sym (text-append first-leaves.front first-leaves.back) ∙ ap answers_text (sym first-leaves.split) ∙ limited-text max_items items in
+        sym (text-append first-leaves.front first-leaves.back) ∙ ap answers_text (sym first-leaves.split)
+        ∙ limited-text max_items items in
         let whole : texts (take max_items items) ++ texts (drop max_items items) ≡ source =
-        sym (texts-append (take max_items items) (drop max_items items)) ∙ ap texts (take-append-drop max_items items) ∙ cut.joined in
-        let joins : front ++ rest ≡ source = sym (append_assoc front (answers_text first-leaves.back) (texts (drop max_items items)))
+        sym (texts-append (take max_items items) (drop max_items items))
+        ∙ ap texts (take-append-drop max_items items) ∙ cut.joined in
+        let joins : front ++ rest ≡ source =
+        sym (append_assoc front (answers_text first-leaves.back) (texts (drop max_items items)))
         ∙ ap (λ (t : List ℕ). t ++ texts (drop max_items items)) taken ∙ whole in
-        ap (λ (t : List ℕ). take (length t) source) is ∙ ap (take (length front)) (sym joins) ∙ take-append_seam front rest ∙ sym is
+        ap (λ (t : List ℕ). take (length t) source) is ∙ ap (take (length front)) (sym joins)
+        ∙ take-append_seam front rest ∙ sym is
 
     pub root-nested : count (finished (left_out s)) < 2 ^ 64 → nest (tree_of (finished (left_out s))) ≤ s.high
     root-nested c =
         let n = ap count root-is in
-        subst (λ f. nest (tree_of f) ≤ s.high) (sym root-is) (root-nesting (answers max_items source) max_depth j s passes.heavy passes.levels run
+        subst (λ f. nest (tree_of f) ≤ s.high) (sym root-is)
+        (root-nesting (answers max_items source) max_depth j s passes.heavy passes.levels run
         (omega (arith, c, n)))
 
 -- ---- a parse
 
-module _ {j : SyntaxKind} {q : Rule} {source : List ℕ} {max_depth max_items : ℕ} {t : Parsed} (p : ByRootRule j q source max_depth max_items t) where
+module _ {j : SyntaxKind} {q : Rule} {source : List ℕ} {max_depth max_items : ℕ} {t : Parsed}
+    (p : ByRootRule j q source max_depth max_items t) where
   pub one-root : (kids : Forest) × (t.tree ≡ node j kids none)
   one-root = (p.last.tree.here, p.tree ∙ root-is j max_items max_depth source p.last p.run)
 
-  recursion : (t.recursion_limit.current ≡ 0) × (t.recursion_limit.limit ≡ max_depth) × (t.recursion_limit.high ≤ max_depth + 1)
-  recursion = subst (λ (l : LimitTracker). (l.current ≡ 0) × (l.limit ≡ max_depth) × (l.high ≤ max_depth + 1)) (sym p.recursion_limit)
+  recursion : (t.recursion_limit.current ≡ 0) × (t.recursion_limit.limit ≡ max_depth)
+      × (t.recursion_limit.high ≤ max_depth + 1)
+  recursion = subst (λ (l : LimitTracker). (l.current ≡ 0) × (l.limit ≡ max_depth) × (l.high ≤ max_depth + 1))
+      (sym p.recursion_limit)
       (levels-left (answers max_items source) max_depth j p.run)
 
   tokens : (t.token_limit.limit ≡ max_items) × (t.token_limit.high ≤ min (length (items_of source)) (max_items + 1))
@@ -117,7 +130,8 @@ module _ {j : SyntaxKind} {q : Rule} {source : List ℕ} {max_depth max_items : 
   -- as large as what the run built and reported
   module _ (sized : Sized (min (length (items_of source)) max_items) p.last) where
     elements : length (order t.tree) ≤ 5 * min (length (items_of source)) max_items + 1
-    elements = rw p.tree (let e = length-order 0 0 None (finished (left_out p.last)) in let f = finished-count (left_out p.last) in let b = sized.elements in
+    elements = rw p.tree (let e = length-order 0 0 None (finished (left_out p.last)) in
+        let f = finished-count (left_out p.last) in let b = sized.elements in
         omega (arith, e, f, b))
 
     error_count : length t.errors ≤ 3 * min (length (items_of source)) max_items + 1
@@ -127,7 +141,8 @@ module _ {j : SyntaxKind} {q : Rule} {source : List ℕ} {max_depth max_items : 
     one-front : OneFront (answers max_items source) (leaves t.tree) p.last.errors
     one-front =
         let f = run-front (answers max_items source) max_depth j passes.leaves p.run in
-        let same : leaves p.last.tree.here ≡ leaves t.tree = sym (ap leaves (p.tree ∙ root-is j max_items max_depth source p.last p.run)
+        let same : leaves p.last.tree.here ≡ leaves t.tree =
+        sym (ap leaves (p.tree ∙ root-is j max_items max_depth source p.last p.run)
         ∙ append-nil (leaves p.last.tree.here)) in
         subst (λ (ls : List Leaf). OneFront (answers max_items source) ls p.last.errors) same f
 
@@ -166,10 +181,12 @@ module _ {j : SyntaxKind} {q : Rule} {source : List ℕ} {max_depth max_items : 
         let xs = answers max_items source in
         let past = limit-passed xs max_depth j p.run (any-recursion p.last.errors t.errors p.errors h) in
         subst (λ (l : LimitTracker). max_depth + 1 ≤ l.high) (sym p.recursion_limit)
-        (below-cap max_depth p.last.high past (root-levels-within xs max_depth j p.last passes.tokens p.run) (few-answers max_items source p.short))
+        (below-cap max_depth p.last.high past (root-levels-within xs max_depth j p.last passes.tokens p.run)
+        (few-answers max_items source p.short))
 
     beginning : take (length (text t.tree)) source ≡ text t.tree
-    beginning = subst (λ f. take (length (text f)) source ≡ text f) (sym p.tree) (root-begins j max_items max_depth source p.last p.run passes p.cut)
+    beginning = subst (λ f. take (length (text f)) source ≡ text f) (sym p.tree)
+        (root-begins j max_items max_depth source p.last p.run passes p.cut)
 
     nesting : nest (tree_of t.tree) ≤ t.recursion_limit.high
     nesting =
@@ -182,7 +199,8 @@ module _ {j : SyntaxKind} {q : Rule} {source : List ℕ} {max_depth max_items : 
         let limit : p.last.limit ≡ max_depth = (levels-left (answers max_items source) max_depth j p.run).1 in
         let high : max_depth < p.last.high = subst (λ (l : LimitTracker). max_depth < l.high) p.recursion_limit more in
         any-limit p.last.errors t.errors p.errors
-        (root-limited max_depth (answers max_items source) j p.last (ends-well max_items 0 (items_of source) p.cut.each) passes.limits p.run
+        (root-limited max_depth (answers max_items source) j p.last
+        (ends-well max_items 0 (items_of source) p.cut.each) passes.limits p.run
         (subst (λ (n : ℕ). n < p.last.high) (sym limit) high))
 
   -- without errors, the tree's text is a sentence, and the tree its derivation
@@ -196,7 +214,8 @@ module _ {j : SyntaxKind} {q : Rule} {source : List ℕ} {max_depth max_items : 
   -- a sentence within both limits has no errors, and the tree is its derivation
   accepts : (sort : Sort) → ((u : Tree) → Sentence source u sort → Within source u max_depth max_items
       → (p.last.errors ≡ []) × (bare (tree_of (finished (left_out p.last))) ≡ u))
-      → (u : Tree) → Sentence source u sort → Within source u max_depth max_items → (t.errors ≡ []) × (bare (tree_of t.tree) ≡ u)
+      → (u : Tree) → Sentence source u sort → Within source u max_depth max_items
+      → (t.errors ≡ []) × (bare (tree_of t.tree) ≡ u)
   accepts sort accepted u h n =
       let c = accepted u h n in
       (no-errors p.last.errors t.errors p.errors c.0, rw p.tree c.1)
@@ -210,7 +229,8 @@ module _ {j : SyntaxKind} {q : Rule} {source : List ℕ} {max_depth max_items : 
 
     module _ (sort : Sort) (right : IsUtf8 source → (e : Report) (more : List Report) → p.last.errors ≡ e ∷ more
         → RightFirst sort source (items_of source) max_depth max_items (finished (left_out p.last)) e) where
-      first-right : (e : Report) (more : List Report) → p.last.errors ≡ e ∷ more → RightFirst sort source (items_of source) max_depth max_items t.tree e
+      first-right : (e : Report) (more : List Report) → p.last.errors ≡ e ∷ more
+          → RightFirst sort source (items_of source) max_depth max_items t.tree e
       first-right e more h = rw p.tree (right p.characters e more h)
 
       not_late : OfFirst (λ e. (IsTokenLimit e → ⊥) → NotLate sort source e.index) t.errors
@@ -219,8 +239,10 @@ module _ {j : SyntaxKind} {q : Rule} {source : List ℕ} {max_depth max_items : 
       not_early : OfFirst (λ e. e.subject ≢ of_limit → NotEarly sort max_items (items_of source) e.index) t.errors
       not_early = first.not_early sort max_depth max_items t.tree p.cut p.last.errors t.errors p.errors first-right
 
-      not_early_limit : OfFirst (λ e. IsRecursionLimit e → NotEarlyLimit sort max_depth (items_of source) e.index) t.errors
-      not_early_limit = first.not_early_limit sort max_depth max_items t.tree p.cut p.last.errors t.errors p.errors first-right
+      not_early_limit : OfFirst (λ e. IsRecursionLimit e → NotEarlyLimit sort max_depth (items_of source) e.index)
+          t.errors
+      not_early_limit = first.not_early_limit sort max_depth max_items t.tree p.cut p.last.errors t.errors
+          p.errors first-right
 
       ended_nodes_fit : OfFirst (λ e. EndedNodesFit (items_of source) e.index (tree_of t.tree)) t.errors
       ended_nodes_fit =
@@ -232,9 +254,11 @@ module _ {j : SyntaxKind} {q : Rule} {source : List ℕ} {max_depth max_items : 
   -- all of it
   pub promise : RootRule j q → Sized (min (length (items_of source)) max_items) p.last → (sort : Sort)
       → (p.last.errors ≡ [] → IsSoundPart sort max_depth p.last)
-      → ((u : Tree) → Sentence source u sort → Within source u max_depth max_items → (p.last.errors ≡ []) × (bare (tree_of (finished (left_out p.last))) ≡ u))
+      → ((u : Tree) → Sentence source u sort → Within source u max_depth max_items
+      → (p.last.errors ≡ []) × (bare (tree_of (finished (left_out p.last))) ≡ u))
       → (IsUtf8 source → (e : Report) (more : List Report) → p.last.errors ≡ e ∷ more
-      → RightFirst sort source (items_of source) max_depth max_items (finished (left_out p.last)) e) → PartPromise sort source max_depth max_items t
+      → RightFirst sort source (items_of source) max_depth max_items (finished (left_out p.last)) e)
+      → PartPromise sort source max_depth max_items t
   promise passes sized sort right accepted reported = record {
     cut = p.cut;
     sound = sound sort right;

@@ -16,7 +16,8 @@ use Rattle.parser_rules.specs.Fragments.{unopened, IsTypeRoot, a_list, a_name, n
 use Rattle.parser_rules.proofs.runs.Reading.{Reading, stops, cuts, bad_text, waits, shows, reading}
 use Rattle.apollo_parser.specs.ByRules.{ByTypeRule}
 use Rattle.apollo_parser.specs.Parsed.{Parsed}
-use Rattle.apollo_parser.specs.Parts.{first_kind, starts_type, IsTypeKind, of_name, of_bracket, with_bang, no_start, OneType}
+use Rattle.apollo_parser.specs.Parts.{first_kind, starts_type, IsTypeKind, of_name, of_bracket, with_bang, no_start}
+use Rattle.apollo_parser.specs.Parts.{OneType}
 use Rattle.apollo_parser.proofs.RootParses.{one-root}
 use Rattle.apollo_parser.proofs.Parses.{answers}
 
@@ -71,18 +72,22 @@ start-there (Some t) = starting-kind t.kind
 
 type-kind : {s : State} {k : SyntaxKind} {q : Rule} → IsTypeRoot s k q → IsTypeKind (kind_now s.current) k
 unfolding holds
-type-kind {s = s} (a_list e) = subst (λ (first : Option TokenKind). IsTypeKind first kind.LIST_TYPE) (sym (bracket-there s.current e)) of_bracket
-type-kind {s = s} (a_name e) = subst (λ (first : Option TokenKind). IsTypeKind first kind.NAMED_TYPE) (sym (name-there s.current e)) of_name
+type-kind {s = s} (a_list e) =
+    subst (λ (first : Option TokenKind). IsTypeKind first kind.LIST_TYPE) (sym (bracket-there s.current e)) of_bracket
+type-kind {s = s} (a_name e) =
+    subst (λ (first : Option TokenKind). IsTypeKind first kind.NAMED_TYPE) (sym (name-there s.current e)) of_name
 type-kind {s = s} (not_null e) = with_bang (sym (start-there s.current) ∙ sym e)
 type-kind {s = s} (no_type e) = no_start (sym (start-there s.current) ∙ sym e)
 
-pub type-rooted : {s : State} {k : SyntaxKind} {q : Rule} → IsTypeRoot s k q → (one_of Types k || is_kind kind.ERROR k) ≡ true
+pub type-rooted : {s : State} {k : SyntaxKind} {q : Rule} → IsTypeRoot s k q
+    → (one_of Types k || is_kind kind.ERROR k) ≡ true
 type-rooted (a_list e) = refl
 type-rooted (a_name e) = refl
 type-rooted (not_null e) = refl
 type-rooted (no_type e) = refl
 
-pub one-type : {source : List ℕ} {r k : ℕ} {t : Parsed} → ByTypeRule source r k t → OneType (first_kind (answers k source)) t.tree
+pub one-type : {source : List ℕ} {r k : ℕ} {t : Parsed} → ByTypeRule source r k t
+    → OneType (first_kind (answers k source)) t.tree
 one-type {source = source} {r = r} {k = k} p =
     let (kids, is) = one-root p.root in
     record {

@@ -1,5 +1,5 @@
--- What the tree of a parse comes from: the parser's own rules. The promises are theorems on such runs; only the law `one_parse` needs to know that
--- there is one.
+-- What the tree of a parse comes from: the parser's own rules. The promises are theorems on such runs; only the law
+-- `one_parse` needs to know that there is one.
 use Rattle.std.specs.Prelude.{◌≡◌, ◌≤◌, ◌<◌, ◌^◌, ℕ, List, length}
 use Rattle.std.specs.List.{AllZip}
 use Rattle.std.specs.Str.{IsUtf8}

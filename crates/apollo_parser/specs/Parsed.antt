@@ -1,5 +1,6 @@
--- What a parse gives, what its errors are, and what is so after an error: the words of `Promise` that are not in the specs of `lexical_grammar` and
--- `document_grammar`. The standard says nothing of errors, so these are this project's own promises.
+-- What a parse gives, what its errors are, and what is so after an error: the words of `Promise` that are not in the
+-- specs of `lexical_grammar` and `document_grammar`. The standard says nothing of errors, so these are this project's
+-- own promises.
 use Rattle.std.specs.Prelude.{◌≡◌, ◌⊎◌, ℕ, Bool, true, false, if◌then◌else◌, List, [], ◌∷◌, Some, None, map, ⊤}
 use Rattle.std.specs.List.{Any}
 use Rattle.lexical_grammar.specs.declared.TokenKind.{TokenKind}
@@ -16,8 +17,9 @@ use Rattle.parser_rules.specs.Messages.{Text, recursion_limit_message}
 
 -- ---- what a parse gives
 
--- A tree, the errors in the order in which they were found, and how the limits were used. An error has a message, what it is about, which is
--- a text of the source, the end of the source or a limit, and the byte of the source where that begins.
+-- A tree, the errors in the order in which they were found, and how the limits were used. An error has a message, what
+-- it is about, which is a text of the source, the end of the source or a limit, and the byte of the source where that
+-- begins.
 pub record Parsed : Type 0 where
   pub tree : Forest
   pub errors : List Diagnostic
@@ -60,7 +62,8 @@ pub record IsAbout (what : Subject) (offset : ℕ) (error : Diagnostic) : Type 0
 abbrev pub subject_at : TokenKind → Text → Subject
 subject_at kind text = if is_end kind then of_end else of_text text
 
--- The errors of a lexer's answers, in their order. The grammar's errors are taken, or no longer are. Which words tell what is wrong is not stated.
+-- The errors of a lexer's answers, in their order. The grammar's errors are taken, or no longer are. Which words tell
+-- what is wrong is not stated.
 pub data ErrorsAlong : Bool → List Answer → List Diagnostic → Type 0 where
   no_more :
       {taken : Bool}
@@ -128,11 +131,12 @@ root_children (node k kids rest) = kids
 
 -- The parse goes on after its errors; `r` is the recursion limit, and the items are those of the text.
 pub record Recovers (r : ℕ) (items : List Item) (t : Parsed) : Type 0 where
-  -- each token that was left over has its error, with its offset and its text, and is a child of the root, or of a list and not `]`, or its
-  -- node's only one
+  -- each token that was left over has its error, with its offset and its text, and is a child of the root, or of a list
+  -- and not `]`, or its node's only one
   pub left_over : LeftOver (HasError t.errors) items 0 (children_of (tree_of t.tree))
   -- each other child of a node but ignored, ERROR and SPREAD leaves is a symbol of its row
   pub row_symbols : Rowed (tree_of t.tree)
-  -- where the items after a child of the root have no bad text and are a document of its own, which nests at most r deep, the later children,
-  -- without their ignored leaves, are its derivation's, and no error is beyond its first token
+  -- where the items after a child of the root have no bad text and are a document of its own, which nests at most r
+  -- deep, the later children, without their ignored leaves, are its derivation's, and no error is beyond its first
+  -- token
   pub goes_on : GoesOn r items (map (λ (e : Diagnostic). e.index) t.errors) (root_children t.tree)

@@ -10,8 +10,8 @@ use Rattle.document_grammar.specs.Leaves.{Leaf, OneLeafAnItem, ignored, shows}
 use Rattle.apollo_lexer.specs.Diagnostics.{Diagnostic}
 use Rattle.apollo_parser.specs.Parsed.{ErrorsOf}
 
--- How far a part goes into the text: one for one the leaves are the items of the front. The errors go along these and what was read after the tree,
--- where at most one token is significant, or the end.
+-- How far a part goes into the text: one for one the leaves are the items of the front. The errors go along these and
+-- what was read after the tree, where at most one token is significant, or the end.
 pub record FirstItems (answers : List Answer) (ls : List Leaf) (found : List Diagnostic) : Type 0 where
   pub front : List Answer
   pub ahead : List Answer

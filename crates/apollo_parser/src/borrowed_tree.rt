@@ -16,8 +16,8 @@ use std::alloc::{AllocError, Allocator, Global};
 use std::marker::{Model, PhantomData};
 use std::slice::Iter;
 
-/// The tree of a text, the errors that were found in it, and how the limits were used. Tree and errors borrow the text, so a long token is in
-/// memory once. `R` marks what the root is.
+/// The tree of a text, the errors that were found in it, and how the limits were used. Tree and errors borrow the text,
+/// so a long token is in memory once. `R` marks what the root is.
 #[derive(Drop)]
 pub struct BorrowedSyntaxTree<'i, R: Root, A: Allocator = Global> {
     tree: BorrowedSubtree<'i, A>,
@@ -39,7 +39,12 @@ impl<'i, R: Root, A: Allocator> Model for BorrowedSyntaxTree<'i, R, A> {
 
     ghost coded = { Prim.hlevel (codes, forest_code) };
 
-    ghost view = { λ t. record { tree = t.tree; errors = map error_of t.errors.items; recursion_limit = t.recursion_limit; token_limit = t.token_limit } };
+    ghost view = { λ t. record {
+      tree = t.tree;
+      errors = map error_of t.errors.items;
+      recursion_limit = t.recursion_limit;
+      token_limit = t.token_limit;
+    } };
 }
 
 /// The same errors with texts of their own. It fails only where memory is refused.
@@ -112,8 +117,8 @@ impl<'i, R: Root, A: Allocator> BorrowedSyntaxTree<'i, R, A> {
         self.tree.element_count()
     }
 
-    /// The element with an index, in constant time. The index counts the elements before it in document order: the root has 0. `None` where
-    /// there are no more elements than that.
+    /// The element with an index, in constant time. The index counts the elements before it in document order: the root
+    /// has 0. `None` where there are no more elements than that.
     pub fn element(&self, index: usize) -> Option<IndexedElement>
         ensures { result ≡ element_at self.now.tree index }
     {

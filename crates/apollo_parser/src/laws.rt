@@ -10,8 +10,9 @@ pub use document_grammar::laws::{first_profile, ignored_leaves, one_cut, one_kin
 pub use grammar_machine::laws::one_derivation;
 pub use lexical_grammar::{items_stand, limited_items, one_token, one_value};
 
-/// A parse is a function: what keeps the promise of `parse` for one text and the same limits is one result, with one tree, one list of errors and
-/// the same use of both limits.
+/// A parse is a function: what keeps the promise of `parse` for one text and the same limits is one result, with one
+/// tree, one list of errors and the same use of both limits.
 pub fn one_parse()
-    ensures { (source : Text) (max_depth max_items : ℕ) (a b : Parsed) → Promise source max_depth max_items a → Promise source max_depth max_items b → a ≡ b }
+    ensures { (source : Text) (max_depth max_items : ℕ) (a b : Parsed) → Promise source max_depth max_items a
+        → Promise source max_depth max_items b → a ≡ b }
 {}

@@ -1,8 +1,9 @@
 //! A lossless parser of GraphQL documents (October 2021): its lexer, its trees, and the errors that it finds.
 //!
-//! `Parser::new(text)` takes limits on nesting and on the number of items; `parse` gives a `SyntaxTree` for any text, faulty ones too. The tree
-//! has the text with its white space and comments, up to where the token limit may have stopped it. `parse_borrowed` gives one that borrows the text. The
-//! module `cst` has typed nodes. What `parse` promises is in its contract.
+//! `Parser::new(text)` takes limits on nesting and on the number of items; `parse` gives a `SyntaxTree` for any text,
+//! faulty ones too. The tree has the text with its white space and comments, up to where the token limit may have
+//! stopped it. `parse_borrowed` gives one that borrows the text. The module `cst` has typed nodes. What `parse`
+//! promises is in its contract.
 #![tactic(auto)]
 
 mod borrowed_tree;

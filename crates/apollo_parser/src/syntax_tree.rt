@@ -63,7 +63,12 @@ impl<R: Root, A: Allocator> Model for SyntaxTree<R, A> {
 
     ghost coded = { Prim.hlevel (codes, forest_code) };
 
-    ghost view = { λ t. record { tree = t.tree; errors = t.errors.items; recursion_limit = t.recursion_limit; token_limit = t.token_limit } };
+    ghost view = { λ t. record {
+      tree = t.tree;
+      errors = t.errors.items;
+      recursion_limit = t.recursion_limit;
+      token_limit = t.token_limit;
+    } };
 }
 
 impl<R: Root, A: Allocator> SyntaxTree<R, A> {
@@ -113,15 +118,16 @@ impl<R: Root, A: Allocator> SyntaxTree<R, A> {
         self.tree.element_count()
     }
 
-    /// The element with an index, in constant time. The index counts the elements before it in document order: the root has 0. `None` where
-    /// there are no more elements than that.
+    /// The element with an index, in constant time. The index counts the elements before it in document order: the root
+    /// has 0. `None` where there are no more elements than that.
     pub fn element(&self, index: usize) -> Option<IndexedElement>
         ensures { result ≡ element_at self.now.tree index }
     {
         self.tree.element(index)
     }
 
-    /// Writes the elements in document order, in twelve bytes each, as far as there is room. The tree ends, and gives back what it can while it writes.
+    /// Writes the elements in document order, in twelve bytes each, as far as there is room. The tree ends, and gives
+    /// back what it can while it writes.
     pub fn into_compact(self, rows: &mut [CompactElement])
         requires few { length (order self.tree) < 2 ^ 28 }
         requires short { length (text self.tree) < 2 ^ 31 }
@@ -134,7 +140,8 @@ impl<R: Root, A: Allocator> SyntaxTree<R, A> {
 impl<A: Allocator> SyntaxTree<DocumentRoot, A> {
     ghost use Rattle.apollo_tree.specs.References.{node_place};
 
-    /// The document (GraphQL October 2021, section 2.2), as the typed node of the root. Every tree of `parse` has it, also with errors.
+    /// The document (GraphQL October 2021, section 2.2), as the typed node of the root. Every tree of `parse` has it,
+    /// also with errors.
     pub fn document(&self) -> Document<'_>
         ensures { node_place result.syntax ≡ record { whole = self.now.tree; index = 0 } }
     {
@@ -145,8 +152,8 @@ impl<A: Allocator> SyntaxTree<DocumentRoot, A> {
 impl<A: Allocator> SyntaxTree<SelectionSetRoot, A> {
     ghost use Rattle.apollo_tree.specs.References.{node_place};
 
-    /// The selection set (GraphQL October 2021, section 2.4), as the typed node of the root. Every tree of `parse_selection_set` has it, also
-    /// with errors.
+    /// The selection set (GraphQL October 2021, section 2.4), as the typed node of the root. Every tree of
+    /// `parse_selection_set` has it, also with errors.
     pub fn field_set(&self) -> SelectionSet<'_>
         ensures { node_place result.syntax ≡ record { whole = self.now.tree; index = 0 } }
     {
@@ -161,7 +168,8 @@ impl<A: Allocator> SyntaxTree<TypeRoot, A> {
 
     /// The type (GraphQL October 2021, section 2.11), as the typed node of the root. `None` only where no type starts.
     pub fn ty(&self) -> Option<Ty<'_>>
-        ensures { CastsTo (one_of Types (root_kind self.now.tree)) (λ t. node_place (ty_node t)) (record { whole = self.now.tree; index = 0 }) result }
+        ensures { CastsTo (one_of Types (root_kind self.now.tree)) (λ t. node_place (ty_node t))
+            (record { whole = self.now.tree; index = 0 }) result }
     {
         Ty::cast(self.tree.root())
     }
@@ -189,8 +197,8 @@ impl<R: Root, A: Allocator + Copy> SyntaxTree<R, A> {
     }
 }
 
-/// The printed form: a line for each element of the tree in document order, four spaces a level; a line `- ` with the printed form for
-/// each error; and then, without a line feed, the printed recursion limit.
+/// The printed form: a line for each element of the tree in document order, four spaces a level; a line `- ` with the
+/// printed form for each error; and then, without a line feed, the printed recursion limit.
 impl<R: Root, A: Allocator> fmt::Debug for SyntaxTree<R, A> {
     fn fmt<W: fmt::Write>(&self, f: &mut fmt::Formatter<W>) -> fmt::Result {
         let tree = &self.tree;

@@ -45,7 +45,8 @@ is-chain n = chain-of (suc n.index) (Some (node_place n)) (own (node_place n))
 -- a node, and then its parent and those above that
 pub chain-step : (n : SyntaxNode) (up : Option SyntaxNode) → option_map node_place up ≡ parent_place (node_place n)
     → up_from (Some n) ≡ node_place n ∷ up_from up
-chain-step n None e = ap (λ ps. node_place n ∷ ps) (ap (first_parents n.index) (sym e) ∙ same-chain n.index 0 None (nobody n.index) (nobody 0))
+chain-step n None e = ap (λ ps. node_place n ∷ ps)
+    (ap (first_parents n.index) (sym e) ∙ same-chain n.index 0 None (nobody n.index) (nobody 0))
 chain-step n (Some u) e =
     let p = node_place n in
     ap (λ ps. p ∷ ps) (ap (first_parents n.index) (sym e) ∙ same-chain n.index (suc u.index) (Some (node_place u))

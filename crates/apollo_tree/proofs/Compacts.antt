@@ -41,7 +41,10 @@ module _ (rs : List Record) (s : List ℕ) (t : IsTable rs s) (i : ℕ) (h : i <
       record { inside = p.inside; same = omega (arith, p.inside, ap (λ up. i - unwrap_or up i) p.index) })
       (λ (none : own.to_parent ≤ 0).
       let zero_is : own.to_parent ≡ 0 = omega arith in
-      record { inside = omega arith; same = omega (arith, ap (λ up. i - unwrap_or up i) (no-index rs s t i h own.to_parent refl zero_is)) })
+      record {
+        inside = omega arith;
+        same = omega (arith, ap (λ up. i - unwrap_or up i) (no-index rs s t i h own.to_parent refl zero_is));
+      })
       (cases_lt 0 own.to_parent)
 
   -- its numbers fit where the tree is small
@@ -63,7 +66,13 @@ module _ (rs : List Record) (s : List ℕ) (t : IsTable rs s) (i : ℕ) (h : i <
 
   compact-is : compact_record own ≡ compact i there
   compact-is =
-      cc (kind-is rs s t i h none_there, node_is rs s t i h none_there, start-is rs s t i h none_there, size-is rs s t i h none_there, distance.same)
+      cc (
+        kind-is rs s t i h none_there,
+        node_is rs s t i h none_there,
+        start-is rs s t i h none_there,
+        size-is rs s t i h none_there,
+        distance.same,
+      )
 
 -- ---- all elements
 
@@ -89,16 +98,19 @@ module _ (rs : List Record) (s : List ℕ) (t : IsTable rs s) where
       let inside : i < length rs = omega (arith, h, length-map rs compact_record) in
       let here : Element = get_or (order (forest s rs)) i nowhere in
       let same : i ≡ 0 + i = omega arith in
-      get_or-map compact_record rs i none_there d inside ∙ compact-is rs s t i inside ∙ ap (λ (n : ℕ). compact n here) same
+      get_or-map compact_record rs i none_there d inside ∙ compact-is rs s t i inside
+      ∙ ap (λ (n : ℕ). compact n here) same
       ∙ sym (compact-there 0 i (order (forest s rs)) d (omega (arith, inside, length-table rs s t)))
 
   pub compacts-are : map compact_record rs ≡ compact_elements (forest s rs)
   compacts-are =
       same_lists (map compact_record rs) (compact_elements (forest s rs))
-      (omega (arith, length-map rs compact_record, length-table rs s t, length-compact 0 (order (forest s rs)))) one-compact
+      (omega (arith, length-map rs compact_record, length-table rs s t, length-compact 0 (order (forest s rs))))
+      one-compact
 
 -- one more record is written
-module _ {P : Type 0} (f : P → Record) (ps : List P) (i : ℕ) (p : P) (is : p ≡ get_or ps i p) (inside : i < length ps) where
+module _ {P : Type 0} (f : P → Record) (ps : List P) (i : ℕ) (p : P) (is : p ≡ get_or ps i p)
+    (inside : i < length ps) where
   abbrev pub all : List Record
   all = map f ps
 
@@ -111,16 +123,21 @@ module _ {P : Type 0} (f : P → Record) (ps : List P) (i : ℕ) (p : P) (is : p
   pub next-fits : All IsSmall all → IsSmall (f p)
   next-fits each = subst IsSmall (sym there-is) (All-get_or IsSmall all i none_there in-all each)
 
-  pub next-compact : (buffer rows : List CompactElement) (row : CompactElement) → rows ≡ filled buffer (take i (map compact_record all))
-      → row ≡ compact_record (f p) → i < length buffer → set rows i row ≡ filled buffer (take (i + 1) (map compact_record all))
+  pub next-compact : (buffer rows : List CompactElement) (row : CompactElement)
+      → rows ≡ filled buffer (take i (map compact_record all))
+      → row ≡ compact_record (f p) → i < length buffer
+      → set rows i row ≡ filled buffer (take (i + 1) (map compact_record all))
   next-compact buffer rows row so_far e room =
       let items : List CompactElement = map compact_record all in
-      let item : get_or items i row ≡ row = get_or-map compact_record all i none_there row in-all ∙ sym (e ∙ ap compact_record there-is) in
-      ap (λ (xs : List CompactElement). set xs i row) so_far ∙ ap (λ (x : CompactElement). set (filled buffer (take i items)) i x) (sym item)
+      let item : get_or items i row ≡ row =
+      get_or-map compact_record all i none_there row in-all ∙ sym (e ∙ ap compact_record there-is) in
+      ap (λ (xs : List CompactElement). set xs i row) so_far
+      ∙ ap (λ (x : CompactElement). set (filled buffer (take i items)) i x) (sym item)
       ∙ filled-by-one-more buffer items i (i + 1) row refl room (omega (arith, in-all, length-map all compact_record))
 
 -- records that are written in two parts
-pub in-two : {P : Type 0} (f : P → Record) (ps : List P) (rows : List CompactElement) (half written : ℕ) → written ≡ min half (length rows)
+pub in-two : {P : Type 0} (f : P → Record) (ps : List P) (rows : List CompactElement) (half written : ℕ)
+    → written ≡ min half (length rows)
     → filled (take written rows) (map compact_record (map f (take half ps)))
     ++ filled (drop written rows) (map compact_record (map f (take (length ps - half) (drop half ps))))
     ≡ filled rows (map compact_record (map f ps))
@@ -131,5 +148,6 @@ in-two f ps rows half written e =
     let rest = sym (drop-map compact_record half (map f ps) ∙ ap (map compact_record) (drop-map f half ps)) in
     let back : later ≡ drop half items = ap (λ qs. map compact_record (map f qs)) (take_rest ps half) ∙ rest in
     ap (λ (xs : List CompactElement). filled (take written rows) xs ++ filled (drop written rows) later) front
-    ∙ ap (λ (xs : List CompactElement). filled (take written rows) (take half items) ++ filled (drop written rows) xs) back
+    ∙ ap (λ (xs : List CompactElement). filled (take written rows) (take half items) ++ filled (drop written rows) xs)
+    back
     ∙ filled-in-two rows items half written e

@@ -1,6 +1,6 @@
 -- Where records of a table begin, in order, and which leaves are at an offset for it.
-use Rattle.std.proofs.Common.{◌≡◌, ℕ, zero, suc, ◌+◌, ◌-◌, ◌<◌, ◌≤◌, List, [], ◌∷◌, ◌++◌, length, drop, get_or, sym, ap, ◌∙◌, subst, refl}
-use Rattle.std.proofs.Common.{arith, cond, Bool, true, false}
+use Rattle.std.proofs.Common.{◌≡◌, ℕ, zero, suc, ◌+◌, ◌-◌, ◌<◌, ◌≤◌, List, [], ◌∷◌, ◌++◌, length, drop, get_or, sym, ap}
+use Rattle.std.proofs.Common.{◌∙◌, subst, refl, arith, cond, Bool, true, false}
 use Rattle.std.specs.Prelude.{nat_le, nat_lt}
 use Rattle.std.specs.List.{filter}
 use Rattle.std.proofs.Math.Seq.{drop-cons}
@@ -34,9 +34,11 @@ module _ (rs : List Record) (s : List ℕ) (t : IsTable rs s) where
   rises-once i zero h e = omega (arith, next-start i h e)
   rises-once i (suc n) h e =
       let same : suc i + 0 ≡ suc i = omega arith in
-      subst (λ j. (range_at (spot (forest s rs) i)).0 ≤ (range_at (spot (forest s rs) j)).0) same (within rs s t i (omega arith) 0 (omega arith)).0
+      subst (λ j. (range_at (spot (forest s rs) i)).0 ≤ (range_at (spot (forest s rs) j)).0) same
+      (within rs s t i (omega arith) 0 (omega arith)).0
 
-  rises-by : (i d : ℕ) → i + d < length rs → (range_at (spot (forest s rs) i)).0 ≤ (range_at (spot (forest s rs) (i + d))).0
+  rises-by : (i d : ℕ) → i + d < length rs
+      → (range_at (spot (forest s rs) i)).0 ≤ (range_at (spot (forest s rs) (i + d))).0
   rises-by i zero h =
       let same : i ≡ i + 0 = omega arith in
       subst (λ j. (range_at (spot (forest s rs) i)).0 ≤ (range_at (spot (forest s rs) j)).0) same (omega arith)
@@ -45,10 +47,12 @@ module _ (rs : List Record) (s : List ℕ) (t : IsTable rs s) where
       subst (λ j. (range_at (spot (forest s rs) i)).0 ≤ (range_at (spot (forest s rs) j)).0) same
       (omega (arith, rises-by i d (omega arith), rises-once (i + d) _ (omega arith) refl))
 
-  pub rises : (i j : ℕ) → i ≤ j → j < length rs → (range_at (spot (forest s rs) i)).0 ≤ (range_at (spot (forest s rs) j)).0
+  pub rises : (i j : ℕ) → i ≤ j → j < length rs
+      → (range_at (spot (forest s rs) i)).0 ≤ (range_at (spot (forest s rs) j)).0
   rises i j le h =
       let same : i + (j - i) ≡ j = omega arith in
-      subst (λ k. (range_at (spot (forest s rs) i)).0 ≤ (range_at (spot (forest s rs) k)).0) same (rises-by i (j - i) (omega arith))
+      subst (λ k. (range_at (spot (forest s rs) i)).0 ≤ (range_at (spot (forest s rs) k)).0) same
+      (rises-by i (j - i) (omega arith))
 
 -- ---- leaves at an offset
 record IsAtOffset (offset : ℕ) (p : Place) : Type 0 where
@@ -72,7 +76,8 @@ at-offset offset p h =
 
 -- an element that begins after the offset is not one of them
 pub no-later : (offset : ℕ) (p : Place) → offset < (range_at p).0 → is_at_offset offset p ≡ false
-no-later offset p lt = false_from_ne_true (is_at_offset offset p) (λ h. let a = at-offset offset p h in absurd (omega (arith, a.begins)))
+no-later offset p lt = false_from_ne_true (is_at_offset offset p)
+    (λ h. let a = at-offset offset p h in absurd (omega (arith, a.begins)))
 
 leaf-kids : (t : Tree) → is_node t ≡ false → count (tree_kids t) ≡ 0
 leaf-kids (Leaf k s) h = refl
@@ -80,7 +85,8 @@ leaf-kids (Node k kids) h = absurd cc
 
 -- nor is one that is followed by another before the offset, or at the same place
 pub no-earlier : (rs : List Record) (s : List ℕ) → IsTable rs s → (i offset : ℕ) → suc i < length rs
-    → ((range_at (spot (forest s rs) i)).0 < (range_at (spot (forest s rs) (suc i))).0 → (range_at (spot (forest s rs) (suc i))).0 < offset)
+    → ((range_at (spot (forest s rs) i)).0 < (range_at (spot (forest s rs) (suc i))).0
+    → (range_at (spot (forest s rs) (suc i))).0 < offset)
     → is_at_offset offset (spot (forest s rs) i) ≡ false
 no-earlier rs s t i offset h early =
     let p = spot (forest s rs) i in
@@ -91,7 +97,8 @@ no-earlier rs s t i offset h early =
     absurd (omega (arith, early some, a.ends)))
 
 -- ---- parts of a document order
-places-split : (whole : Forest) (i m n : ℕ) → places_from whole i (m + n) ≡ places_from whole i m ++ places_from whole (i + m) n
+places-split : (whole : Forest) (i m n : ℕ)
+    → places_from whole i (m + n) ≡ places_from whole i m ++ places_from whole (i + m) n
 places-split whole i zero n = let a : 0 + n ≡ n = omega arith in let b : i ≡ i + 0 = omega arith in
     ap (places_from whole i) a ∙ ap (λ j. places_from whole j n) b
 places-split whole i (suc m) n =
@@ -101,7 +108,8 @@ places-split whole i (suc m) n =
     (places-split whole (suc i) m n ∙ ap (λ j. places_from whole (suc i) m ++ places_from whole j n) b)
 
 pub filter-split : (m : Place → Bool) (whole : Forest) (from at to : ℕ) → from ≤ at → at ≤ to
-    → filter m (places_from whole from (to - from)) ≡ filter m (places_from whole from (at - from)) ++ filter m (places_from whole at (to - at))
+    → filter m (places_from whole from (to - from)) ≡ filter m (places_from whole from (at - from))
+    ++ filter m (places_from whole at (to - at))
 filter-split m whole from at to a b =
     let n : to - from ≡ (at - from) + (to - at) = omega arith in
     let i : from + (at - from) ≡ at = omega arith in
@@ -109,23 +117,28 @@ filter-split m whole from at to a b =
     ∙ filter-append m (places_from whole from (at - from)) _
     ∙ ap (λ j. filter m (places_from whole from (at - from)) ++ filter m (places_from whole j (to - at))) i
 
-filter-none : (m : Place → Bool) (whole : Forest) (i n : ℕ) → ((k : ℕ) → k < n → m (spot whole (i + k)) ≡ false) → filter m (places_from whole i n) ≡ []
+filter-none : (m : Place → Bool) (whole : Forest) (i n : ℕ) → ((k : ℕ) → k < n → m (spot whole (i + k)) ≡ false)
+    → filter m (places_from whole i n) ≡ []
 filter-none m whole i zero h = refl
 filter-none m whole i (suc n) h =
     let here : i + 0 ≡ i = omega arith in
     ap (λ c. cond c (spot whole i ∷ filter m (places_from whole (suc i) n)) (filter m (places_from whole (suc i) n)))
     (ap (λ j. m (spot whole j)) (sym here) ∙ h 0 (omega arith))
-    ∙ filter-none m whole (suc i) n (λ k b. let e : suc i + k ≡ i + suc k = omega arith in ap (λ j. m (spot whole j)) e ∙ h (suc k) (omega arith))
+    ∙ filter-none m whole (suc i) n
+    (λ k b. let e : suc i + k ≡ i + suc k = omega arith in ap (λ j. m (spot whole j)) e ∙ h (suc k) (omega arith))
 
-pub no-places : (m : Place → Bool) (whole : Forest) (from to : ℕ) → ((k : ℕ) → from ≤ k → k < to → m (spot whole k) ≡ false)
+pub no-places : (m : Place → Bool) (whole : Forest) (from to : ℕ)
+    → ((k : ℕ) → from ≤ k → k < to → m (spot whole k) ≡ false)
     → filter m (places_from whole from (to - from)) ≡ []
 no-places m whole from to h = filter-none m whole from (to - from) (λ k b. h (from + k) (omega arith) (omega arith))
 
 -- all but the last are passed over
-pub last-place : (m : Place → Bool) (whole : Forest) (from to : ℕ) → from < to → ((k : ℕ) → from ≤ k → k + 1 < to → m (spot whole k) ≡ false)
+pub last-place : (m : Place → Bool) (whole : Forest) (from to : ℕ) → from < to
+    → ((k : ℕ) → from ≤ k → k + 1 < to → m (spot whole k) ≡ false)
     → filter m (places_from whole from (to - from)) ≡ filter m (spot whole (to - 1) ∷ [])
 last-place m whole from to lt h =
     let one : to - (to - 1) ≡ 1 = omega arith in
     filter-split m whole from (to - 1) to (omega arith) (omega arith)
-    ∙ ap (λ ps. ps ++ filter m (places_from whole (to - 1) (to - (to - 1)))) (no-places m whole from (to - 1) (λ k a b. h k a (omega arith)))
+    ∙ ap (λ ps. ps ++ filter m (places_from whole (to - 1) (to - (to - 1))))
+    (no-places m whole from (to - 1) (λ k a b. h k a (omega arith)))
     ∙ ap (λ n. filter m (places_from whole (to - 1) n)) one

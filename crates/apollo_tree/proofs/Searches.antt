@@ -1,5 +1,6 @@
 -- A search along a span for the first tree that a test takes.
-use Rattle.std.proofs.Common.{◌≡◌, ℕ, ◌+◌, ◌-◌, ◌<◌, ◌≤◌, List, [], ◌∷◌, length, take, drop, get_or, map, refl, sym, ap, ◌∙◌, cond, Bool, true, false, arith}
+use Rattle.std.proofs.Common.{◌≡◌, ℕ, ◌+◌, ◌-◌, ◌<◌, ◌≤◌, List, [], ◌∷◌, length, take, drop, get_or, map, refl, sym, ap}
+use Rattle.std.proofs.Common.{◌∙◌, cond, Bool, true, false, arith}
 use Rattle.std.specs.List.{filter}
 use Rattle.std.proofs.lemmas.List.{length-map}
 use Rattle.document_grammar.specs.declared.kind.SyntaxKind.{SyntaxKind}
@@ -21,7 +22,8 @@ use Rattle.apollo_tree.proofs.Spans.{IsStep, step}
 use Rattle.apollo_tree.proofs.Widening.{packed-there}
 
 -- a record passes the test as its element does
-element-test : (takes : Bool → SyntaxKind → Bool) (rs : List Record) (s : List ℕ) → IsTable rs s → (i : ℕ) → i < length rs
+element-test : (takes : Bool → SyntaxKind → Bool) (rs : List Record) (s : List ℕ) → IsTable rs s
+    → (i : ℕ) → i < length rs
     → takes_place takes (spot (forest s rs) i) ≡ takes_record takes (get_or rs i none_there)
 element-test takes rs s t i h =
     ap (λ b. takes b (kind_at (spot (forest s rs) i))) (sym (node_is rs s t i h none_there))
@@ -35,12 +37,14 @@ pub record IsSearched (takes : Bool → SyntaxKind → Bool) (rs : List Record) 
   pub span : IsSpan rs at to
   pub passed : PassesOver takes rs from at to
 
-pub begins : (takes : Bool → SyntaxKind → Bool) (rs : List Record) (from to : ℕ) → IsSpan rs from to → IsSearched takes rs from from to
+pub begins : (takes : Bool → SyntaxKind → Bool) (rs : List Record) (from to : ℕ) → IsSpan rs from to
+    → IsSearched takes rs from from to
 begins takes rs from to h = record { span = h; passed = λ s t. refl }
 
 -- one step, over records in some form
 module _ {P : Type 0} (f : P → Record) (ps : List P) (takes : Bool → SyntaxKind
-    → Bool) (from at to : ℕ) (h : IsSearched takes (map f ps) from at to) (lt : at < to) (p : P) (is : p ≡ get_or ps at p) (r : Record) (e : r ≡ f p) where
+    → Bool) (from at to : ℕ) (h : IsSearched takes (map f ps) from at to) (lt : at < to) (p : P)
+    (is : p ≡ get_or ps at p) (r : Record) (e : r ≡ f p) where
   there : r ≡ get_or (map f ps) at none_there
   there = e ∙ packed-there f (map f ps) ps at refl p is (omega (arith, h.span.inside, length-map ps f))
 
@@ -70,12 +74,15 @@ module _ {P : Type 0} (f : P → Record) (ps : List P) (takes : Bool → SyntaxK
   first e = record { inside = lt; span = h.span; there = there; taken = e; passed = h.passed }
 
 -- and where none was left
-pub no-first : (takes : Bool → SyntaxKind → Bool) (rs : List Record) (from at to : ℕ) → IsSearched takes rs from at to → to ≤ at
+pub no-first : (takes : Bool → SyntaxKind → Bool) (rs : List Record) (from at to : ℕ)
+    → IsSearched takes rs from at to → to ≤ at
     → PassesOver takes rs from to to
-no-first takes rs from at to h n = λ s t. h.passed s t ∙ ap (λ i. taken_places takes (forest s rs) rs i to) (omega (arith, h.span.order))
+no-first takes rs from at to h n =
+    λ s t. h.passed s t ∙ ap (λ i. taken_places takes (forest s rs) rs i to) (omega (arith, h.span.order))
 
 -- ---- a table's trees, after the one that is found
-module _ (takes : Bool → SyntaxKind → Bool) (table : Table) (from to : ℕ) (found : Found) (h : IsFirst takes (readable table.records) from to found) where
+module _ (takes : Bool → SyntaxKind → Bool) (table : Table) (from to : ℕ) (found : Found)
+    (h : IsFirst takes (readable table.records) from to found) where
   abbrev rs : List Record
   rs = readable table.records
 
@@ -83,10 +90,12 @@ module _ (takes : Bool → SyntaxKind → Bool) (table : Table) (from to : ℕ) 
   after = step rs found.index to h.span h.inside found.row.size (ap (λ (r : Record). r.size) h.there)
 
   pub found-kind : found.row.kind ≡ kind_at (table_place table found.index)
-  found-kind = ap (λ (r : Record). r.kind) h.there ∙ kind-is rs table.text.now table.is_table found.index after.here none_there
+  found-kind = ap (λ (r : Record). r.kind) h.there
+      ∙ kind-is rs table.text.now table.is_table found.index after.here none_there
 
   pub found-taken : takes_place takes (table_place table found.index) ≡ true
-  found-taken = element-test takes rs table.text.now table.is_table found.index after.here ∙ ap (takes_record takes) (sym h.there) ∙ h.taken
+  found-taken = element-test takes rs table.text.now table.is_table found.index after.here
+      ∙ ap (takes_record takes) (sym h.there) ∙ h.taken
 
   pub found-first : filter (takes_place takes) (rest_from table from to) ≡ table_place table found.index
       ∷ filter (takes_place takes) (rest_from table (found.index + found.row.size) to)
@@ -102,7 +111,9 @@ end-span rs from to h =
     let n : to - to ≡ 0 = omega arith in
     record { order = omega arith; inside = h.inside; trees = ap (λ n. tiled 0 (take n (drop to rs))) n }
 
-pub none-left : (takes : Bool → SyntaxKind → Bool) (table : Table) (to : ℕ) → filter (takes_place takes) (rest_from table to to) ≡ []
+pub none-left : (takes : Bool → SyntaxKind → Bool) (table : Table) (to : ℕ)
+    → filter (takes_place takes) (rest_from table to to) ≡ []
 none-left takes table to =
     let n : to - to ≡ 0 = omega arith in
-    ap (λ n. filter (takes_place takes) (map (table_place table) (heads 0 to (take n (drop to (readable table.records)))))) n
+    ap (λ n. filter (takes_place takes)
+    (map (table_place table) (heads 0 to (take n (drop to (readable table.records)))))) n

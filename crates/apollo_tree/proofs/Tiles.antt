@@ -1,12 +1,14 @@
 -- Whole trees that follow one another in a table.
-use Rattle.std.proofs.Common.{◌≡◌, ℕ, zero, suc, pred, ◌+◌, ◌<◌, ◌≤◌, List, [], ◌∷◌, ◌++◌, length, drop, refl, sym, ap, ◌∙◌, arith, true, false}
+use Rattle.std.proofs.Common.{◌≡◌, ℕ, zero, suc, pred, ◌+◌, ◌<◌, ◌≤◌, List, [], ◌∷◌, ◌++◌, length, drop, refl, sym, ap}
+use Rattle.std.proofs.Common.{◌∙◌, arith, true, false}
 use Rattle.apollo_tree.specs.declared.record.Record.{Record}
 use Rattle.document_grammar.specs.Forests.{Forest, none, leaf, node, text, count}
 use Rattle.apollo_tree.specs.Records.{records, further}
 use Rattle.apollo_tree.specs.Children.{tiled}
 use Rattle.apollo_tree.specs.ReadBack.{length-records}
 
-pub size-parts : (n : ℕ) (rs : List Record) → elim n [ zero ↦ false | suc m ↦ tiled m rs ] ≡ true → (0 < n) × (tiled (pred n) rs ≡ true)
+pub size-parts : (n : ℕ) (rs : List Record) → elim n [ zero ↦ false | suc m ↦ tiled m rs ] ≡ true
+    → (0 < n) × (tiled (pred n) rs ≡ true)
 size-parts zero rs h = absurd cc
 size-parts (suc n) rs h = (omega arith, h)
 
@@ -30,5 +32,6 @@ tiled-records at up (leaf k s rest) = tiled-records (at + length s) (further up 
 tiled-records at up (node k kids rest) =
     let at2 = at + length (text kids) in
     let up2 = further up (suc (count kids)) in
-    ap (λ n. tiled n (records at 1 kids ++ records at2 up2 rest)) (sym (length-records at 1 kids)) ∙ tiled-past (records at 1 kids) _
+    ap (λ n. tiled n (records at 1 kids ++ records at2 up2 rest)) (sym (length-records at 1 kids))
+    ∙ tiled-past (records at 1 kids) _
     ∙ tiled-records at2 up2 rest

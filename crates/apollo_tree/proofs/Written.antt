@@ -3,7 +3,8 @@ use Rattle.std.proofs.Common.{◌≡◌, ℕ, zero, suc, ◌+◌, ◌-◌, List,
 use Rattle.std.proofs.lemmas.List.{append-nil, append_assoc}
 use Rattle.document_grammar.specs.declared.kind.SyntaxKind.{SyntaxKind}
 use Rattle.document_grammar.specs.Forests.{Forest, none, leaf, node, count, join}
-use Rattle.document_grammar.specs.Builds.{Open, Building, start, add_leaf, finish, close, wrap, front, back, open_count, CanOpenAt}
+use Rattle.document_grammar.specs.Builds.{Open, Building, start, add_leaf, finish, close, wrap, front, back, open_count}
+use Rattle.document_grammar.specs.Builds.{CanOpenAt}
 use Rattle.apollo_tree.specs.Brackets.{Bracket, Opening, Single, Closing, brackets, open_brackets, written, open_at}
 use Rattle.apollo_tree.specs.Sound.{CanFinish, FitsInnermost}
 use Rattle.document_grammar.proofs.Built.{join-front_back}
@@ -20,9 +21,11 @@ written-start k b = append-nil _ ∙ sym (append_assoc (open_brackets b.above) (
 
 -- whole trees
 pub written-joined : (f : Forest) (b : Building) → written (record b { here = join b.here f }) ≡ written b ++ brackets f
-written-joined f b = ap (λ x. open_brackets b.above ++ x) (brackets-join b.here f) ∙ sym (append_assoc (open_brackets b.above) (brackets b.here) _)
+written-joined f b = ap (λ x. open_brackets b.above ++ x) (brackets-join b.here f)
+    ∙ sym (append_assoc (open_brackets b.above) (brackets b.here) _)
 
-pub written-leaf : (k : SyntaxKind) (s : List ℕ) (b : Building) → written (add_leaf k s b) ≡ written b ++ Single k s ∷ []
+pub written-leaf : (k : SyntaxKind) (s : List ℕ) (b : Building)
+    → written (add_leaf k s b) ≡ written b ++ Single k s ∷ []
 written-leaf k s b = written-joined (leaf k s none) b
 
 close-written : (here : Forest) (above : List Open) → FitsInnermost here above
@@ -69,7 +72,8 @@ elements-open (o ∷ above) =
       elements-open above,
     )
 
-open-past : (n : ℕ) (k : SyntaxKind) (xs ys : List Bracket) → n ≡ elements xs → open_at n k (xs ++ ys) ≡ xs ++ open_at 0 k ys
+open-past : (n : ℕ) (k : SyntaxKind) (xs ys : List Bracket) → n ≡ elements xs
+    → open_at n k (xs ++ ys) ≡ xs ++ open_at 0 k ys
 open-past n k [] ys e = ap (λ m. open_at m k ys) e
 open-past n k (Closing ∷ xs) ys e = ap (λ x. Closing ∷ x) (open-past n k xs ys e)
 open-past zero k (Opening l ∷ xs) ys e = absurd (omega arith)
@@ -82,14 +86,17 @@ open-first k none = refl
 open-first k (leaf l s rest) = refl
 open-first k (node l kids rest) = refl
 
-pub written-wrap : (p : ℕ) (k : SyntaxKind) (b : Building) → CanOpenAt p b → written (wrap p k b) ≡ open_at p k (written b)
+pub written-wrap : (p : ℕ) (k : SyntaxKind) (b : Building) → CanOpenAt p b
+    → written (wrap p k b) ≡ open_at p k (written b)
 written-wrap p k b can_open =
     let n = p - open_count b.above in
     let f = front n b.here in
     let g = back n b.here in
     let xs = open_brackets b.above ++ brackets f in
-    let whole : written b ≡ xs ++ brackets g = ap (λ x. open_brackets b.above ++ brackets x) (sym (join-front_back n b.here))
-    ∙ ap (λ x. open_brackets b.above ++ x) (brackets-join f g) ∙ sym (append_assoc (open_brackets b.above) (brackets f) (brackets g)) in
+    let whole : written b ≡ xs ++ brackets g =
+    ap (λ x. open_brackets b.above ++ brackets x) (sym (join-front_back n b.here))
+    ∙ ap (λ x. open_brackets b.above ++ x) (brackets-join f g)
+    ∙ sym (append_assoc (open_brackets b.above) (brackets f) (brackets g)) in
     let l : p ≡ elements xs = sym (elements-append (open_brackets b.above) (brackets f)
     ∙ omega (arith, elements-open b.above, elements-brackets f, can_open.inside, can_open.seam)) in
     sym (ap (open_at p k) whole ∙ open-past p k xs (brackets g) l ∙ ap (λ x. xs ++ x) (open-first k g)

@@ -14,6 +14,7 @@ first_parents zero p = []
 first_parents (suc n) None = []
 first_parents (suc n) (Some p) = p ∷ first_parents n (parent_place p)
 
--- all of them: a parent comes before its children in document order, so there are no more than the places up to the element's own
+-- all of them: a parent comes before its children in document order, so there are no more than the places up to the
+-- element's own
 abbrev pub at_or_above : Place → List Place
 at_or_above p = first_parents (suc p.index) (Some p)

@@ -24,4 +24,5 @@ is_leaf_place p = not (is_node_place p)
 -- whether the element is a node with the kind and the range of a pointer
 abbrev pub is_pointed : SyntaxKind × (ℕ × ℕ) → Place → Bool
 is_pointed pointer p =
-    is_node_place p && (is_kind pointer.0 (kind_at p) && ((range_at p).0 == pointer.1.0 && (range_at p).1 == pointer.1.1))
+    is_node_place p && (is_kind pointer.0 (kind_at p)
+    && ((range_at p).0 == pointer.1.0 && (range_at p).1 == pointer.1.1))

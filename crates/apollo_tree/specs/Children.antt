@@ -1,5 +1,6 @@
 -- The places of the trees that follow one another in a table.
-use Rattle.std.specs.Prelude.{◌≡◌, ℕ, zero, suc, pred, ◌-◌, ◌≤◌, List, [], ◌∷◌, length, take, drop, map, Bool, true, false}
+use Rattle.std.specs.Prelude.{◌≡◌, ℕ, zero, suc, pred, ◌-◌, ◌≤◌, List, [], ◌∷◌, length, take, drop, map, Bool, true}
+use Rattle.std.specs.Prelude.{false}
 use Rattle.std.specs.List.{filter}
 use Rattle.apollo_tree.specs.declared.record.Record.{Record}
 use Rattle.apollo_tree.specs.Order.{Place, element, tree_at, is_node}

@@ -12,7 +12,9 @@ abbrev pub table_code : Coded (List Record × List ℕ)
 table_code = coded× (coded_list row.the_row.coded) (coded_list coded_ℕ)
 
 abbrev pub forest_code : Coded Forest
-forest_code = code_by (List Record × List ℕ) table_code (λ f. (records 0 0 f, text f)) (λ p. forest p.1 p.0) forest-records
+forest_code = code_by (List Record × List ℕ) table_code (λ f. (records 0 0 f, text f))
+    (λ p. forest p.1 p.0) forest-records
 
 abbrev pub building_code : Coded Building
-building_code = code_by (List Record × List ℕ) table_code (λ b. (built_records b, built_text b)) (λ p. built p.1 p.0) built-records
+building_code = code_by (List Record × List ℕ) table_code (λ b. (built_records b, built_text b))
+    (λ p. built p.1 p.0) built-records

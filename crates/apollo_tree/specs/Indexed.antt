@@ -16,4 +16,5 @@ indexed p = record {
 
 -- the element with an index, if there are more elements than that
 abbrev pub element_at : Forest → ℕ → Option IndexedElement
-element_at whole index = if nat_lt index (length (order whole)) then Some (indexed (record { whole = whole; index = index })) else None
+element_at whole index =
+    if nat_lt index (length (order whole)) then Some (indexed (record { whole = whole; index = index })) else None

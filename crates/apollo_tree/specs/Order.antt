@@ -1,5 +1,7 @@
--- The elements of a tree, its leaves and nodes, in document order: each with its tree, its range, its parent and its children.
-use Rattle.std.specs.Prelude.{ℕ, suc, ◌+◌, List, [], ◌∷◌, ◌++◌, length, get_or, Bool, true, false, Option, Some, None, option_map}
+-- The elements of a tree, its leaves and nodes, in document order: each with its tree, its range, its parent and its
+-- children.
+use Rattle.std.specs.Prelude.{ℕ, suc, ◌+◌, List, [], ◌∷◌, ◌++◌, length, get_or, Bool, true, false, Option, Some, None}
+use Rattle.std.specs.Prelude.{option_map}
 use Rattle.document_grammar.specs.declared.kind.SyntaxKind.{SyntaxKind}
 use Rattle.document_grammar.specs.declared.kind.SyntaxKind.TheVariants.{ERROR}
 use Rattle.document_grammar.specs.Forests.{Forest, none, leaf, node, Tree, Leaf, Node, text, count}
@@ -37,7 +39,8 @@ places i (node k kids rest) = i ∷ places (suc (i + count kids)) rest
 abbrev pub order_from : ℕ → ℕ → Option ℕ → Forest → List Element
 order_from at i parent none = []
 order_from at i parent (leaf k s rest) =
-    record { tree = Leaf k s; start = at; parent = parent; children = [] } ∷ order_from (at + length s) (suc i) parent rest
+    record { tree = Leaf k s; start = at; parent = parent; children = [] }
+    ∷ order_from (at + length s) (suc i) parent rest
 order_from at i parent (node k kids rest) =
     record { tree = Node k kids; start = at; parent = parent; children = places (suc i) kids }
     ∷ (order_from at (suc i) (Some i) kids ++ order_from (at + length (text kids)) (suc (i + count kids)) parent rest)
@@ -65,7 +68,8 @@ kind_at p = tree_kind (tree_at p)
 abbrev pub text_at : Place → List ℕ
 text_at p = tree_text (tree_at p)
 
--- the bytes of the whole text that the element's text takes up: the offset where it begins, and the offset where it has ended
+-- the bytes of the whole text that the element's text takes up: the offset where it begins, and the offset where it has
+-- ended
 abbrev pub range_at : Place → ℕ × ℕ
 range_at p = ((element p).start, (element p).start + length (text_at p))
 

@@ -17,11 +17,14 @@ takes_record takes r = takes r.is_node r.kind
 
 -- the trees of a span that the test takes
 abbrev pub taken_places : (Bool → SyntaxKind → Bool) → Forest → List Record → ℕ → ℕ → List Place
-taken_places takes whole rs from to = filter (takes_place takes) (map (λ i. record { whole = whole; index = i }) (span_heads rs from to))
+taken_places takes whole rs from to =
+    filter (takes_place takes) (map (λ i. record { whole = whole; index = i }) (span_heads rs from to))
 
 -- none of the trees before a place is one of them
 abbrev pub PassesOver : (Bool → SyntaxKind → Bool) → List Record → ℕ → ℕ → ℕ → Type 0
-PassesOver takes rs from at to = (s : List ℕ) → IsTable rs s → taken_places takes (forest s rs) rs from to ≡ taken_places takes (forest s rs) rs at to
+PassesOver takes rs from at to =
+    (s : List ℕ) → IsTable rs s
+    → taken_places takes (forest s rs) rs from to ≡ taken_places takes (forest s rs) rs at to
 
 -- the first tree of a span that the test takes: where its record is, and the record
 pub record IsFirst (takes : Bool → SyntaxKind → Bool) (rs : List Record) (from to : ℕ) (found : Found) : Type 0 where

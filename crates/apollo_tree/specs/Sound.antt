@@ -2,7 +2,8 @@
 use Rattle.std.specs.Prelude.{◌≡◌, ℕ, List, [], ◌∷◌, ◌⊎◌, ⊤, codes}
 use Rattle.std.specs.Str.{IsUtf8}
 use Rattle.document_grammar.specs.declared.kind.SyntaxKind.{SyntaxKind}
-use Rattle.document_grammar.specs.declared.kind.SyntaxKind.TheVariants.{IDENT, INT, STRING, true_KW, false_KW, NAME, INT_VALUE, STRING_VALUE, BOOLEAN_VALUE}
+use Rattle.document_grammar.specs.declared.kind.SyntaxKind.TheVariants.{IDENT, INT, STRING, true_KW, false_KW, NAME}
+use Rattle.document_grammar.specs.declared.kind.SyntaxKind.TheVariants.{INT_VALUE, STRING_VALUE, BOOLEAN_VALUE}
 use Rattle.document_grammar.specs.Forests.{Forest, none, leaf, node, Tree, Leaf, Node}
 use Rattle.document_grammar.specs.Builds.{Open, Building}
 use Rattle.lexical_grammar.specs.Tokens.{IsName, IsString}

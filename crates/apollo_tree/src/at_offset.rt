@@ -23,7 +23,8 @@ impl<'t> TokenAtOffset<'t> {
 
     // The leaf before an offset and the leaf after it, as one answer.
     fn new(left: Option<SyntaxToken<'t>>, right: Option<SyntaxToken<'t>>) -> TokenAtOffset<'t>
-        ensures { answer_places result ≡ option_to_list (option_map token_place left.entry) ++ option_to_list (option_map token_place right.entry) }
+        ensures { answer_places result ≡ option_to_list (option_map token_place left.entry)
+            ++ option_to_list (option_map token_place right.entry) }
     {
         match (left, right) {
             (None, None) => TokenAtOffset::None,
@@ -73,7 +74,8 @@ impl<'t> Table<'t> {
         low
     }
 
-    // The first of the records from one up to another that begins at a byte offset or after it, or that other if none does.
+    // The first of the records from one up to another that begins at a byte offset or after it, or that other if none
+    // does.
     fn first_from(self, from: usize, to: usize, offset: usize) -> usize
         requires order { from ≤ to }
         requires inside { to ≤ length (readable self.records) }
@@ -92,7 +94,8 @@ impl<'t> Table<'t> {
     fn last_leaf(self, from: usize, to: usize, offset: usize) -> Option<SyntaxToken<'t>>
         requires inside { to ≤ length (readable self.records) }
         requires others { (k : ℕ) → from ≤ k → k + 1 < to → is_at_offset offset (table_place self k) ≡ false }
-        ensures { option_to_list (option_map token_place result) ≡ filter (is_at_offset offset) (places_from (table_tree self.entry) from (to - from)) }
+        ensures { option_to_list (option_map token_place result)
+            ≡ filter (is_at_offset offset) (places_from (table_tree self.entry) from (to - from)) }
     {
         if to <= from {
             return None;
@@ -109,7 +112,8 @@ impl<'t> Table<'t> {
     pub(crate) fn tokens_at(self, from: usize, to: usize, offset: usize) -> TokenAtOffset<'t>
         requires order { from ≤ to }
         requires inside { to ≤ length (readable self.records) }
-        ensures { answer_places result ≡ filter (is_at_offset offset) (places_from (table_tree self.entry) from (to - from)) }
+        ensures { answer_places result
+            ≡ filter (is_at_offset offset) (places_from (table_tree self.entry) from (to - from)) }
     {
         let here = self.first_from(from, to, offset);
         let next = self.first_after(here, to, offset);

@@ -63,8 +63,8 @@ impl<'t, A: Allocator> BorrowedSubtree<'t, A> {
         self.table().element_count()
     }
 
-    /// The element with an index, in constant time. The index counts the elements before it in document order: the root has 0. `None` where
-    /// there are no more elements than that.
+    /// The element with an index, in constant time. The index counts the elements before it in document order: the root
+    /// has 0. `None` where there are no more elements than that.
     pub fn element(&self, index: usize) -> Option<IndexedElement>
         ensures { result ≡ element_at self.now index }
     {

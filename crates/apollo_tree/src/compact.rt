@@ -11,16 +11,19 @@ use std::mem::size_of;
 
 /// A node or a leaf of a tree with fewer than 2 ^ 28 elements, whose text has fewer than 2 ^ 31 bytes.
 ///
-/// Elements are in document order: the first child of a node is the element after it, and the next child after a child comes after all elements of
-/// that child's subtree. The text of an element ends where the text begins of the element after its subtree, or with the tree's.
+/// Elements are in document order: the first child of a node is the element after it, and the next child after a child
+/// comes after all elements of that child's subtree. The text of an element ends where the text begins of the element
+/// after its subtree, or with the tree's.
 #[repr(C)]
 #[derive(Clone, Copy)]
 pub struct CompactElement {
     /// The byte offset at which its text begins, and 2 ^ 31 more for a node.
     pub start_and_node: u32,
-    /// Sixteen times the number of elements in its subtree, itself counted, and the highest four bits of the distance to its parent.
+    /// Sixteen times the number of elements in its subtree, itself counted, and the highest four bits of the distance
+    /// to its parent.
     pub size_and_parent: u32,
-    /// The lowest sixteen bits of the distance to its parent: how many elements before it its parent is, or 0 for the root.
+    /// The lowest sixteen bits of the distance to its parent: how many elements before it its parent is, or 0 for the
+    /// root.
     pub parent_low: u16,
     /// The eight bits of the distance between those.
     pub parent_middle: u8,
@@ -45,8 +48,8 @@ fn write_all<R: Packed>(records: &[R], rows: &mut [CompactElement])
 // How many records take so much memory that its half is worth giving back.
 const MANY: usize = 1 << 16;
 
-// Writes the records of a table that ends here, as far as there is room. Of many, it writes the later half first, and gives its memory back before the rows of
-// the first half take theirs.
+// Writes the records of a table that ends here, as far as there is room. Of many, it writes the later half first, and
+// gives its memory back before the rows of the first half take theirs.
 #[inline(always)]
 pub fn write_and_free<R: Packed, A: Allocator>(records: Vec<R, A>, rows: &mut [CompactElement])
     requires { All IsSmall (map R.plain records.items) }

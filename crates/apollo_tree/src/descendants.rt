@@ -4,7 +4,8 @@ ghost use Rattle.apollo_tree.specs.Forms.{readable};
 use crate::children::SyntaxElement;
 use crate::node::{SyntaxNode, Table};
 
-/// A node and all elements below it, leaves too, in document order. It is one walk over the records of a table, which are in that order.
+/// A node and all elements below it, leaves too, in document order. It is one walk over the records of a table, which
+/// are in that order.
 #[derive(Clone, Copy)]
 pub struct SyntaxElementDescendants<'t> {
     pub(crate) table: Table<'t>,

@@ -7,10 +7,12 @@ ghost use Rattle.apollo_tree.specs.References.{table_place, table_tree};
 use crate::node::Table;
 use document_grammar::SyntaxKind;
 
-/// A node or a leaf of a tree as plain numbers. It borrows nothing, so it can be written into a table or handed to another language.
+/// A node or a leaf of a tree as plain numbers. It borrows nothing, so it can be written into a table or handed to
+/// another language.
 ///
-/// An index counts the elements before an element in document order. Those below a node with the index `i` are `i + 1..after_subtree`: the
-/// first of them is its first child, and the next child after a child is at that child's own `after_subtree`.
+/// An index counts the elements before an element in document order. Those below a node with the index `i` are `i +
+/// 1..after_subtree`: the first of them is its first child, and the next child after a child is at that child's own
+/// `after_subtree`.
 #[derive(Clone, Copy, PartialEq, Eq, Debug)]
 pub struct IndexedElement {
     /// The element's kind.

@@ -1,11 +1,13 @@
-ghost use Rattle.std.specs.Prelude.{◌≡◌, ◌⊎◌, ℕ, suc, ◌+◌, ◌^◌, ◌<◌, ◌≤◌, [], ◌∷◌, ◌++◌, length, take, drop, true, OnErr, OnOk, IfOk, string_bytes};
+ghost use Rattle.std.specs.Prelude.{◌≡◌, ◌⊎◌, ℕ, suc, ◌+◌, ◌^◌, ◌<◌, ◌≤◌, [], ◌∷◌, ◌++◌, length, take, drop, true};
+ghost use Rattle.std.specs.Prelude.{OnErr, OnOk, IfOk, string_bytes};
 ghost use Rattle.apollo_tree.specs.Sound.{CanFinish, Fits};
 ghost use Rattle.apollo_tree.specs.Open.{IsComplete, start_behind, up_at};
 ghost use Rattle.apollo_tree.specs.Brackets.{Opening, Single, Closing, brackets, written, open_at};
 ghost use Rattle.apollo_tree.specs.Children.{tiled};
 ghost use Rattle.apollo_tree.specs.Adopted.{after_adoption};
 ghost use Rattle.document_grammar.specs.Forests.{Forest, none, leaf as leaf_of};
-ghost use Rattle.document_grammar.specs.Builds.{nothing, start, add_leaf, finish, wrap, CanOpenAt, built_count, built_text};
+ghost use Rattle.document_grammar.specs.Builds.{nothing, start, add_leaf, finish, wrap, CanOpenAt, built_count};
+ghost use Rattle.document_grammar.specs.Builds.{built_text};
 
 use crate::borrowed::BorrowedSubtree;
 use crate::record::Record;
@@ -22,13 +24,14 @@ pub struct Checkpoint {
     pub index: usize,
 }
 
-/// Builds a tree of a text that is at hand elsewhere, from its leaves and the starts and ends of its nodes, called in document order. It keeps how
-/// long the leaves are, and no text: the finished tree borrows it.
+/// Builds a tree of a text that is at hand elsewhere, from its leaves and the starts and ends of its nodes, called in
+/// document order. It keeps how long the leaves are, and no text: the finished tree borrows it.
 ///
-/// Contracts see it as the trees in the innermost open node, and the open nodes from there outward. Each call also says which brackets
-/// have been written: a start opens, a finish closes, and a wrap opens at the index of its checkpoint.
-/// The text of all leaves has to be shorter than 2 ^ 64 bytes, as it is where each leaf is a part of one source and none is added twice.
-/// A call fails only when memory is refused, and then leaves what has been built as it was; `leaf_node` may have opened its node.
+/// Contracts see it as the trees in the innermost open node, and the open nodes from there outward. Each call also says
+/// which brackets have been written: a start opens, a finish closes, and a wrap opens at the index of its checkpoint.
+/// The text of all leaves has to be shorter than 2 ^ 64 bytes, as it is where each leaf is a part of one source and
+/// none is added twice. A call fails only when memory is refused, and then leaves what has been built as it was;
+/// `leaf_node` may have opened its node.
 #[derive(Drop)]
 pub struct SpanBuilder<A: Allocator = Global> {
     records: RecordTable<A>,
@@ -52,7 +55,8 @@ impl<A: Allocator> Model for SpanBuilder<A> {
 
     ghost view = { λ a. built a.leaf_text.value a.records };
 
-    ghost invariant = { λ a. Holds (built a.leaf_text.value a.records) a.records a.unfinished.items a.leaf_text.value × (a.len ≡ length a.leaf_text.value) };
+    ghost invariant = { λ a. Holds (built a.leaf_text.value a.records) a.records a.unfinished.items a.leaf_text.value
+        × (a.len ≡ length a.leaf_text.value) };
 }
 
 impl<A: Allocator + Copy> SpanBuilder<A> {
@@ -76,7 +80,8 @@ impl<A: Allocator + Copy> SpanBuilder<A> {
         self.records.reserve(elements)
     }
 
-    // Opens a node as `start_node` does, where memory may have to grow. In one function the compiler would save registers for this on every call.
+    // Opens a node as `start_node` does, where memory may have to grow. In one function the compiler would save
+    // registers for this on every call.
     #[cold]
     #[inline(never)]
     fn start_node_growing(&mut self, kind: SyntaxKind) -> Result<(), AllocError>
@@ -137,7 +142,8 @@ impl<A: Allocator + Copy> SpanBuilder<A> {
         Ok(())
     }
 
-    // The byte offset in the text at which the element at an index begins, or the text's length when the index is the end.
+    // The byte offset in the text at which the element at an index begins, or the text's length when the index is the
+    // end.
     fn start_behind(&self, index: usize) -> usize
         requires { CanOpenAt index self.now }
         ensures { result ≡ start_behind index self.now }
@@ -177,7 +183,8 @@ impl<A: Allocator + Copy> SpanBuilder<A> {
         Ok(())
     }
 
-    /// Adds a leaf after the trees built so far. The leaves' texts, joined, are the tree's text, which has to stay shorter than 2 ^ 64 bytes.
+    /// Adds a leaf after the trees built so far. The leaves' texts, joined, are the tree's text, which has to stay
+    /// shorter than 2 ^ 64 bytes.
     pub fn token(&mut self, kind: SyntaxKind, text: &str) -> Result<(), AllocError>
         requires { length (built_text self.old) + length text.now < 2 ^ 64 }
         ensures ok { OnOk result (self.new ≡ add_leaf kind text.now self.old) }
@@ -206,7 +213,8 @@ impl<A: Allocator + Copy> SpanBuilder<A> {
         requires leaf { Fits node (leaf_of leaf text.now none) }
         requires len { length (built_text self.old) + length text.now < 2 ^ 64 }
         ensures ok { OnOk result (self.new ≡ finish (add_leaf leaf text.now (start node self.old))) }
-        ensures calls { OnOk result (written self.new ≡ written self.old ++ Opening node ∷ Single leaf text.now ∷ Closing ∷ []) }
+        ensures calls { OnOk result
+            (written self.new ≡ written self.old ++ Opening node ∷ Single leaf text.now ∷ Closing ∷ []) }
         ensures err { OnErr result ((self.new ≡ self.old) ⊎ (self.new ≡ start node self.old)) }
     {
         self.start_node(node)?;
@@ -215,8 +223,8 @@ impl<A: Allocator + Copy> SpanBuilder<A> {
         Ok(())
     }
 
-    /// Adds a node of one leaf, as `start_node`, `token` and `finish_node` do together, and asks what `token` and `finish_node` ask. When it
-    /// fails the node may have been opened.
+    /// Adds a node of one leaf, as `start_node`, `token` and `finish_node` do together, and asks what `token` and
+    /// `finish_node` ask. When it fails the node may have been opened.
     pub fn leaf_node(
         &mut self,
         node: SyntaxKind,
@@ -226,7 +234,8 @@ impl<A: Allocator + Copy> SpanBuilder<A> {
         requires leaf { Fits node (leaf_of leaf text.now none) }
         requires len { length (built_text self.old) + length text.now < 2 ^ 64 }
         ensures ok { OnOk result (self.new ≡ finish (add_leaf leaf text.now (start node self.old))) }
-        ensures calls { OnOk result (written self.new ≡ written self.old ++ Opening node ∷ Single leaf text.now ∷ Closing ∷ []) }
+        ensures calls { OnOk result
+            (written self.new ≡ written self.old ++ Opening node ∷ Single leaf text.now ∷ Closing ∷ []) }
         ensures err { OnErr result ((self.new ≡ self.old) ⊎ (self.new ≡ start node self.old)) }
     {
         let to_parent = self.to_parent(self.checkpoint().index);
@@ -242,7 +251,8 @@ impl<A: Allocator + Copy> SpanBuilder<A> {
 
     /// Closes the innermost open node. It takes no memory and can't fail.
     ///
-    /// A node of the kind NAME, INT_VALUE, STRING_VALUE or BOOLEAN_VALUE must hold one leaf, the one of its row, whose text is a token of its kind.
+    /// A node of the kind NAME, INT_VALUE, STRING_VALUE or BOOLEAN_VALUE must hold one leaf, the one of its row, whose
+    /// text is a token of its kind.
     pub fn finish_node(&mut self)
         requires { CanFinish self.old }
         ensures after { self.new ≡ finish self.old }
@@ -266,7 +276,8 @@ impl<A: Allocator + Copy> SpanBuilder<A> {
         Subtree { records, text }
     }
 
-    /// The finished tree, once all nodes are closed and there is one root. It borrows its text from a source that begins with it.
+    /// The finished tree, once all nodes are closed and there is one root. It borrows its text from a source that
+    /// begins with it.
     pub fn finish(self, source: &str) -> BorrowedSubtree<'_, A>
         requires complete { IsComplete self }
         requires source { take (length (built_text self)) source.now ≡ built_text self }

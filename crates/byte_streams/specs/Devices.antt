@@ -1,7 +1,8 @@
 -- What is known of a reader or a writer: the calls on it so far.
 use Rattle.std.specs.Prelude.{ℕ, zero, suc, ◌+◌, List, [], ◌++◌, take, Result, Ok, Err}
 
--- The bytes that went through a device, how often it stopped (a reader at its end, a writer that took no byte), and how often it failed.
+-- The bytes that went through a device, how often it stopped (a reader at its end, a writer that took no byte), and how
+-- often it failed.
 pub record Account : Type 0 where
   pub bytes : List ℕ
   pub stops : ℕ

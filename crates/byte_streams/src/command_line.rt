@@ -5,7 +5,8 @@ use std::rt;
 // How many bytes the system gives a word at most.
 const MOST: usize = 131_072;
 
-// A word as a text. One that is not UTF-8 gets a zero byte at its end, which no path has, so that it is an error of its own and stops no other.
+// A word as a text. One that is not UTF-8 gets a zero byte at its end, which no path has, so that it is an error of its
+// own and stops no other.
 fn word_of<A: Allocator>(alloc: A, bytes: &[u8]) -> Result<String<A>, AllocError> {
     let mut word = String::from_utf8_lossy(alloc, bytes)?;
     if word.as_bytes() != bytes {

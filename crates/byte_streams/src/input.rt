@@ -11,7 +11,8 @@ use std::alloc::Allocator;
 #[tactic(auto, using(crate::proofs::Accounts::moved_nil, crate::proofs::Accounts::moved_moved))]
 pub fn read_to_end<A: Allocator, R: Source>(alloc: A, reader: &mut R) -> Result<Vec<u8, A>, Fault>
     ensures ok { IfOk result (λ bytes. R.account reader.new ≡ stopped (moved (R.account reader.old) bytes.items)) }
-    ensures err { IfErr result (λ fault. (input : List ℕ) × EndsReading fault (moved (R.account reader.old) input) (R.account reader.new)) }
+    ensures err { IfErr result
+        (λ fault. (input : List ℕ) × EndsReading fault (moved (R.account reader.old) input) (R.account reader.new)) }
 {
     let mut bytes = Vec::new(alloc);
     let mut buffer = [0u8; 65536];

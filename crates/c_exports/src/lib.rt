@@ -1,6 +1,7 @@
 //! The calls of `c_parsing` and `c_validation` for C, each with its contract: a static library, which Python loads too.
 //!
-//! `bindings/c/include/dumyroke.h` declares them and says what each number is, and `bindings/c/tests/edges.c` calls each of them.
+//! `bindings/c/include/dumyroke.h` declares them and says what each number is, and `bindings/c/tests/edges.c` calls
+//! each of them.
 #![tactic(auto)]
 
 ghost use Rattle.std.specs.Prelude.{◌≡◌};
@@ -29,7 +30,8 @@ pub extern "C" fn dumyroke_parse(
     counts: &mut Counts,
 ) -> u32
     ensures status { result ≡ counts.new.status }
-    ensures outcome { Outcome source.now limits.recursion limits.tokens (record { elements = elements.old; errors = errors.old; messages = messages.old })
+    ensures outcome { Outcome source.now limits.recursion limits.tokens
+        (record { elements = elements.old; errors = errors.old; messages = messages.old })
         (record { elements = elements.new; errors = errors.new; messages = messages.new }) counts.new }
 {
     *counts = parse_into(alloc, source, limits, elements, errors, messages);
@@ -48,7 +50,8 @@ pub extern "C" fn dumyroke_parse_selection_set(
     counts: &mut Counts,
 ) -> u32
     ensures status { result ≡ counts.new.status }
-    ensures outcome { SelectionSetOutcome source.now limits.recursion limits.tokens (record { elements = elements.old; errors = errors.old; messages = messages.old })
+    ensures outcome { SelectionSetOutcome source.now limits.recursion limits.tokens
+        (record { elements = elements.old; errors = errors.old; messages = messages.old })
         (record { elements = elements.new; errors = errors.new; messages = messages.new }) counts.new }
 {
     *counts = parse_selection_set_into(alloc, source, limits, elements, errors, messages);
@@ -67,7 +70,8 @@ pub extern "C" fn dumyroke_parse_type(
     counts: &mut Counts,
 ) -> u32
     ensures status { result ≡ counts.new.status }
-    ensures outcome { TypeOutcome source.now limits.recursion limits.tokens (record { elements = elements.old; errors = errors.old; messages = messages.old })
+    ensures outcome { TypeOutcome source.now limits.recursion limits.tokens
+        (record { elements = elements.old; errors = errors.old; messages = messages.old })
         (record { elements = elements.new; errors = errors.new; messages = messages.new }) counts.new }
 {
     *counts = parse_type_into(alloc, source, limits, elements, errors, messages);
@@ -86,7 +90,8 @@ pub extern "C" fn dumyroke_lex(
     counts: &mut Counts,
 ) -> u32
     ensures status { result ≡ counts.new.status }
-    ensures outcome { ItemsOutcome source.now token_limit (record { items = items.old; errors = errors.old; messages = messages.old })
+    ensures outcome { ItemsOutcome source.now token_limit
+        (record { items = items.old; errors = errors.old; messages = messages.old })
         (record { items = items.new; errors = errors.new; messages = messages.new }) counts.new }
 {
     *counts = lex_into(alloc, source, token_limit, items, errors, messages);
@@ -117,7 +122,8 @@ pub extern "C" fn dumyroke_format(
     formatted: &mut [u8],
     bytes: &mut usize,
 ) -> u32
-    ensures { FormatOutcome source.now limits.recursion limits.tokens formatted.old formatted.new (record { bytes = bytes.new; status = result }) }
+    ensures { FormatOutcome source.now limits.recursion limits.tokens formatted.old formatted.new
+        (record { bytes = bytes.new; status = result }) }
 {
     let count = format_into(alloc, source, limits, formatted);
     *bytes = count.bytes;
@@ -136,7 +142,8 @@ pub extern "C" fn dumyroke_validate(
     counts: &mut ViolationCounts,
 ) -> u32
     ensures status { result ≡ counts.new.status }
-    ensures outcome { ValidationOutcome source.now limits.recursion limits.tokens most (record { violations = violations.old; messages = messages.old })
+    ensures outcome { ValidationOutcome source.now limits.recursion limits.tokens most
+        (record { violations = violations.old; messages = messages.old })
         (record { violations = violations.new; messages = messages.new }) counts.new }
 {
     *counts = validate_into(alloc, source, limits, most, violations, messages);
@@ -153,7 +160,8 @@ pub extern "C" fn dumyroke_measure(
     counts: &mut MeasureCounts,
 ) -> u32
     ensures status { result ≡ counts.new.status }
-    ensures outcome { MeasureOutcome source.now limits.recursion limits.tokens operations.old operations.new counts.new }
+    ensures outcome { MeasureOutcome source.now limits.recursion limits.tokens operations.old
+        operations.new counts.new }
 {
     *counts = measure_into(alloc, source, limits, operations);
     counts.status

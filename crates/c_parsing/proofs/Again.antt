@@ -39,7 +39,8 @@ length-rows index (e ∷ es) = ap suc (length-rows (suc index) es)
 text-prop : (xs ys : List ℕ) → IsProp (xs ≡ ys)
 text-prop xs ys = hlevel props
 
-same-value : (text value other : List ℕ) → (Quoted text value ⊎ Block text value) → (Quoted text other ⊎ Block text other) → value ≡ other
+same-value : (text value other : List ℕ) → (Quoted text value ⊎ Block text value)
+    → (Quoted text other ⊎ Block text other) → value ≡ other
 same-value text value other first second = ⊎_elim
     (λ (q : Quoted text value). ⊎_elim (λ (p : Quoted text other). quoted-one text value other q p)
     (λ (b : Block text other). absurd (one-form text value other q b)) second)
@@ -49,10 +50,13 @@ same-value text value other first second = ⊎_elim
 
 one-value : (text value other : List ℕ) → IsStringValue text value → IsStringValue text other → value ≡ other
 one-value text value other first second =
-    ∥∥₁_elim first (text-prop value other) (λ f. ∥∥₁_elim second (text-prop value other) (λ s. same-value text value other f s))
+    ∥∥₁_elim first (text-prop value other)
+    (λ f. ∥∥₁_elim second (text-prop value other) (λ s. same-value text value other f s))
 
-pub string-value-again : (literal before after room value : List ℕ) (first second : ByteCount) → StringOutcome literal before after first → first.status ≡ OK
-    → StringOutcome literal room value second → second.status ≡ OK → length room ≡ first.bytes → IsStringValue literal value
+pub string-value-again : (literal before after room value : List ℕ) (first second : ByteCount)
+    → StringOutcome literal before after first → first.status ≡ OK
+    → StringOutcome literal room value second → second.status ≡ OK → length room ≡ first.bytes
+    → IsStringValue literal value
 string-value-again literal before after room value first second one ok two ok' asked =
     let f = one.ok ok in
     let s = two.ok ok' in
@@ -61,9 +65,11 @@ string-value-again literal before after room value first second one ok two ok' a
 
 -- ---- parses
 
-pub parse-again : (source : List ℕ) (r k : ℕ) (before after room filled_room : Buffers) (first second : Counts) → Outcome source r k before after first
+pub parse-again : (source : List ℕ) (r k : ℕ) (before after room filled_room : Buffers) (first second : Counts)
+    → Outcome source r k before after first
     → first.status ≡ OK
-    → Outcome source r k room filled_room second → second.status ≡ OK → (second ≡ first) × (HasRoom room first → HoldParse source r k filled_room)
+    → Outcome source r k room filled_room second → second.status ≡ OK
+    → (second ≡ first) × (HasRoom room first → HoldParse source r k filled_room)
 parse-again source r k before after room filled_room first second one ok two ok' =
     let f = one.ok ok in
     let s = two.ok ok' in
@@ -74,13 +80,16 @@ parse-again source r k before after room filled_room first second one ok two ok'
         parse = s.1;
         elements = ap (λ (b : Buffers). b.elements) s.2
             ∙ filled-whole room.elements (compact_elements s.0.tree)
-            (asked.elements ∙ ap (λ (c : Counts). c.elements) f.3 ∙ ap (λ (p : Parsed). length (order p.tree)) same ∙ sym (length-rows 0 (order s.0.tree)));
+            (asked.elements ∙ ap (λ (c : Counts). c.elements) f.3 ∙ ap (λ (p : Parsed). length (order p.tree)) same
+            ∙ sym (length-rows 0 (order s.0.tree)));
         errors = ap (λ (b : Buffers). b.errors) s.2
             ∙ filled-whole room.errors (error_rows 0 s.0.errors)
-            (asked.errors ∙ ap (λ (c : Counts). c.errors) f.3 ∙ ap (λ (p : Parsed). length p.errors) same ∙ sym (length-error_rows 0 s.0.errors));
+            (asked.errors ∙ ap (λ (c : Counts). c.errors) f.3 ∙ ap (λ (p : Parsed). length p.errors) same
+            ∙ sym (length-error_rows 0 s.0.errors));
         messages = ap (λ (b : Buffers). b.messages) s.2
             ∙ filled-whole room.messages (messages s.0.errors)
-            (asked.messages ∙ ap (λ (c : Counts). c.message_bytes) f.3 ∙ ap (λ (p : Parsed). length (messages p.errors)) same);
+            (asked.messages ∙ ap (λ (c : Counts). c.message_bytes) f.3
+            ∙ ap (λ (p : Parsed). length (messages p.errors)) same);
       },
     )
 
@@ -92,36 +101,44 @@ diagnostic message subject index = record { message = message; subject = subject
 same-parts : (d e : Diagnostic) → d.message ≡ e.message → d.subject ≡ e.subject → d.index ≡ e.index → d ≡ e
 unfolding diagnostic
 same-parts d e message subject index =
-    ap (λ m. diagnostic m d.subject d.index) message ∙ ap (λ s. diagnostic e.message s d.index) subject ∙ ap (λ i. diagnostic e.message e.subject i) index
+    ap (λ m. diagnostic m d.subject d.index) message ∙ ap (λ s. diagnostic e.message s d.index) subject
+    ∙ ap (λ i. diagnostic e.message e.subject i) index
 
 same-error : (answer : Answer) (d e : Diagnostic) → IsLexError answer d → IsLexError answer e → d ≡ e
 same-error (limit_at index) d e first second = first ∙ sym second
 same-error (gives item) d e first second =
     same-parts d e (first.2 ∙ sym second.2) (first.0 ∙ sym second.0) (first.1 ∙ sym second.1)
 
-same-errors : (answers : List Answer) (ds es : List Diagnostic) → AreLexErrors answers ds → AreLexErrors answers es → ds ≡ es
+same-errors : (answers : List Answer) (ds es : List Diagnostic) → AreLexErrors answers ds
+    → AreLexErrors answers es → ds ≡ es
 same-errors [] [] [] first second = refl
 same-errors [] [] (e ∷ es) first second = absurd second
 same-errors [] (d ∷ ds) es first second = absurd first
 same-errors (answer ∷ answers) [] es first second = absurd first
 same-errors (answer ∷ answers) (d ∷ ds) [] first second = absurd second
 same-errors (answer ∷ answers) (d ∷ ds) (e ∷ es) first second =
-    ap (λ x. x ∷ ds) (same-error answer d e first.0 second.0) ∙ ap (λ xs. e ∷ xs) (same-errors answers ds es first.1 second.1)
+    ap (λ x. x ∷ ds) (same-error answer d e first.0 second.0)
+    ∙ ap (λ xs. e ∷ xs) (same-errors answers ds es first.1 second.1)
 
 length-items : (answers : List Answer) → length (map item_row answers) ≡ length answers
 length-items [] = refl
 length-items (answer ∷ answers) = ap suc (length-items answers)
 
-pub items-again : (source : List ℕ) (k : ℕ) (before after room filled_room : ItemBuffers) (first second : Counts) → ItemsOutcome source k before after first
+pub items-again : (source : List ℕ) (k : ℕ) (before after room filled_room : ItemBuffers) (first second : Counts)
+    → ItemsOutcome source k before after first
     → first.status ≡ OK
-    → ItemsOutcome source k room filled_room second → second.status ≡ OK → (second ≡ first) × (HasItemRoom room first → HoldItems source k filled_room)
+    → ItemsOutcome source k room filled_room second → second.status ≡ OK
+    → (second ≡ first) × (HasItemRoom room first → HoldItems source k filled_room)
 items-again source k before after room filled_room first second one ok two ok' =
     let f = one.ok ok in
     let s = two.ok ok' in
     let same : f.0 ≡ s.0 = f.2.answers_are ∙ sym s.2.answers_are in
-    let errors : f.1 ≡ s.1 = same-errors _ f.1 s.1 (subst (λ answers. AreLexErrors (filter (λ answer. not (is_token answer)) answers) f.1) same f.2.errors_are)
+    let errors : f.1 ≡ s.1 =
+    same-errors _ f.1 s.1 (subst (λ answers. AreLexErrors (filter (λ answer. not (is_token answer)) answers) f.1)
+    same f.2.errors_are)
     s.2.errors_are in
-    let counts : first ≡ second = f.4 ∙ ap (λ answers. item_counts answers f.1) same ∙ ap (item_counts s.0) errors ∙ sym s.4 in (
+    let counts : first ≡ second =
+    f.4 ∙ ap (λ answers. item_counts answers f.1) same ∙ ap (item_counts s.0) errors ∙ sym s.4 in (
       sym counts,
       λ asked. record {
         answers = s.0;

@@ -1,5 +1,6 @@
 -- The value of a string has no more bytes than the string.
-use Rattle.std.proofs.Common.{◌≡◌, ◌+◌, ◌-◌, ◌≤◌, ◌⊎◌, ℕ, zero, suc, List, [], ◌∷◌, length, take, drop, ap, ⊎_elim, inl, inr, arith, length-append, length-drop}
+use Rattle.std.proofs.Common.{◌≡◌, ◌+◌, ◌-◌, ◌≤◌, ◌⊎◌, ℕ, zero, suc, List, [], ◌∷◌, length, take, drop, ap, ⊎_elim, inl}
+use Rattle.std.proofs.Common.{inr, arith, length-append, length-drop}
 use Rattle.std.specs.Prelude.{◌&&◌, ◌==◌, map}
 use Rattle.std.specs.List.{prefix_len, suffix_len}
 use Rattle.std.specs.Char.Utf16.{surrogate_pair_char}
@@ -11,7 +12,8 @@ use Rattle.lexical_grammar.specs.Characters.{is_line_terminator}
 use Rattle.lexical_grammar.specs.Strings.{StringCharacter, StringCharacters, BlockCharacters, Quoted, hex_value, plain}
 use Rattle.lexical_grammar.specs.Strings.{escaped, fixed, braced, pair, none, one_more, closing}
 use Rattle.apollo_parser.specs.StringValues.{IsStringValue}
-use Rattle.lexical_grammar.specs.Values.{Block, Lines, onto_first, common_indent, dedented, without_blank_ends, is_blank_line, joined_by_lf, block_string_value}
+use Rattle.lexical_grammar.specs.Values.{Block, Lines, onto_first, common_indent, dedented, without_blank_ends}
+use Rattle.lexical_grammar.specs.Values.{is_blank_line, joined_by_lf, block_string_value}
 
 -- ---- quoted strings
 
@@ -21,15 +23,37 @@ one-character _ _ (escaped {e} {c} p) = omega arith
 one-character _ _ (fixed {text} {digits} f s) =
     omega (arith, ap length f.spelled, f.four, length-encode (hex_value digits), (len_utf8_bounds (hex_value digits)).1)
 one-character _ _ (braced {text} {digits} b s) =
-    omega (arith, ap length b.spelled, b.some, length-append digits (125 ∷ []), length-encode (hex_value digits), (len_utf8_bounds (hex_value digits)).1)
+    omega (
+      arith,
+      ap length b.spelled,
+      b.some,
+      length-append digits (125 ∷ []),
+      length-encode (hex_value digits),
+      (len_utf8_bounds (hex_value digits)).1,
+    )
 one-character _ _ (pair {high} {high_digits} {low} {low_digits} h s l t) =
     let c : ℕ = surrogate_pair_char (hex_value high_digits) (hex_value low_digits) in
-    omega (arith, length-append high low, ap length h.spelled, h.four, ap length l.spelled, l.four, length-encode c, (len_utf8_bounds c).1)
+    omega (
+      arith,
+      length-append high low,
+      ap length h.spelled,
+      h.four,
+      ap length l.spelled,
+      l.four,
+      length-encode c,
+      (len_utf8_bounds c).1,
+    )
 
 characters : (text value : List ℕ) → StringCharacters text value → length value ≤ length text
 characters _ _ none = omega arith
 characters _ _ (one_more {text} {value} {texts} {values} one more) =
-    omega (arith, length-append text texts, length-append value values, one-character text value one, characters texts values more)
+    omega (
+      arith,
+      length-append text texts,
+      length-append value values,
+      one-character text value one,
+      characters texts values more,
+    )
 
 -- ---- block strings
 
@@ -44,7 +68,13 @@ width lines = length (joined_by_lf lines)
 
 head-shorter : (a b : List ℕ) (lines : List (List ℕ)) → length a ≤ length b → width (a ∷ lines) ≤ width (b ∷ lines)
 head-shorter a b [] le = le
-head-shorter a b (next ∷ lines) le = omega (arith, le, length-append a (10 ∷ joined_by_lf (next ∷ lines)), length-append b (10 ∷ joined_by_lf (next ∷ lines)))
+head-shorter a b (next ∷ lines) le =
+    omega (
+      arith,
+      le,
+      length-append a (10 ∷ joined_by_lf (next ∷ lines)),
+      length-append b (10 ∷ joined_by_lf (next ∷ lines)),
+    )
 
 tail-shorter : (line : List ℕ) (lines : List (List ℕ)) → width lines ≤ width (line ∷ lines)
 tail-shorter line [] = omega arith
@@ -61,7 +91,8 @@ one-byte-more c (line ∷ next ∷ lines) = omega arith
 
 lines-within : (text : List ℕ) → width (Lines text) ≤ length text
 lines-within [] = omega arith
-lines-within (c ∷ []) = elim (cases_Bool (is_line_terminator c)) [ inl e ↦ rw e (omega arith) | inr e ↦ rw e (omega arith) ]
+lines-within (c ∷ []) =
+    elim (cases_Bool (is_line_terminator c)) [ inl e ↦ rw e (omega arith) | inr e ↦ rw e (omega arith) ]
 lines-within (c ∷ d ∷ text) = elim (cases_Bool (c == 13 && d == 10)) [
   | inl e ↦ rw e (omega (arith, empty-line (Lines text), lines-within text))
   | inr e ↦ elim (cases_Bool (is_line_terminator c)) [
@@ -70,7 +101,8 @@ lines-within (c ∷ d ∷ text) = elim (cases_Bool (c == 13 && d == 10)) [
   ]
 ]
 
-others-dedented : (n : ℕ) (first : List ℕ) (lines : List (List ℕ)) → width (first ∷ map (drop n) lines) ≤ width (first ∷ lines)
+others-dedented : (n : ℕ) (first : List ℕ) (lines : List (List ℕ))
+    → width (first ∷ map (drop n) lines) ≤ width (first ∷ lines)
 others-dedented n first [] = omega arith
 others-dedented n first (line ∷ lines) =
     omega (
@@ -107,7 +139,11 @@ take-within (suc (suc n)) (line ∷ next ∷ lines) =
 without-blanks : (lines : List (List ℕ)) → width (without_blank_ends lines) ≤ width lines
 without-blanks lines =
     let rest : List (List ℕ) = drop (prefix_len is_blank_line lines) lines in
-    omega (arith, take-within (length rest - suffix_len is_blank_line rest) rest, drop-within (prefix_len is_blank_line lines) lines)
+    omega (
+      arith,
+      take-within (length rest - suffix_len is_blank_line rest) rest,
+      drop-within (prefix_len is_blank_line lines) lines,
+    )
 
 block-within : (raw : List ℕ) → length (block_string_value raw) ≤ length raw
 block-within raw = omega (arith, without-blanks (dedented (Lines raw)), dedented-within (Lines raw), lines-within raw)
@@ -115,11 +151,18 @@ block-within raw = omega (arith, without-blanks (dedented (Lines raw)), dedented
 -- ---- both
 
 quoted-value : (text value : List ℕ) → Quoted text value → length value ≤ length text
-quoted-value text value q = omega (arith, ap length q.spelled, length-append q.inside (34 ∷ []), characters q.inside value q.characters)
+quoted-value text value q =
+    omega (arith, ap length q.spelled, length-append q.inside (34 ∷ []), characters q.inside value q.characters)
 
 block-value : (text value : List ℕ) → Block text value → length value ≤ length text
 block-value text value b =
-    omega (arith, ap length b.string.spelled, raw-within b.string.inside b.raw b.string.characters, block-within b.raw, ap length b.value_is)
+    omega (
+      arith,
+      ap length b.string.spelled,
+      raw-within b.string.inside b.raw b.string.characters,
+      block-within b.raw,
+      ap length b.value_is,
+    )
 
 value-within : (text value : List ℕ) → (Quoted text value ⊎ Block text value) → length value ≤ length text
 value-within text value some = ⊎_elim (quoted-value text value) (block-value text value) some

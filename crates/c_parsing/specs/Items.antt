@@ -1,5 +1,6 @@
 -- What cutting a text into its items gives.
-use Rattle.std.specs.Prelude.{◌≡◌, ◌≢◌, ◌≤◌, ◌+◌, ◌^◌, ℕ, not, is_none, List, [], ◌∷◌, length, map, filter, Option, Some, None}
+use Rattle.std.specs.Prelude.{◌≡◌, ◌≢◌, ◌≤◌, ◌+◌, ◌^◌, ℕ, not, is_none, List, [], ◌∷◌, length, map, filter, Option}
+use Rattle.std.specs.Prelude.{Some, None}
 use Rattle.std.specs.Int.{from_bool}
 use Rattle.std.specs.List.{Contains}
 use Rattle.std.specs.Str.{IsUtf8}
@@ -63,8 +64,8 @@ item_counts answers errors = record {
   status = OK;
 }
 
--- The text is UTF-8. These answers are its items, a cut of the text, or the first of them and the limit; these errors are theirs, one for each bad
--- text and for the limit.
+-- The text is UTF-8. These answers are its items, a cut of the text, or the first of them and the limit; these errors
+-- are theirs, one for each bad text and for the limit.
 pub record IsLexed (source : List ℕ) (max_items : ℕ) (answers : List Answer) (errors : List Diagnostic) : Type 0 where
   pub utf8 : IsUtf8 source
   pub cut : Cut source (items_of source)
@@ -74,11 +75,13 @@ pub record IsLexed (source : List ℕ) (max_items : ℕ) (answers : List Answer)
 -- What the call gives, from the buffers before it, the buffers after it, and the counts that it answers.
 pub record ItemsOutcome (source : List ℕ) (max_items : ℕ) (before after : ItemBuffers) (counts : Counts) : Type 0 where
   -- the buffers and the counts are those of the items and their errors
-  pub ok : counts.status ≡ OK → (answers : List Answer) × (errors : List Diagnostic) × IsLexed source max_items answers errors
+  pub ok : counts.status ≡ OK
+      → (answers : List Answer) × (errors : List Diagnostic) × IsLexed source max_items answers errors
       × (after ≡ items_written before answers errors) × (counts ≡ item_counts answers errors)
   pub not_utf8 : counts.status ≡ NOT_UTF8 → ¬ IsUtf8 source
   pub too_long : counts.status ≡ TOO_LONG → 2 ^ 31 ≤ length source
-  pub refused : counts.status ≢ OK → (after.errors ≡ before.errors) × (after.messages ≡ before.messages) × (counts ≡ no_counts counts.status)
+  pub refused : counts.status ≢ OK
+      → (after.errors ≡ before.errors) × (after.messages ≡ before.messages) × (counts ≡ no_counts counts.status)
   -- nothing was written, unless memory was refused, which may be after some items
   pub unchanged : counts.status ≢ OK → counts.status ≢ NO_MEMORY → after ≡ before
   pub known : Contains (OK ∷ NOT_UTF8 ∷ TOO_LONG ∷ NO_MEMORY ∷ []) counts.status

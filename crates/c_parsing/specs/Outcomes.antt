@@ -1,5 +1,5 @@
--- What each call gives: for the status OK what it wrote, and for each other status why, and that it wrote nothing. `known` has all statuses that a
--- call may end with; that memory was refused, `NO_MEMORY`, has no further reason.
+-- What each call gives: for the status OK what it wrote, and for each other status why, and that it wrote nothing.
+-- `known` has all statuses that a call may end with; that memory was refused, `NO_MEMORY`, has no further reason.
 use Rattle.std.specs.Prelude.{◌≡◌, ◌≢◌, ◌<◌, ◌≤◌, ◌^◌, ◌⊎◌, ℕ, List, [], ◌∷◌, length}
 use Rattle.std.specs.List.{Contains}
 use Rattle.std.specs.Str.{IsUtf8}
@@ -78,7 +78,15 @@ counts_of parsed = record {
 
 -- The counts of a call that was refused.
 abbrev pub no_counts : ℕ → Counts
-no_counts status = record { elements = 0; text_bytes = 0; errors = 0; message_bytes = 0; recursion_high = 0; token_high = 0; status = status }
+no_counts status = record {
+  elements = 0;
+  text_bytes = 0;
+  errors = 0;
+  message_bytes = 0;
+  recursion_high = 0;
+  token_high = 0;
+  status = status;
+}
 
 -- The text is UTF-8, and this is its parse, which keeps what `Parser::parse` promises.
 pub record IsParse (source : List ℕ) (max_depth max_items : ℕ) (parsed : Parsed) : Type 0 where
@@ -101,10 +109,13 @@ pub record IsTypeParse (source : List ℕ) (max_depth max_items : ℕ) (parsed :
 abbrev pub IsTooLong : (Parsed → Type 0) → List ℕ → Type 0
 IsTooLong P source = (2 ^ 31 ≤ length source) ⊎ ((parsed : Parsed) × P parsed × (2 ^ 28 ≤ length (order parsed.tree)))
 
--- What a parse gives, from the buffers before it, the buffers after it, and the counts that it answers. It is one of which `P` holds.
-pub record ParseOutcome (P : Parsed → Type 0) (source : List ℕ) (before after : Buffers) (counts : Counts) : Type 0 where
+-- What a parse gives, from the buffers before it, the buffers after it, and the counts that it answers. It is one of
+-- which `P` holds.
+pub record ParseOutcome (P : Parsed → Type 0) (source : List ℕ) (before after : Buffers)
+    (counts : Counts) : Type 0 where
   -- the buffers and the counts are those of a parse of the text
-  pub ok : counts.status ≡ OK → (parsed : Parsed) × P parsed × (after ≡ written before parsed) × (counts ≡ counts_of parsed)
+  pub ok : counts.status ≡ OK
+      → (parsed : Parsed) × P parsed × (after ≡ written before parsed) × (counts ≡ counts_of parsed)
   pub not_utf8 : counts.status ≡ NOT_UTF8 → ¬ IsUtf8 source
   pub too_long : counts.status ≡ TOO_LONG → IsTooLong P source
   -- nothing was written
@@ -139,7 +150,8 @@ pub record StringOutcome (literal before after : List ℕ) (count : ByteCount) :
   pub no_longer : count.bytes ≤ length literal
 
 -- What formatting a text gives.
-pub record FormatOutcome (source : List ℕ) (max_depth max_items : ℕ) (before after : List ℕ) (count : ByteCount) : Type 0 where
+pub record FormatOutcome (source : List ℕ) (max_depth max_items : ℕ) (before after : List ℕ)
+    (count : ByteCount) : Type 0 where
   -- the text is a document within both limits, and that document with another layout was written, whole
   pub ok : count.status ≡ OK → Writes (IsFormatted source max_depth max_items) before after count.bytes
   pub whole : count.bytes ≤ length before

@@ -11,7 +11,8 @@ use Rattle.c_parsing.specs.declared.rows.ErrorRow.{ErrorRow}
 abbrev pub messages : List Diagnostic → List ℕ
 messages errors = flat_map (λ (e : Diagnostic). e.message) errors
 
--- The row of an error whose message is at an offset of the messages. `diagnostic_end` is where the text has ended that it is about.
+-- The row of an error whose message is at an offset of the messages. `diagnostic_end` is where the text has ended that
+-- it is about.
 abbrev pub error_row : ℕ → Diagnostic → ErrorRow
 error_row offset e = record {
   start = e.index;

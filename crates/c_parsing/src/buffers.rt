@@ -7,7 +7,8 @@ use crate::rows::{ByteCount, status};
 
 // Writes bytes at an offset, as far as there is room. The buffer was filled up to there.
 pub fn append(buffer: &mut [u8], at: usize, bytes: &[u8])
-    ensures { (before written : List ℕ) → length written ≡ at → buffer.old ≡ filled before written → buffer.new ≡ filled before (written ++ bytes.now) }
+    ensures { (before written : List ℕ) → length written ≡ at → buffer.old ≡ filled before written
+        → buffer.new ≡ filled before (written ++ bytes.now) }
 {
     if at < buffer.len() {
         let count = bytes.len().min(buffer.len() - at);

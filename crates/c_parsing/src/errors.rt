@@ -38,10 +38,12 @@ fn ends_fit<A: Allocator>(errors: &[Error<A>]) -> bool
     true
 }
 
-/// How many bytes all messages have; None when a usize can't say that, or where a text has ended that an error is about.
+/// How many bytes all messages have; None when a usize can't say that, or where a text has ended that an error is
+/// about.
 ///
-/// It never is None: each error is about a text of the source, and the messages of all, which are in memory, are fewer bytes than a `usize`
-/// counts. No clause of the parser says so, and the proof that follows from its clauses is longer than two tests.
+/// It never is None: each error is about a text of the source, and the messages of all, which are in memory, are fewer
+/// bytes than a `usize` counts. No clause of the parser says so, and the proof that follows from its clauses is longer
+/// than two tests.
 pub fn counted_bytes<A: Allocator>(errors: &[Error<A>]) -> Option<usize>
     ensures bytes { IfSome result (λ bytes. bytes ≡ length (messages errors.now)) }
     ensures ends { IfSome result (λ bytes. All EndFits errors.now) }

@@ -7,9 +7,10 @@ use apollo_parser::Limits;
 use formatter::{WriteError, format_within};
 use std::alloc::Allocator;
 
-/// Formats a document (GraphQL October 2021, section 2.2, "Document") within both limits: it writes the same document with the layout of the crate
-/// `formatter`, and answers how many bytes it has. Where that is more than there is room for, it writes nothing, and the status is `NO_ROOM`: it takes
-/// no more memory for the formatted text than some two times the room.
+/// Formats a document (GraphQL October 2021, section 2.2, "Document") within both limits: it writes the same document
+/// with the layout of the crate `formatter`, and answers how many bytes it has. Where that is more than there is room
+/// for, it writes nothing, and the status is `NO_ROOM`: it takes no more memory for the formatted text than some two
+/// times the room.
 ///
 /// What it promises is `FormatOutcome` in `specs/Outcomes.antt`.
 pub fn format_into<A: Allocator + Copy>(

@@ -67,7 +67,8 @@ fn row_of(item: Result<Token<'_>, LexError<'_>>) -> ItemRow
 
 // Writes one more row, if there is room. Those before it were written.
 fn put(rows: &mut [ItemRow], at: usize, row: ItemRow)
-    ensures { (before written : List Row) → length written ≡ at → rows.old ≡ filled before written → rows.new ≡ filled before (written ++ row ∷ []) }
+    ensures { (before written : List Row) → length written ≡ at → rows.old ≡ filled before written
+        → rows.new ≡ filled before (written ++ row ∷ []) }
 {
     if at < rows.len() {
         rows[at] = row;
@@ -83,7 +84,8 @@ fn write_items<A: Allocator + Copy>(
     requires { AllByRecursion (λ answer. (item_row answer).end < 2 ^ 32) (answers_left lexer) }
     ensures rows { IfOk result (λ found. rows.new ≡ filled rows.old (map item_row (answers_left lexer.entry))) }
     ensures count { IfOk result (λ found. found.0 ≡ length (answers_left lexer.entry)) }
-    ensures errors { IfOk result (λ found. AreLexErrors (filter (λ answer. not (is_token answer)) (answers_left lexer.entry)) found.1.items) }
+    ensures errors { IfOk result
+        (λ found. AreLexErrors (filter (λ answer. not (is_token answer)) (answers_left lexer.entry)) found.1.items) }
 {
     let mut errors = Vec::new(alloc);
     let mut count: usize = 0;
@@ -97,9 +99,10 @@ fn write_items<A: Allocator + Copy>(
     Ok((count, errors))
 }
 
-/// Cuts a text into its items (GraphQL October 2021, section 2.1, "Source Text"): tokens, bad text, and the end; or as many of them as the limit
-/// allows, and then the limit. It writes their rows, the rows of the errors, one for each bad text and for the limit, and the bytes of the errors'
-/// messages, each as far as there is room, and answers how much there is.
+/// Cuts a text into its items (GraphQL October 2021, section 2.1, "Source Text"): tokens, bad text, and the end; or as
+/// many of them as the limit allows, and then the limit. It writes their rows, the rows of the errors, one for each bad
+/// text and for the limit, and the bytes of the errors' messages, each as far as there is room, and answers how much
+/// there is.
 ///
 /// What it promises is `ItemsOutcome` in `specs/Items.antt`.
 pub fn lex_into<A: Allocator + Copy>(
@@ -110,7 +113,8 @@ pub fn lex_into<A: Allocator + Copy>(
     errors: &mut [ErrorRow],
     messages: &mut [u8],
 ) -> Counts
-    ensures { ItemsOutcome source.now token_limit (record { items = items.old; errors = errors.old; messages = messages.old })
+    ensures { ItemsOutcome source.now token_limit
+        (record { items = items.old; errors = errors.old; messages = messages.old })
         (record { items = items.new; errors = errors.new; messages = messages.new }) result }
 {
     let text = match text_of(source) {

@@ -8,7 +8,8 @@ ghost use Rattle.c_parsing.specs.Again.{HasItemRoom, HasRoom, HoldItems, HoldPar
 ghost use Rattle.c_parsing.specs.Items.{ItemBuffers, ItemsOutcome};
 ghost use Rattle.c_parsing.specs.Outcomes.{Buffers, Outcome, OK, StringOutcome};
 
-/// A second parse of a text within the same limits counts what the first one did, and with just that room it writes all of the parse.
+/// A second parse of a text within the same limits counts what the first one did, and with just that room it writes all
+/// of the parse.
 pub fn parse_again()
     ensures { (source : List ℕ) (max_depth max_items : ℕ) (before after room filled : Buffers) (first second : Counts)
         → Outcome source max_depth max_items before after first → first.status ≡ OK
@@ -18,11 +19,14 @@ pub fn parse_again()
 
 /// A second call on a string, with just the room that the first one counted, fills it with the value.
 pub fn string_value_again()
-    ensures { (literal before after room value : List ℕ) (first second : ByteCount) → StringOutcome literal before after first → first.status ≡ OK
-        → StringOutcome literal room value second → second.status ≡ OK → length room ≡ first.bytes → IsStringValue literal value }
+    ensures { (literal before after room value : List ℕ) (first second : ByteCount)
+        → StringOutcome literal before after first → first.status ≡ OK
+        → StringOutcome literal room value second → second.status ≡ OK → length room ≡ first.bytes
+        → IsStringValue literal value }
 {}
 
-/// A second cut of a text within the same limit counts what the first one did, and with just that room it writes all items and errors.
+/// A second cut of a text within the same limit counts what the first one did, and with just that room it writes all
+/// items and errors.
 pub fn items_again()
     ensures { (source : List ℕ) (max_items : ℕ) (before after room filled : ItemBuffers) (first second : Counts)
         → ItemsOutcome source max_items before after first → first.status ≡ OK

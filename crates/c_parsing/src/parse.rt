@@ -44,8 +44,9 @@ fn write_parse<R: Root, A: Allocator>(
     counts
 }
 
-/// Parses a document (GraphQL October 2021, section 2.2, "Document") within both limits. It writes the rows of the tree's elements and of the
-/// errors, and the bytes of the errors' messages, each as far as there is room, and answers how much there is.
+/// Parses a document (GraphQL October 2021, section 2.2, "Document") within both limits. It writes the rows of the
+/// tree's elements and of the errors, and the bytes of the errors' messages, each as far as there is room, and answers
+/// how much there is.
 ///
 /// What it promises is `Outcome` in `specs/Outcomes.antt`.
 pub fn parse_into<A: Allocator + Copy>(
@@ -56,7 +57,8 @@ pub fn parse_into<A: Allocator + Copy>(
     errors: &mut [ErrorRow],
     messages: &mut [u8],
 ) -> Counts
-    ensures { Outcome source.now limits.recursion limits.tokens (record { elements = elements.old; errors = errors.old; messages = messages.old })
+    ensures { Outcome source.now limits.recursion limits.tokens
+        (record { elements = elements.old; errors = errors.old; messages = messages.old })
         (record { elements = elements.new; errors = errors.new; messages = messages.new }) result }
 {
     let text = match text_of(source) {
@@ -69,8 +71,8 @@ pub fn parse_into<A: Allocator + Copy>(
     }
 }
 
-/// Parses a selection set (GraphQL October 2021, section 2.4, "Selection Sets"), with its outer braces or with both left away, and writes as
-/// `parse_into` does. What follows the selection set is not in the tree.
+/// Parses a selection set (GraphQL October 2021, section 2.4, "Selection Sets"), with its outer braces or with both
+/// left away, and writes as `parse_into` does. What follows the selection set is not in the tree.
 ///
 /// What it promises is `SelectionSetOutcome` in `specs/Outcomes.antt`.
 pub fn parse_selection_set_into<A: Allocator + Copy>(
@@ -81,7 +83,8 @@ pub fn parse_selection_set_into<A: Allocator + Copy>(
     errors: &mut [ErrorRow],
     messages: &mut [u8],
 ) -> Counts
-    ensures { SelectionSetOutcome source.now limits.recursion limits.tokens (record { elements = elements.old; errors = errors.old; messages = messages.old })
+    ensures { SelectionSetOutcome source.now limits.recursion limits.tokens
+        (record { elements = elements.old; errors = errors.old; messages = messages.old })
         (record { elements = elements.new; errors = errors.new; messages = messages.new }) result }
 {
     let text = match text_of(source) {
@@ -94,7 +97,8 @@ pub fn parse_selection_set_into<A: Allocator + Copy>(
     }
 }
 
-/// Parses a type (GraphQL October 2021, section 2.11, "Type References"), and writes as `parse_into` does. What follows the type is not in the tree.
+/// Parses a type (GraphQL October 2021, section 2.11, "Type References"), and writes as `parse_into` does. What follows
+/// the type is not in the tree.
 ///
 /// What it promises is `TypeOutcome` in `specs/Outcomes.antt`.
 pub fn parse_type_into<A: Allocator + Copy>(
@@ -105,7 +109,8 @@ pub fn parse_type_into<A: Allocator + Copy>(
     errors: &mut [ErrorRow],
     messages: &mut [u8],
 ) -> Counts
-    ensures { TypeOutcome source.now limits.recursion limits.tokens (record { elements = elements.old; errors = errors.old; messages = messages.old })
+    ensures { TypeOutcome source.now limits.recursion limits.tokens
+        (record { elements = elements.old; errors = errors.old; messages = messages.old })
         (record { elements = elements.new; errors = errors.new; messages = messages.new }) result }
 {
     let text = match text_of(source) {

@@ -55,7 +55,8 @@ pub struct ItemRow {
     pub start: u32,
     /// The byte offset at which its text has ended.
     pub end: u32,
-    /// The number of its kind, which is its leaf's in a tree: IDENT for each name; ERROR for bad text, the end and the limit.
+    /// The number of its kind, which is its leaf's in a tree: IDENT for each name; ERROR for bad text, the end and the
+    /// limit.
     pub kind: u16,
     /// 1 for bad text and for the limit, 0 for a token and for the end.
     pub is_error: u16,
@@ -63,7 +64,8 @@ pub struct ItemRow {
 
 const _: () = prove!(size_of::<ItemRow>() == 12);
 
-/// How a parse ended, and how much there is, whether or not the buffers had room for it. All numbers are 0 when it was refused.
+/// How a parse ended, and how much there is, whether or not the buffers had room for it. All numbers are 0 when it was
+/// refused.
 #[repr(C)]
 #[derive(Clone, Copy)]
 pub struct Counts {

@@ -25,8 +25,8 @@ fn is_string(text: &str) -> bool
     }
 }
 
-/// Writes the value of a string (GraphQL September 2025, "String Value"), as far as there is room, and answers how many bytes it has. The string is
-/// given with its quotes, quoted or a block string.
+/// Writes the value of a string (GraphQL September 2025, "String Value"), as far as there is room, and answers how many
+/// bytes it has. The string is given with its quotes, quoted or a block string.
 ///
 /// What it promises is `StringOutcome` in `specs/Outcomes.antt`.
 pub fn string_value_into<A: Allocator + Copy>(

@@ -37,7 +37,8 @@ record Wrote (source : List ℕ) (r k : ℕ) (before after : List OperationRow) 
   written : after ≡ filled before (map operation_row measures)
   counted : counts ≡ measure_counts measures
 
-wrote : {source : List ℕ} {r k : ℕ} {before after : List OperationRow} {counts : MeasureCounts} → MeasureOutcome source r k before after counts
+wrote : {source : List ℕ} {r k : ℕ} {before after : List OperationRow} {counts : MeasureCounts}
+    → MeasureOutcome source r k before after counts
     → counts.status ≡ OK → Wrote source r k before after counts
 wrote (measured {parsed = parsed} {measures = measures} parse are) ok =
     record { parsed = parsed; parse = parse; measures = measures; are_measures = are; written = refl; counted = refl }
@@ -51,25 +52,31 @@ length-map f (x ∷ xs) = ap suc (length-map f xs)
 -- a document has as many figures as operations
 operations-of : (parsed : Parsed) (measures : List Measure) → AreMeasures (defined (root parsed)) measures
     → length measures ≡ length (filter is_operation (defined (root parsed)))
-operations-of parsed measures are = sym (length-map (λ (m : Measure). m.operation) measures) ∙ ap length are.operations_are
+operations-of parsed measures are =
+    sym (length-map (λ (m : Measure). m.operation) measures) ∙ ap length are.operations_are
 
-pub measures-again : (source : List ℕ) (r k : ℕ) (before after room filled_room : List OperationRow) (first second : MeasureCounts)
+pub measures-again : (source : List ℕ) (r k : ℕ) (before after room filled_room : List OperationRow)
+    (first second : MeasureCounts)
     → MeasureOutcome source r k before after first → first.status ≡ OK
     → MeasureOutcome source r k room filled_room second → second.status ≡ OK
     → (second ≡ first) × (length room ≡ first.operations → HoldMeasures source r k filled_room)
 measures-again source r k before after room filled_room first second one ok two ok' =
     let f = wrote one ok in
     let s = wrote two ok' in
-    let same : f.parsed ≡ s.parsed = one-parse f.parsed s.parsed f.parse.parse.promise.by_rules s.parse.parse.promise.by_rules in
+    let same : f.parsed ≡ s.parsed =
+    one-parse f.parsed s.parsed f.parse.parse.promise.by_rules s.parse.parse.promise.by_rules in
     let number : length f.measures ≡ length s.measures = operations-of f.parsed f.measures f.are_measures
-    ∙ ap (λ (p : Parsed). length (filter is_operation (defined (root p)))) same ∙ sym (operations-of s.parsed s.measures s.are_measures) in (
-      s.counted ∙ ap (λ n. record { operations = n; start = 0; end = 0; other_start = 0; other_end = 0; status = OK }) (sym number) ∙ sym f.counted,
+    ∙ ap (λ (p : Parsed). length (filter is_operation (defined (root p)))) same
+    ∙ sym (operations-of s.parsed s.measures s.are_measures) in (
+      s.counted ∙ ap (λ n. record { operations = n; start = 0; end = 0; other_start = 0; other_end = 0; status = OK })
+          (sym number) ∙ sym f.counted,
       λ asked. record {
         parsed = s.parsed;
         parse = s.parse;
         measures = s.measures;
         are_measures = s.are_measures;
         is = s.written ∙ filled-whole room (map operation_row s.measures)
-            (asked ∙ ap (λ (c : MeasureCounts). c.operations) f.counted ∙ number ∙ sym (length-map operation_row s.measures));
+            (asked ∙ ap (λ (c : MeasureCounts). c.operations) f.counted ∙ number
+            ∙ sym (length-map operation_row s.measures));
       },
     )

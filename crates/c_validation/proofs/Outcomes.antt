@@ -13,41 +13,51 @@ use Rattle.c_validation.specs.declared.rows.ViolationCounts.{ViolationCounts}
 use Rattle.c_validation.specs.declared.rows.ViolationRow.{ViolationRow}
 use Rattle.c_validation.specs.declared.violation_rows.Report.{Report}
 use Rattle.c_validation.specs.Rows.{messages, operation_row, violation_rows}
-use Rattle.c_validation.specs.Outcomes.{IsDocumentParse, IsRefusal, IsReport, MeasureOutcome, ValidationOutcome, ViolationBuffers}
-use Rattle.c_validation.specs.Outcomes.{fault_counts, no_measures, no_violations, root}
-use Rattle.c_validation.specs.Outcomes.{measured, not_measurable, not_measured, not_validated, validated}
+use Rattle.c_validation.specs.Outcomes.{IsDocumentParse, IsRefusal, IsReport, MeasureOutcome, ValidationOutcome}
+use Rattle.c_validation.specs.Outcomes.{ViolationBuffers, fault_counts, no_measures, no_violations, root, measured}
+use Rattle.c_validation.specs.Outcomes.{not_measurable, not_measured, not_validated, validated}
 use Rattle.c_validation.proofs.Reports.{length-rows}
 
-pub no-validation : (source : List ℕ) (r k most status : ℕ) (before : ViolationBuffers) (counts : ViolationCounts) → counts ≡ no_violations status
+pub no-validation : (source : List ℕ) (r k most status : ℕ) (before : ViolationBuffers) (counts : ViolationCounts)
+    → counts ≡ no_violations status
     → IsRefusal source r k status → ValidationOutcome source r k most before before counts
 no-validation source r k most status before counts is why = rw is (not_validated why)
 
-pub of-report : (source : List ℕ) (r k most : ℕ) (parsed : Parsed) (report : Report) (before : ViolationBuffers) (rows : List ViolationRow) (said : List ℕ)
-    (count bytes : ℕ) → IsDocumentParse source r k parsed → IsReport most (root parsed) report → rows ≡ filled before.violations report.rows.items
-    → said ≡ filled before.messages report.messages.items → count ≡ length report.rows.items → bytes ≡ length report.messages.items
+pub of-report : (source : List ℕ) (r k most : ℕ) (parsed : Parsed) (report : Report) (before : ViolationBuffers)
+    (rows : List ViolationRow) (said : List ℕ)
+    (count bytes : ℕ) → IsDocumentParse source r k parsed → IsReport most (root parsed) report
+    → rows ≡ filled before.violations report.rows.items
+    → said ≡ filled before.messages report.messages.items → count ≡ length report.rows.items
+    → bytes ≡ length report.messages.items
     → ValidationOutcome source r k most before (record { violations = rows; messages = said })
     (record { violations = count; message_bytes = bytes; status = OK })
 of-report source r k most parsed report before rows said count bytes document is rs ms c b =
     let filled_rows : rows ≡ filled before.violations (violation_rows 0 is.breaches) =
     rs ∙ ap (λ (xs : List ViolationRow). filled before.violations xs) is.rows in
-    let filled_words : said ≡ filled before.messages (messages is.breaches) = ms ∙ ap (λ (xs : List ℕ). filled before.messages xs) is.messages in
+    let filled_words : said ≡ filled before.messages (messages is.breaches) =
+    ms ∙ ap (λ (xs : List ℕ). filled before.messages xs) is.messages in
     let counted : count ≡ length is.breaches = c ∙ ap length is.rows ∙ length-rows 0 is.breaches in
     let spoken : bytes ≡ length (messages is.breaches) = b ∙ ap length is.messages in
     rw (filled_rows, filled_words, counted, spoken) (validated document is.found)
 
-pub no-measure : (source : List ℕ) (r k status : ℕ) (before : List OperationRow) (counts : MeasureCounts) → counts ≡ no_measures status
+pub no-measure : (source : List ℕ) (r k status : ℕ) (before : List OperationRow) (counts : MeasureCounts)
+    → counts ≡ no_measures status
     → IsRefusal source r k status → MeasureOutcome source r k before before counts
 no-measure source r k status before counts is why = rw is (not_measured why)
 
-pub of-fault : (source : List ℕ) (r k : ℕ) (parsed : Parsed) (reason : MeasureError) (before : List OperationRow) (counts : MeasureCounts)
+pub of-fault : (source : List ℕ) (r k : ℕ) (parsed : Parsed) (reason : MeasureError) (before : List OperationRow)
+    (counts : MeasureCounts)
     → IsDocumentParse source r k parsed → IsMeasureError (defined (root parsed)) reason → counts ≡ fault_counts reason
     → MeasureOutcome source r k before before counts
 of-fault source r k parsed reason before counts document is c = rw c (not_measurable reason document is)
 
-pub of-figures : (source : List ℕ) (r k : ℕ) (parsed : Parsed) (measures : List Measure) (before after : List OperationRow) (count : ℕ)
-    → IsDocumentParse source r k parsed → AreMeasures (defined (root parsed)) measures → after ≡ filled before (map operation_row measures)
+pub of-figures : (source : List ℕ) (r k : ℕ) (parsed : Parsed) (measures : List Measure)
+    (before after : List OperationRow) (count : ℕ)
+    → IsDocumentParse source r k parsed → AreMeasures (defined (root parsed)) measures
+    → after ≡ filled before (map operation_row measures)
     → count ≡ length (map operation_row measures)
-    → MeasureOutcome source r k before after (record { operations = count; start = 0; end = 0; other_start = 0; other_end = 0; status = OK })
+    → MeasureOutcome source r k before after
+    (record { operations = count; start = 0; end = 0; other_start = 0; other_end = 0; status = OK })
 of-figures source r k parsed measures before after count document are a c =
     let counted : count ≡ length measures = c ∙ length-map measures operation_row in
     rw (a, counted) (measured document are)

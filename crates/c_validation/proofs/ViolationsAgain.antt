@@ -10,15 +10,16 @@ use Rattle.document_validation.proofs.OneListLemmas.{one-list}
 use Rattle.c_parsing.specs.Outcomes.{OK}
 use Rattle.c_parsing.proofs.Again.{filled-whole}
 use Rattle.c_validation.specs.Again.{HoldViolations}
-use Rattle.c_validation.specs.Outcomes.{AreFound, IsDocumentParse, ValidationOutcome, ViolationBuffers, not_validated, root, validated}
-use Rattle.c_validation.specs.Outcomes.{violation_counts, violations_written}
+use Rattle.c_validation.specs.Outcomes.{AreFound, IsDocumentParse, ValidationOutcome, ViolationBuffers, not_validated}
+use Rattle.c_validation.specs.Outcomes.{root, validated, violation_counts, violations_written}
 use Rattle.c_validation.specs.Rows.{messages, violation_rows}
 use Rattle.c_validation.specs.declared.rows.ViolationCounts.{ViolationCounts}
 use Rattle.c_validation.proofs.Again.{no-refusal}
 use Rattle.c_validation.proofs.Reports.{length-rows}
 
 -- violations were written
-record Wrote (source : List ℕ) (r k most : ℕ) (before after : ViolationBuffers) (counts : ViolationCounts) : Type 0 where
+record Wrote (source : List ℕ) (r k most : ℕ) (before after : ViolationBuffers)
+    (counts : ViolationCounts) : Type 0 where
   parsed : Parsed
   parse : IsDocumentParse source r k parsed
   breaches : List Breach
@@ -27,24 +28,30 @@ record Wrote (source : List ℕ) (r k most : ℕ) (before after : ViolationBuffe
   counted : counts ≡ violation_counts breaches
 
 wrote : {source : List ℕ} {r k most : ℕ} {before after : ViolationBuffers} {counts : ViolationCounts}
-    → ValidationOutcome source r k most before after counts → counts.status ≡ OK → Wrote source r k most before after counts
+    → ValidationOutcome source r k most before after counts → counts.status ≡ OK
+    → Wrote source r k most before after counts
 wrote (validated {parsed = parsed} {breaches = breaches} parse found) ok =
     record { parsed = parsed; parse = parse; breaches = breaches; found = found; written = refl; counted = refl }
 wrote (not_validated refused) ok = absurd (no-refusal refused ok)
 
-pub violations-again : (source : List ℕ) (r k most : ℕ) (before after room filled_room : ViolationBuffers) (first second : ViolationCounts)
+pub violations-again : (source : List ℕ) (r k most : ℕ) (before after room filled_room : ViolationBuffers)
+    (first second : ViolationCounts)
     → ValidationOutcome source r k most before after first → first.status ≡ OK → first.violations < most
     → ValidationOutcome source r k most room filled_room second → second.status ≡ OK
     → (second ≡ first)
-    × (length room.violations ≡ first.violations → length room.messages ≡ first.message_bytes → HoldViolations source r k most filled_room)
+    × (length room.violations ≡ first.violations → length room.messages ≡ first.message_bytes
+    → HoldViolations source r k most filled_room)
 violations-again source r k most before after room filled_room first second one ok few two ok' =
     let f = wrote one ok in
     let s = wrote two ok' in
-    let same : s.parsed ≡ f.parsed = one-parse s.parsed f.parsed s.parse.parse.promise.by_rules f.parse.parse.promise.by_rules in
+    let same : s.parsed ≡ f.parsed =
+    one-parse s.parsed f.parsed s.parse.parse.promise.by_rules f.parse.parse.promise.by_rules in
     let exact : AreBreaches most (BreaksAs (document_kind (root f.parsed)) (root f.parsed)) s.breaches =
-    subst (λ (p : Parsed). AreBreaches most (BreaksAs (document_kind (root p)) (root p)) s.breaches) same s.found.exact in
+    subst (λ (p : Parsed). AreBreaches most (BreaksAs (document_kind (root p)) (root p)) s.breaches)
+    same s.found.exact in
     let fewer : length f.breaches < most = omega (arith, few, ap (λ (c : ViolationCounts). c.violations) f.counted) in
-    let list : s.breaches ≡ f.breaches = one-list (document_kind (root f.parsed)) (root f.parsed) most f.breaches s.breaches f.found.exact exact fewer in
+    let list : s.breaches ≡ f.breaches =
+    one-list (document_kind (root f.parsed)) (root f.parsed) most f.breaches s.breaches f.found.exact exact fewer in
     let second_is_first : second ≡ first = s.counted ∙ ap violation_counts list ∙ sym f.counted in (
       second_is_first,
       λ rows said. record {
@@ -53,8 +60,10 @@ violations-again source r k most before after room filled_room first second one 
         breaches = s.breaches;
         found = s.found;
         violations =
-            ap (λ (b : ViolationBuffers). b.violations) s.written ∙ filled-whole room.violations (violation_rows 0 s.breaches)
-            (rows ∙ sym (ap (λ (c : ViolationCounts). c.violations) (sym s.counted ∙ second_is_first)) ∙ sym (length-rows 0 s.breaches));
+            ap (λ (b : ViolationBuffers). b.violations) s.written
+            ∙ filled-whole room.violations (violation_rows 0 s.breaches)
+            (rows ∙ sym (ap (λ (c : ViolationCounts). c.violations) (sym s.counted ∙ second_is_first))
+            ∙ sym (length-rows 0 s.breaches));
         messages =
             ap (λ (b : ViolationBuffers). b.messages) s.written ∙ filled-whole room.messages (messages s.breaches)
             (said ∙ sym (ap (λ (c : ViolationCounts). c.message_bytes) (sym s.counted ∙ second_is_first)));

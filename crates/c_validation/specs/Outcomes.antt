@@ -1,5 +1,5 @@
--- What each call gives: for the status OK what it wrote, and for each other status why, and that it wrote nothing. A call ends with no other status
--- than those of the cases; that memory was refused, `NO_MEMORY`, has no further reason.
+-- What each call gives: for the status OK what it wrote, and for each other status why, and that it wrote nothing. A
+-- call ends with no other status than those of the cases; that memory was refused, `NO_MEMORY`, has no further reason.
 use Rattle.std.specs.Prelude.{◌≡◌, ◌<◌, ◌↔◌, ℕ, List, [], length, map}
 use Rattle.std.specs.Str.{IsUtf8}
 use Rattle.apollo_parser.specs.Filled.{filled}
@@ -79,20 +79,23 @@ violations_written room breaches = record {
 }
 
 abbrev pub violation_counts : List Breach → ViolationCounts
-violation_counts breaches = record { violations = length breaches; message_bytes = length (messages breaches); status = OK }
+violation_counts breaches =
+    record { violations = length breaches; message_bytes = length (messages breaches); status = OK }
 
 -- The counts of a call that was refused.
 abbrev pub no_violations : ℕ → ViolationCounts
 no_violations status = record { violations = 0; message_bytes = 0; status = status }
 
 -- What validation gives, from the buffers before it, the buffers after it, and the counts that it answers.
-pub data ValidationOutcome (source : List ℕ) (max_depth max_items most : ℕ) (before : ViolationBuffers) : ViolationBuffers → ViolationCounts → Type 0 where
+pub data ValidationOutcome (source : List ℕ) (max_depth max_items most : ℕ)
+    (before : ViolationBuffers) : ViolationBuffers → ViolationCounts → Type 0 where
   -- the text is a document within both limits, and the buffers and the counts have the breaches found in it
   validated :
       {parsed : Parsed} {breaches : List Breach}
       → IsDocumentParse source max_depth max_items parsed
       → AreFound most (root parsed) breaches
-      → ValidationOutcome source max_depth max_items most before (violations_written before breaches) (violation_counts breaches)
+      → ValidationOutcome source max_depth max_items most before (violations_written before breaches)
+      (violation_counts breaches)
   -- nothing was written
   not_validated :
       {status : ℕ}
@@ -107,26 +110,32 @@ no_measures status = record { operations = 0; start = 0; end = 0; other_start = 
 
 -- The counts of a call that gave figures.
 abbrev pub measure_counts : List Measure → MeasureCounts
-measure_counts measures = record { operations = length measures; start = 0; end = 0; other_start = 0; other_end = 0; status = OK }
+measure_counts measures =
+    record { operations = length measures; start = 0; end = 0; other_start = 0; other_end = 0; status = OK }
 
--- The counts of a call that found a fault at the first range, where the other fragment of the name is at the second one.
+-- The counts of a call that found a fault at the first range, where the other fragment of the name is at the second
+-- one.
 abbrev pub fault_at : ℕ → ℕ × ℕ → ℕ × ℕ → MeasureCounts
-fault_at status at other = record { operations = 0; start = at.0; end = at.1; other_start = other.0; other_end = other.1; status = status }
+fault_at status at other =
+    record { operations = 0; start = at.0; end = at.1; other_start = other.0; other_end = other.1; status = status }
 
 abbrev pub fault_counts : MeasureError → MeasureCounts
-fault_counts (error.SameName first second) = fault_at SAME_NAME (range_at (as_defined second).place) (range_at (as_defined first).place)
+fault_counts (error.SameName first second) =
+    fault_at SAME_NAME (range_at (as_defined second).place) (range_at (as_defined first).place)
 fault_counts (error.Cycle span) = fault_at CYCLE (span.start, span.end) (0, 0)
 fault_counts (error.Undefined span) = fault_at UNDEFINED (span.start, span.end) (0, 0)
 fault_counts error.Memory = no_measures NO_MEMORY
 
 -- What a measurement gives, from the buffer before it, the buffer after it, and the counts that it answers.
-pub data MeasureOutcome (source : List ℕ) (max_depth max_items : ℕ) (before : List OperationRow) : List OperationRow → MeasureCounts → Type 0 where
+pub data MeasureOutcome (source : List ℕ) (max_depth max_items : ℕ) (before : List OperationRow) : List OperationRow
+    → MeasureCounts → Type 0 where
   -- the text is a document within both limits, and the buffer and the counts are those of the figures of its operations
   measured :
       {parsed : Parsed} {measures : List Measure}
       → IsDocumentParse source max_depth max_items parsed
       → AreMeasures (defined (root parsed)) measures
-      → MeasureOutcome source max_depth max_items before (filled before (map operation_row measures)) (measure_counts measures)
+      → MeasureOutcome source max_depth max_items before (filled before (map operation_row measures))
+      (measure_counts measures)
   -- it is one, and its operations have no figures for this reason; nothing was written
   not_measurable :
       {parsed : Parsed} (reason : MeasureError)

@@ -40,7 +40,8 @@ violation_row offset words b = record {
 -- The rows of violations, of which the first has its message at the offset.
 abbrev pub violation_rows : ℕ → List Breach → List ViolationRow
 violation_rows offset [] = []
-violation_rows offset (b ∷ bs) = violation_row offset (message_of b) b ∷ violation_rows (offset + length (message_of b)) bs
+violation_rows offset (b ∷ bs) =
+    violation_row offset (message_of b) b ∷ violation_rows (offset + length (message_of b)) bs
 
 -- ---- operations
 

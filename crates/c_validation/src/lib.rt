@@ -1,7 +1,8 @@
-//! Validation and the figures of operations in buffers of the caller's: what other languages read in place of the lists of `document_validation` and
-//! `cost_limits`.
+//! Validation and the figures of operations in buffers of the caller's: what other languages read in place of the lists
+//! of `document_validation` and `cost_limits`.
 //!
-//! `c_exports` calls the functions `.._into`. As those of `c_parsing` do, each writes as far as there is room, and answers how much there is.
+//! `c_exports` calls the functions `.._into`. As those of `c_parsing` do, each writes as far as there is room, and
+//! answers how much there is.
 #![tactic(auto)]
 
 mod documents;

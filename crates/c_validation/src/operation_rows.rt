@@ -104,8 +104,9 @@ fn fault(error: MeasureError<'_>) -> MeasureCounts
     }
 }
 
-/// Measures the operations of a document with all fragments expanded (GraphQL October 2021, section 2.8), within both limits of the parser. It writes
-/// a row for each operation, as far as there is room, and answers how many there are, or why they have no figures.
+/// Measures the operations of a document with all fragments expanded (GraphQL October 2021, section 2.8), within both
+/// limits of the parser. It writes a row for each operation, as far as there is room, and answers how many there are,
+/// or why they have no figures.
 ///
 /// What it promises is `MeasureOutcome` in `specs/Outcomes.antt`.
 pub fn measure_into<A: Allocator + Copy>(

@@ -39,7 +39,8 @@ pub struct ViolationRow {
 
 const _: () = prove!(size_of::<ViolationRow>() == 56);
 
-/// How a validation ended, and how much it found, whether or not the buffers had room for it. All numbers are 0 when it was refused.
+/// How a validation ended, and how much it found, whether or not the buffers had room for it. All numbers are 0 when it
+/// was refused.
 #[repr(C)]
 #[derive(Clone, Copy)]
 pub struct ViolationCounts {
@@ -81,8 +82,8 @@ pub struct OperationRow {
 
 const _: () = prove!(size_of::<OperationRow>() == 88);
 
-/// How a measurement ended, and how many operations there are, whether or not the buffer had room for them. All numbers are 0 when it was refused,
-/// but for the places of the fault that operations have no figures for.
+/// How a measurement ended, and how many operations there are, whether or not the buffer had room for them. All numbers
+/// are 0 when it was refused, but for the places of the fault that operations have no figures for.
 #[repr(C)]
 #[derive(Clone, Copy)]
 pub struct MeasureCounts {

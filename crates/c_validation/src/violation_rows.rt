@@ -87,9 +87,10 @@ fn refused(status: u32) -> ViolationCounts
     }
 }
 
-/// Validates a document by the rules for its kind (GraphQL October 2021, section 5; of a document of the type system, rules of section 3 on names that one
-/// definition has twice), within both limits of the parser. It writes the rows of the violations, at most `most` of them, and the bytes of their
-/// messages, each as far as there is room, and answers how much there is.
+/// Validates a document by the rules for its kind (GraphQL October 2021, section 5; of a document of the type system,
+/// rules of section 3 on names that one definition has twice), within both limits of the parser. It writes the rows of
+/// the violations, at most `most` of them, and the bytes of their messages, each as far as there is room, and answers
+/// how much there is.
 ///
 /// What it promises is `ValidationOutcome` in `specs/Outcomes.antt`.
 pub fn validate_into(
@@ -100,7 +101,8 @@ pub fn validate_into(
     violations: &mut [ViolationRow],
     messages: &mut [u8],
 ) -> ViolationCounts
-    ensures { ValidationOutcome source.now limits.recursion limits.tokens most (record { violations = violations.old; messages = messages.old })
+    ensures { ValidationOutcome source.now limits.recursion limits.tokens most
+        (record { violations = violations.old; messages = messages.old })
         (record { violations = violations.new; messages = messages.new }) result }
 {
     let tree = match read_document(alloc, source, limits) {

@@ -16,5 +16,6 @@ named-later [] e some h = absurd (omega (arith, some))
 named-later (word ∷ more) Memory some h = tt
 named-later (word ∷ more) (Usage misuse) some h =
     let all : take (length (word ∷ more) - 1) more ≡ more = take_all (length (word ∷ more) - 1) more (omega arith) in
-    let there : Contains (texts more) misuse.word.now = subst (λ (l : List (Bor (List ℕ))). Contains (texts l) misuse.word.now) all h in
+    let there : Contains (texts more) misuse.word.now =
+    subst (λ (l : List (Bor (List ℕ))). Contains (texts l) misuse.word.now) all h in
     inl (suc there.0, omega (arith, there.1), there.2)

@@ -8,7 +8,8 @@ use Rattle.command_lines.specs.Streams.{IsSaid, no_memory}
 use Rattle.command_lines.specs.declared.complaints.FileFault.{FileFault}
 use Rattle.command_lines.specs.declared.complaints.FileFault.TheVariants.{NotRead, NotReplaced, Device}
 
--- a program's line about a file, or about standard input, with escapes for characters of its name that a terminal would not show
+-- a program's line about a file, or about standard input, with escapes for characters of its name that a terminal would
+-- not show
 abbrev pub line_about : List ℕ → List ℕ → List ℕ → List ℕ
 line_about program name reason = program ++ codes ": " ++ shown name ++ codes ": " ++ reason ++ codes "\n"
 
@@ -20,17 +21,19 @@ reason_of Write = codes "cannot write"
 
 -- Why the text of this name has no outcome is said; or that there is no memory for that line.
 abbrev pub Tells : List ℕ → List ℕ → Fault → Account → Account → Type 0
-Tells program name fault old new = IsSaid (line_about program name (reason_of fault)) old new ⊎ IsSaid (no_memory program) old new
+Tells program name fault old new =
+    IsSaid (line_about program name (reason_of fault)) old new ⊎ IsSaid (no_memory program) old new
 
 -- The name of a path: all of it, or all but the zero byte that a word which is not UTF-8 has at its end.
 abbrev pub IsNameOf : List ℕ → List ℕ → Type 0
 IsNameOf path name = (name ≡ path) ⊎ (path ≡ name ++ 0 ∷ [])
 
--- What could not be done with the file at a path is said, by its name, and then why, in words of the file system that are not stated; or that there is no
--- memory for that line.
+-- What could not be done with the file at a path is said, by its name, and then why, in words of the file system that
+-- are not stated; or that there is no memory for that line.
 abbrev pub TellsError : List ℕ → List ℕ → List ℕ → Account → Account → Type 0
 TellsError program what path old new =
-    ((name : List ℕ) × (words : List ℕ) × IsNameOf path name × IsSaid (line_about program name (what ++ codes ": " ++ words)) old new)
+    ((name : List ℕ) × (words : List ℕ) × IsNameOf path name
+    × IsSaid (line_about program name (what ++ codes ": " ++ words)) old new)
     ⊎ IsSaid (no_memory program) old new
 
 -- why the file at a path has no outcome

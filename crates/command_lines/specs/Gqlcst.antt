@@ -1,5 +1,6 @@
 -- The words of `gqlcst`: a mode, and then options in any order, each at most once; or a page of the program.
-use Rattle.std.specs.Prelude.{ℕ, false, List, [], ◌∷◌, codes, bytes_eq, map, if◌then◌else◌, Option, Some, None, option_and_then, option_map}
+use Rattle.std.specs.Prelude.{ℕ, false, List, [], ◌∷◌, codes, bytes_eq, map, if◌then◌else◌, Option, Some, None}
+use Rattle.std.specs.Prelude.{option_and_then, option_map}
 use Rattle.apollo_lexer.specs.declared.limits.Limits.{Limits}
 use Rattle.command_lines.specs.Information.{information_of}
 use Rattle.command_lines.specs.Options.{given_from, limits_of, nothing_given}

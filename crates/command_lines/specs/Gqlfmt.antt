@@ -30,7 +30,8 @@ most_output_of given = number (codes "--max-output") given
 
 -- how its lines end
 abbrev pub line_endings_named : List ℕ → LineEndings
-line_endings_named name = if bytes_eq name (codes "crlf") then Crlf else (if bytes_eq name (codes "keep") then Keep else Lf)
+line_endings_named name =
+    if bytes_eq name (codes "crlf") then Crlf else (if bytes_eq name (codes "keep") then Keep else Lf)
 
 abbrev pub line_endings_of : Given → LineEndings
 line_endings_of given = line_endings_named (unwrap_or (text (codes "--line-endings") given) (codes "lf"))

@@ -1,4 +1,5 @@
--- The words of `gqlls`: options in any order, each limit at most once, or a page of the program. Editors add `--stdio`, which changes nothing.
+-- The words of `gqlls`: options in any order, each limit at most once, or a page of the program. Editors add `--stdio`,
+-- which changes nothing.
 use Rattle.std.specs.Prelude.{ℕ, false, List, map, Option, option_map}
 use Rattle.apollo_lexer.specs.declared.limits.Limits.{Limits}
 use Rattle.command_lines.specs.Information.{information_of}

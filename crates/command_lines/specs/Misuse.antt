@@ -3,8 +3,9 @@ use Rattle.std.specs.Prelude.{◌≡◌, ◌⊎◌, ℕ, List, [], ◌++◌, cod
 use Rattle.std.specs.List.{Contains}
 use Rattle.marked_lines.specs.Escaping.{shown}
 use Rattle.command_lines.specs.declared.misuse.Mistake.{Mistake}
-use Rattle.command_lines.specs.declared.misuse.Mistake.TheVariants.{Unknown, NoOption, UnknownMode, NoMode, NoValue, NoNumber}
-use Rattle.command_lines.specs.declared.misuse.Mistake.TheVariants.{NoLineEnding, NoFormat, Again, BesideFiles}
+use Rattle.command_lines.specs.declared.misuse.Mistake.TheVariants.{Unknown, NoOption, UnknownMode, NoMode, NoValue}
+use Rattle.command_lines.specs.declared.misuse.Mistake.TheVariants.{NoNumber, NoLineEnding, NoFormat, Again}
+use Rattle.command_lines.specs.declared.misuse.Mistake.TheVariants.{BesideFiles}
 use Rattle.command_lines.specs.declared.misuse.WordsError.{WordsError}
 use Rattle.command_lines.specs.declared.misuse.WordsError.TheVariants.{Usage, Memory}
 

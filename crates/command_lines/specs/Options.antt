@@ -1,6 +1,7 @@
--- The words of a command line: options, each at most once, and files or standard input where a program takes some. A program's options are a table.
-use Rattle.std.specs.Prelude.{ℕ, Bool, false, true, ◌==◌, ◌&&◌, ◌||◌, not, List, [], ◌∷◌, ◌++◌, codes, bytes_eq, if◌then◌else◌}
-use Rattle.std.specs.Prelude.{Option, Some, None, option_and_then, option_map, unwrap_or, is_some}
+-- The words of a command line: options, each at most once, and files or standard input where a program takes some. A
+-- program's options are a table.
+use Rattle.std.specs.Prelude.{ℕ, Bool, false, true, ◌==◌, ◌&&◌, ◌||◌, not, List, [], ◌∷◌, ◌++◌, codes, bytes_eq}
+use Rattle.std.specs.Prelude.{if◌then◌else◌, Option, Some, None, option_and_then, option_map, unwrap_or, is_some}
 use Rattle.std.specs.List.{find}
 use Rattle.apollo_lexer.specs.Limits.{default_limits}
 use Rattle.apollo_lexer.specs.declared.limits.Limits.{Limits}
@@ -41,7 +42,8 @@ abbrev pub is_line_ending : List ℕ → Bool
 is_line_ending word = bytes_eq word (codes "lf") || bytes_eq word (codes "crlf") || bytes_eq word (codes "keep")
 
 abbrev pub is_format : List ℕ → Bool
-is_format word = bytes_eq word (codes "text") || bytes_eq word (codes "json") || bytes_eq word (codes "github") || bytes_eq word (codes "sarif")
+is_format word = bytes_eq word (codes "text") || bytes_eq word (codes "json") || bytes_eq word (codes "github")
+    || bytes_eq word (codes "sarif")
 
 -- and with a value
 abbrev pub value_of : Takes → List ℕ → Option (Value (List ℕ))
@@ -72,7 +74,8 @@ abbrev pub set_to : Row → Option (Value (List ℕ)) → Given → Option Given
 set_to row None given = None
 set_to (name, short, Ignored) (Some value) given = Some given
 set_to row (Some value) given =
-    if is_some (setting (key_of row) given) then None else Some (record given { settings = given.settings ++ (key_of row, value) ∷ [] })
+    if is_some (setting (key_of row) given) then None else Some
+    (record given { settings = given.settings ++ (key_of row, value) ∷ [] })
 
 -- an option is a dash with more; a dash alone is standard input
 abbrev pub is_option : List ℕ → Bool
@@ -83,13 +86,15 @@ is_option (b ∷ c ∷ bytes) = b == 45
 -- the option whose value is the word after it
 abbrev pub awaiting : List Row → List ℕ → Option Row
 awaiting rows word =
-    if is_option word && not (has_own_value word) then option_and_then (λ row. if is_some (alone row) then None else Some row) (row_called word rows)
+    if is_option word && not (has_own_value word) then option_and_then
+    (λ row. if is_some (alone row) then None else Some row) (row_called word rows)
     else None
 
 -- an option in a word alone, as `--name=value` or `--name`
 abbrev pub with_option : List Row → List ℕ → Given → Option Given
 with_option rows word given =
-    if has_own_value word then option_and_then (λ row. set_to row (value_of row.2 (own_value word)) given) (row_called (option_name word) rows)
+    if has_own_value word then option_and_then (λ row. set_to row (value_of row.2 (own_value word)) given)
+    (row_called (option_name word) rows)
     else option_and_then (λ row. set_to row (alone row) given) (row_called word rows)
 
 abbrev pub with_files : Given → List (List ℕ) → Given
@@ -98,16 +103,19 @@ with_files given files = record given { files = given.files ++ files }
 -- standard input, once, or a file
 abbrev pub with_file : List ℕ → Given → Option Given
 with_file word given =
-    if bytes_eq word (codes "-") then (if given.input then None else Some (record given { input = true })) else Some (with_files given (word ∷ []))
+    if bytes_eq word (codes "-") then (if given.input then None else Some (record given { input = true })) else Some
+    (with_files given (word ∷ []))
 
 -- a program's options, and whether it takes files
 module _ (rows : List Row) (takes_files : Bool) where
   -- a word that needs no other
   abbrev pub with_word : List ℕ → Given → Option Given
-  with_word word given = if is_option word then with_option rows word given else (if takes_files then with_file word given else None)
+  with_word word given = if is_option word then with_option rows word given else
+      (if takes_files then with_file word given else None)
 
   abbrev mutual
-    -- What words give after others that gave this: nothing where the program is not called so. After `--` all words are files.
+    -- What words give after others that gave this: nothing where the program is not called so. After `--` all words are
+    -- files.
     pub given_from : Given → List (List ℕ) → Option Given
     given_from given [] = Some given
     given_from given (word ∷ more) =
@@ -119,7 +127,8 @@ module _ (rows : List Row) (takes_files : Bool) where
     pub given_after : Given → Option Row → List (List ℕ) → Option Given
     given_after given row [] = None
     given_after given row (value ∷ more) =
-        option_and_then (λ given. given_from given more) (option_and_then (λ row. set_to row (value_of row.2 value) given) row)
+        option_and_then (λ given. given_from given more)
+        (option_and_then (λ row. set_to row (value_of row.2 value) given) row)
 
 -- ---- what is given
 

@@ -26,10 +26,14 @@ as_settings settings = map (λ set. (set.0.now, as_value set.1)) settings
 
 -- what words have given
 abbrev pub as_given : {A : Type 0} → Plan A → Given
-as_given plan = record { settings = as_settings plan.settings.items; input = plan.input; files = texts plan.files.items }
+as_given plan = record {
+  settings = as_settings plan.settings.items;
+  input = plan.input;
+  files = texts plan.files.items;
+}
 
--- What was wanted of a word and of some after it is what `given_from` says of those left, of which as many are gone as are answered; or the program is not
--- called so.
+-- What was wanted of a word and of some after it is what `given_from` says of those left, of which as many are gone as
+-- are answered; or the program is not called so.
 module _ {R : Type 0} (wanted : Option R) (given_from : List (List ℕ) → Option R) (more : List (Bor (List ℕ))) where
   abbrev pub IsTaken : Result ℕ WordsError → Type 0
   IsTaken (Ok count) = wanted ≡ given_from (texts (drop count more))

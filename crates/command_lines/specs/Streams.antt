@@ -21,7 +21,8 @@ no_memory program = program ++ codes ": out of memory\n"
 
 -- What is wrong with a word is said, and how the program is called; only the latter where memory is refused.
 abbrev pub Explains : List ℕ → List ℕ → List ℕ → Mistake → Account → Account → Type 0
-Explains program usage word mistake old new = IsSaid (complaint program word mistake ++ usage) old new ⊎ IsSaid usage old new
+Explains program usage word mistake old new =
+    IsSaid (complaint program word mistake ++ usage) old new ⊎ IsSaid usage old new
 
 -- what it says where it cannot write
 abbrev pub no_output : List ℕ → List ℕ
@@ -42,11 +43,13 @@ OnlyPrints program page status old new =
 
 -- A text is said, and nothing else is done.
 abbrev pub OnlySays : List ℕ → ℕ → Streams → Streams → Type 0
-OnlySays text status old new = (status ≡ 2) × IsSaid text old.complaints new.complaints × (new.output ≡ old.output) × (new.input ≡ old.input)
+OnlySays text status old new =
+    (status ≡ 2) × IsSaid text old.complaints new.complaints × (new.output ≡ old.output) × (new.input ≡ old.input)
 
--- What is wrong with a word is said, and nothing else is done. `IsWrong` tells which words it may be. Which of them it is, and what is wrong with it, is not
--- stated.
+-- What is wrong with a word is said, and nothing else is done. `IsWrong` tells which words it may be. Which of them it
+-- is, and what is wrong with it, is not stated.
 abbrev pub OnlyExplains : List ℕ → List ℕ → (List ℕ → Type 0) → ℕ → Streams → Streams → Type 0
 OnlyExplains program usage IsWrong status old new =
-    (word : List ℕ) × (mistake : Mistake) × IsWrong word × (status ≡ 2) × Explains program usage word mistake old.complaints new.complaints
+    (word : List ℕ) × (mistake : Mistake) × IsWrong word × (status ≡ 2)
+    × Explains program usage word mistake old.complaints new.complaints
     × (new.output ≡ old.output) × (new.input ≡ old.input)

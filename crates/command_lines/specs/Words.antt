@@ -20,7 +20,8 @@ abbrev pub request_map : {P R : Type 0} → (P → R) → Request P → Request 
 request_map run (Print page) = Print page
 request_map run (Process plan) = Process (run plan)
 
--- What is read, seen as something else, is what was wanted; or there was nothing. Where memory was refused, this says nothing.
+-- What is read, seen as something else, is what was wanted; or there was nothing. Where memory was refused, this says
+-- nothing.
 module _ {T P : Type 0} (seen : P → T) where
   abbrev pub IsRead : Option T → Result P WordsError → Type 0
   IsRead wanted (Ok value) = wanted ≡ Some (seen value)

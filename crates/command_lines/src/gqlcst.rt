@@ -56,7 +56,8 @@ fn command_of<'a, A: Allocator + Copy>(
     }
 }
 
-/// The request in the words after the program's name: a mode, and then options in any order, each at most once; or a page, as `information_of` has it.
+/// The request in the words after the program's name: a mode, and then options in any order, each at most once; or a
+/// page, as `information_of` has it.
 pub fn options<'a, A: Allocator + Copy>(
     alloc: A,
     words: &[&'a str],

@@ -1,6 +1,7 @@
 // The words of `gqlfmt`.
 ghost use Rattle.std.specs.Prelude.{◌≡◌};
-ghost use Rattle.command_lines.specs.Gqlfmt.{line_endings_named, line_endings_of, mode_named, mode_of, most_output_of, name_of, request_of};
+ghost use Rattle.command_lines.specs.Gqlfmt.{line_endings_named, line_endings_of, mode_named, mode_of, most_output_of};
+ghost use Rattle.command_lines.specs.Gqlfmt.{name_of, request_of};
 ghost use Rattle.command_lines.specs.Misuse.{IsAbout, IsAmong};
 ghost use Rattle.command_lines.specs.Reading.{as_given};
 ghost use Rattle.command_lines.specs.Words.{IsRead, request_map, texts};

@@ -13,8 +13,8 @@ use std::alloc::Allocator;
 /// The options of the program. Editors add the first.
 pub const OPTIONS: [Row; 3] = [("--stdio", "", Takes::Ignored), RECURSION, TOKENS];
 
-/// The request in the words after the program's name: the limits that they set, or a page, as `information_of` has it. Options come in any order, each
-/// limit at most once.
+/// The request in the words after the program's name: the limits that they set, or a page, as `information_of` has it.
+/// Options come in any order, each limit at most once.
 pub fn options<'a, A: Allocator + Copy>(
     alloc: A,
     words: &[&'a str],

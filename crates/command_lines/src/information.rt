@@ -30,8 +30,8 @@ fn is_version(word: &str) -> bool
     matches!(word, "--version" | "-V")
 }
 
-/// What the words after a program's name have it print of itself, if anything: the first of `--help`, `-h`, `--version` and `-V` says it, unless `--` comes
-/// before.
+/// What the words after a program's name have it print of itself, if anything: the first of `--help`, `-h`, `--version`
+/// and `-V` says it, unless `--` comes before.
 pub fn information_of(words: &[&str]) -> Option<Information>
     ensures { result ≡ information_of (map (λ word. word.now) words.now) }
 {

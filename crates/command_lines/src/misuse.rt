@@ -59,15 +59,16 @@ impl Misuse<'_> {
         }
     }
 
-    /// What a program with this name says: a line about the word that is wrong, with escapes for characters that would not be seen, and then how it is
-    /// called.
+    /// What a program with this name says: a line about the word that is wrong, with escapes for characters that would
+    /// not be seen, and then how it is called.
     pub fn explanation<A: Allocator>(
         &self,
         alloc: A,
         program: &str,
         usage: &str,
     ) -> Result<String<A>, AllocError>
-        ensures { IfOk result (λ text. string_bytes text ≡ complaint program.now self.now.word.now self.now.mistake ++ usage.now) }
+        ensures { IfOk result (λ text. string_bytes text ≡ complaint program.now self.now.word.now self.now.mistake
+            ++ usage.now) }
     {
         let (before, after) = self.words();
         let mut text = String::from_str(alloc, program)?;

@@ -3,8 +3,9 @@ ghost use Rattle.std.specs.Prelude.{◌≡◌, ◌≤◌, ◌∷◌, IfOk, codes
 ghost use Rattle.std.specs.List.{Contains};
 ghost use Rattle.command_lines.specs.FilePrograms.{request_of};
 ghost use Rattle.command_lines.specs.Misuse.{IsAbout, IsAmong};
-ghost use Rattle.command_lines.specs.Options.{alone, awaiting, given_from, is_option, with_file, with_option, with_word};
-ghost use Rattle.command_lines.specs.Options.{is_set, key_of, limits_of, nothing_given, number, row_called, set_to, setting, text, value_of};
+ghost use Rattle.command_lines.specs.Options.{alone, awaiting, given_from, is_option, with_file, with_option};
+ghost use Rattle.command_lines.specs.Options.{with_word, is_set, key_of, limits_of, nothing_given, number, row_called};
+ghost use Rattle.command_lines.specs.Options.{set_to, setting, text, value_of};
 ghost use Rattle.command_lines.specs.Reading.{IsTaken, as_given, as_row, as_rows, as_value};
 ghost use Rattle.command_lines.specs.Words.{IsRead, request_map, texts};
 
@@ -183,7 +184,8 @@ impl<'a, A: Allocator> Plan<'a, A> {
         word: &'a str,
         mistake: Mistake,
     ) -> Result<(), WordsError<'a>>
-        ensures set { IsRead (λ _. as_given self.new) (set_to (as_row row.entry) (option_map as_value value.entry) (as_given self.old)) result }
+        ensures set { IsRead (λ _. as_given self.new)
+            (set_to (as_row row.entry) (option_map as_value value.entry) (as_given self.old)) result }
         ensures about { IsAbout (λ wrong. wrong ≡ word.now) result }
     {
         let value = or_misuse(value, word, mistake)?;
@@ -207,7 +209,8 @@ impl<'a, A: Allocator> Plan<'a, A> {
         takes_files: bool,
         word: &'a str,
     ) -> Result<(), WordsError<'a>>
-        ensures given { IsRead (λ _. as_given self.new) (with_option (as_rows rows.now) word.now (as_given self.old)) result }
+        ensures given { IsRead (λ _. as_given self.new)
+            (with_option (as_rows rows.now) word.now (as_given self.old)) result }
         ensures about { IsAbout (λ wrong. wrong ≡ word.now) result }
     {
         if let Some((name, value)) = name_and_value(word) {
@@ -241,7 +244,8 @@ impl<'a, A: Allocator> Plan<'a, A> {
         takes_files: bool,
         word: &'a str,
     ) -> Result<(), WordsError<'a>>
-        ensures given { IsRead (λ _. as_given self.new) (with_word (as_rows rows.now) takes_files word.now (as_given self.old)) result }
+        ensures given { IsRead (λ _. as_given self.new)
+            (with_word (as_rows rows.now) takes_files word.now (as_given self.old)) result }
         ensures about { IsAbout (λ wrong. wrong ≡ word.now) result }
     {
         if is_option(word) {
@@ -261,7 +265,9 @@ impl<'a, A: Allocator> Plan<'a, A> {
         word: &'a str,
         more: &[&'a str],
     ) -> Result<usize, WordsError<'a>>
-        ensures taken { IsTaken (given_from (as_rows rows.now) takes_files (as_given self.old) (word.now ∷ texts more.now)) (given_from (as_rows rows.now) takes_files (as_given self.new)) more.now result }
+        ensures taken { IsTaken
+            (given_from (as_rows rows.now) takes_files (as_given self.old) (word.now ∷ texts more.now))
+            (given_from (as_rows rows.now) takes_files (as_given self.new)) more.now result }
         ensures within { IfOk result (λ count. count ≤ length more.now) }
         ensures about { IsAbout (λ wrong. wrong ≡ word.now) result }
     {
@@ -343,8 +349,9 @@ pub(crate) fn plan_of<'a, A: Allocator + Copy>(
     Ok(plan)
 }
 
-/// The request in the words of a program that takes files. `--help` and `--version` come before all else, wherever they are. Options and files come in any
-/// order; after `--` all words are files. The value of an option is the next word, or follows an equals sign.
+/// The request in the words of a program that takes files. `--help` and `--version` come before all else, wherever they
+/// are. Options and files come in any order; after `--` all words are files. The value of an option is the next word,
+/// or follows an equals sign.
 pub(crate) fn request_of<'a, A: Allocator + Copy>(
     alloc: A,
     rows: &[Row],

@@ -33,7 +33,8 @@ pub fn say_no_memory<E: Sink>(program: &str, complaints: &mut E)
 
 /// Prints a page of a program, and gives the status: 0, or 2 where the sink does not take all of it, which is said.
 pub fn print<W: Sink, E: Sink>(program: &str, writer: &mut W, complaints: &mut E, page: &str) -> u8
-    ensures { IsPrinted program.now page.now result (W.account writer.old) (W.account writer.new) (E.account complaints.old) (E.account complaints.new) }
+    ensures { IsPrinted program.now page.now result (W.account writer.old) (W.account writer.new)
+        (E.account complaints.old) (E.account complaints.new) }
 {
     match write_all(writer, page.as_bytes()) {
         Ok(()) => 0,
@@ -44,7 +45,8 @@ pub fn print<W: Sink, E: Sink>(program: &str, writer: &mut W, complaints: &mut E
     }
 }
 
-/// Says which word is wrong, and how the program of this name is called; only the latter where memory is refused. What the sink does not take is lost.
+/// Says which word is wrong, and how the program of this name is called; only the latter where memory is refused. What
+/// the sink does not take is lost.
 pub fn explain<A: Allocator, E: Sink>(
     alloc: A,
     program: &str,
@@ -52,7 +54,8 @@ pub fn explain<A: Allocator, E: Sink>(
     complaints: &mut E,
     misuse: Misuse<'_>,
 )
-    ensures { Explains program.now usage.now misuse.entry.word.now misuse.entry.mistake (E.account complaints.old) (E.account complaints.new) }
+    ensures { Explains program.now usage.now misuse.entry.word.now misuse.entry.mistake (E.account complaints.old)
+        (E.account complaints.new) }
 {
     match misuse.explanation(alloc, program, usage) {
         Ok(text) => say(complaints, text.as_str()),

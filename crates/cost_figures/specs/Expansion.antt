@@ -1,7 +1,9 @@
--- What it means to expand a definition (GraphQL October 2021, section 2.8): to put what the fragment selects in place of each fragment spread.
+-- What it means to expand a definition (GraphQL October 2021, section 2.8): to put what the fragment selects in place
+-- of each fragment spread.
 --
 -- `d` are the definitions of a document, each the list of its items. A spread names a definition by its number.
-use Rattle.std.specs.Prelude.{ℕ, ◌+◌, ◌<◌, ◌≡◌, Bool, true, false, List, [], ◌∷◌, ◌++◌, length, map, slice_index_or, Contains}
+use Rattle.std.specs.Prelude.{ℕ, ◌+◌, ◌<◌, ◌≡◌, Bool, true, false, List, [], ◌∷◌, ◌++◌, length, map, slice_index_or}
+use Rattle.std.specs.Prelude.{Contains}
 use Rattle.cost_figures.specs.declared.items.Item.{Item}
 use Rattle.cost_figures.specs.declared.items.Span.{Span}
 use Rattle.cost_figures.specs.declared.items.Item.TheVariants.{Field, ResponseName, Alias, Directive, Spread}

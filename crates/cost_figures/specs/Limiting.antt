@@ -2,7 +2,8 @@
 use Rattle.std.specs.Prelude.{ℕ, List, [], ◌∷◌}
 use Rattle.cost_figures.specs.declared.figures.Figures.{Figures}
 use Rattle.cost_figures.specs.declared.limits.Limit.{Limit}
-use Rattle.cost_figures.specs.declared.limits.Limit.TheVariants.{Depth, Fields, RootFields, Aliases, Directives, Height, DistinctRootFields}
+use Rattle.cost_figures.specs.declared.limits.Limit.TheVariants.{Depth, Fields, RootFields, Aliases, Directives, Height}
+use Rattle.cost_figures.specs.declared.limits.Limit.TheVariants.{DistinctRootFields}
 
 -- the figure that a limit is one of
 abbrev pub figure_of : Limit → Figures → ℕ

@@ -25,10 +25,11 @@ pub record IsMeasured (d : List (List Item)) (r : ℕ) (f : Figures) : Type 0 wh
 -- `fs` are the figures of the definitions `rs`, one for one
 pub data AreMeasured (d : List (List Item)) : List ℕ → List Figures → Type 0 where
   none : AreMeasured d [] []
-  next : {r : ℕ} {f : Figures} {rs : List ℕ} {fs : List Figures} → IsMeasured d r f → AreMeasured d rs fs → AreMeasured d (r ∷ rs) (f ∷ fs)
+  next : {r : ℕ} {f : Figures} {rs : List ℕ} {fs : List Figures} → IsMeasured d r f → AreMeasured d rs fs
+      → AreMeasured d (r ∷ rs) (f ∷ fs)
 
--- The definition `r` leads to a definition, and the spread there that is at `span` is one of a fragment that leads back to that definition. So
--- both are on the cycle.
+-- The definition `r` leads to a definition, and the spread there that is at `span` is one of a fragment that leads back
+-- to that definition. So both are on the cycle.
 pub record IsCycle (d : List (List Item)) (r : ℕ) (span : Span) : Type 0 where
   pub holder : ℕ
   pub fragment : ℕ

@@ -1,5 +1,6 @@
 -- What the walk over the definitions keeps true.
-use Rattle.std.specs.Prelude.{ℕ, ◌+◌, ◌-◌, ◌<◌, ◌≤◌, ◌≡◌, List, [], ◌∷◌, ◌++◌, length, take, slice_index_or, ◌⊎◌, Bool, MatchBool}
+use Rattle.std.specs.Prelude.{ℕ, ◌+◌, ◌-◌, ◌<◌, ◌≤◌, ◌≡◌, List, [], ◌∷◌, ◌++◌, length, take, slice_index_or, ◌⊎◌, Bool}
+use Rattle.std.specs.Prelude.{MatchBool}
 use Rattle.cost_figures.specs.declared.items.Item.{Item}
 use Rattle.cost_figures.specs.declared.items.Span.{Span}
 use Rattle.cost_figures.specs.declared.items.Item.TheVariants.{Spread}
@@ -31,7 +32,8 @@ pub record IsFrame (d : List (List Item)) (f : Frame) : Type 0 where
 pub record IsPast (old new : Frame) (g : Figures) : Type 0 where
   pub definition : new.definition ≡ old.definition
   pub next : new.next ≡ old.next + 1
-  pub figures : (xs ys : List Item) → old.figures ≡ figures_of xs → g ≡ figures_of ys → new.figures ≡ figures_of (xs ++ ys)
+  pub figures : (xs ys : List Item) → old.figures ≡ figures_of xs → g ≡ figures_of ys
+      → new.figures ≡ figures_of (xs ++ ys)
 
 -- the next item of a frame is a spread of `k`
 pub record WaitsAt (d : List (List Item)) (f : Frame) (k : ℕ) : Type 0 where
@@ -42,7 +44,8 @@ pub record WaitsAt (d : List (List Item)) (f : Frame) (k : ℕ) : Type 0 where
 -- each frame waits for the next one, and the last one for the current one
 pub data Path (d : List (List Item)) : List Frame → Frame → Type 0 where
   start : {f : Frame} → IsFrame d f → Path d [] f
-  deeper : {fs : List Frame} {f g : Frame} → Path d fs f → WaitsAt d f g.definition → IsFrame d g → Path d (fs ++ f ∷ []) g
+  deeper : {fs : List Frame} {f g : Frame} → Path d fs f → WaitsAt d f g.definition → IsFrame d g
+      → Path d (fs ++ f ∷ []) g
 
 -- the definition that the walk began with
 abbrev pub first : List Frame → Frame → ℕ

@@ -6,7 +6,8 @@ ghost use Rattle.cost_figures.specs.declared.items.Item.{Item};
 
 use crate::items::Item;
 
-/// How large an operation is with its fragments expanded. Each number stops at `u64::MAX`, which then means that or more.
+/// How large an operation is with its fragments expanded. Each number stops at `u64::MAX`, which then means that or
+/// more.
 ///
 /// The figures limit an operation too: then each is the greatest that is allowed.
 #[derive(Clone, Copy)]
@@ -19,10 +20,11 @@ pub struct Figures {
     pub root_fields: u64,
     /// The number of aliases (section 2.7).
     pub aliases: u64,
-    /// The number of directives (section 2.12) of the operation, its variables, its selections, and its fragments at each of their spreads.
+    /// The number of directives (section 2.12) of the operation, its variables, its selections, and its fragments at
+    /// each of their spreads.
     pub directives: u64,
-    /// The number of fields, where each selection set counts a response name (section 2.7) once. Inline fragments and fragments have selection
-    /// sets of their own. Apollo Router limits this number as `max_height`.
+    /// The number of fields, where each selection set counts a response name (section 2.7) once. Inline fragments and
+    /// fragments have selection sets of their own. Apollo Router limits this number as `max_height`.
     pub height: u64,
     /// The number of root fields, counted like `height`.
     pub distinct_root_fields: u64,

@@ -10,12 +10,14 @@ pub struct Span {
 pub enum Item {
     /// A field, and how many fields of its definition enclose it.
     Field(usize),
-    /// The first field of its response name in its selection set, and how many fields of its definition enclose it. It follows that `Field`.
+    /// The first field of its response name in its selection set, and how many fields of its definition enclose it. It
+    /// follows that `Field`.
     ResponseName(usize),
     /// A field's alias.
     Alias,
     /// A directive, wherever it is.
     Directive,
-    /// A fragment spread: how many fields of its definition enclose it, the number of the definition that it names, and where it is.
+    /// A fragment spread: how many fields of its definition enclose it, the number of the definition that it names, and
+    /// where it is.
     Spread(usize, usize, Span),
 }

@@ -1,7 +1,8 @@
 //! How large an operation becomes when the selections of its fragment replace each fragment spread.
 //!
-//! A definition, which is an operation or a fragment, is the list of the items in it that are counted, in the order of the text. The figures are
-//! those of the expanded list, which may be exponentially long; time and memory are linear in the lists that are given.
+//! A definition, which is an operation or a fragment, is the list of the items in it that are counted, in the order of
+//! the text. The figures are those of the expanded list, which may be exponentially long; time and memory are linear in
+//! the lists that are given.
 //!
 //! `cost_limits`, the crate above, calls `measure` with the lists of a document's definitions.
 #![tactic(auto)]

@@ -1,5 +1,7 @@
-// The walk over the definitions: each is gone through once, and a fragment is gone through when the first spread of it is met.
-ghost use Rattle.std.specs.Prelude.{◌≡◌, ◌<◌, ◌+◌, ◌^◌, [], ◌∷◌, ◌++◌, All, map, length, vec_len, slice_set, OnOk, IfOk, IfErr, MatchBool, MatchOption, OnSome};
+// The walk over the definitions: each is gone through once, and a fragment is gone through when the first spread of it
+// is met.
+ghost use Rattle.std.specs.Prelude.{◌≡◌, ◌<◌, ◌+◌, ◌^◌, [], ◌∷◌, ◌++◌, All, map, length, vec_len, slice_set, OnOk};
+ghost use Rattle.std.specs.Prelude.{IfOk, IfErr, MatchBool, MatchOption, OnSome};
 ghost use Rattle.cost_figures.specs.Expansion.{definition, is_spread};
 ghost use Rattle.cost_figures.specs.Outcome.{Explains, ExplainsAny, AreMeasured};
 ghost use Rattle.cost_figures.specs.Walks.{IsAt, IsPast, Measured, Sound, Idle, Goes, root};
@@ -68,7 +70,8 @@ impl<A: Allocator> OpenDefinitions<A> {
     fn next_item(&self, definitions: &[Vec<Item, A>]) -> Option<Item>
         requires { Sound (map (λ v. v.items) definitions.now) self.now }
         ensures item { MatchOption result
-            (self.now.current.next ≡ length (definition (map (λ v. v.items) definitions.now) self.now.current.definition))
+            (self.now.current.next ≡ length
+            (definition (map (λ v. v.items) definitions.now) self.now.current.definition))
             (IsAt (definition (map (λ v. v.items) definitions.now) self.now.current.definition) self.now.current.next) }
         ensures small { OnSome result (self.now.current.next + 1 < 2 ^ 64) }
     {
@@ -146,7 +149,8 @@ impl<A: Allocator> OpenDefinitions<A> {
         requires { fragment < vec_len self.old.marks }
         ensures marks { OnOk result (self.new.marks.items ≡ slice_set self.old.marks.items fragment Mark.Open) }
         ensures waiting { OnOk result (self.new.waiting.items ≡ self.old.waiting.items ++ self.old.current ∷ []) }
-        ensures current { OnOk result (self.new.current ≡ record { definition = fragment; next = 0; figures = Figures.NONE }) }
+        ensures current { OnOk result
+            (self.new.current ≡ record { definition = fragment; next = 0; figures = Figures.NONE }) }
         ensures fault { IfErr result (λ e. e ≡ Fault.Memory) }
     {
         if self.waiting.push(self.current).is_err() {

@@ -1,6 +1,6 @@
 -- The first fragments of names.
-use Rattle.std.proofs.Common.{◌≡◌, ℕ, ◌<◌, ◌≤◌, List, length, map, get_or, Bool, true, false, ltb, cond, Option, Some, None, inl, inr, refl, sym, ap, ◌∙◌}
-use Rattle.std.proofs.Common.{subst, arith, bytes_eq}
+use Rattle.std.proofs.Common.{◌≡◌, ℕ, ◌<◌, ◌≤◌, List, length, map, get_or, Bool, true, false, ltb, cond, Option, Some}
+use Rattle.std.proofs.Common.{None, inl, inr, refl, sym, ap, ◌∙◌, subst, arith, bytes_eq}
 use Rattle.std.specs.Prelude.{IfNone}
 use Rattle.std.specs.List.{position_or_len}
 use Rattle.std.proofs.lemmas.Bool.{cases_lt}
@@ -32,7 +32,8 @@ record Found (names : List (Option Name)) (s : Name) (k : ℕ) : Type 0 where
 own : (s : Name) → bytes_eq s s ≡ true
 own s = (bytes_eq-Decides s s).1 refl
 
-found : (names : List (Option Name)) (s : Name) (k : ℕ) → k < length names → get_or names k None ≡ Some s → Found names s k
+found : (names : List (Option Name)) (s : Name) (k : ℕ) → k < length names
+    → get_or names k None ≡ Some s → Found names s k
 found names s k h e =
     let p = has_name s in
     let passes : p (get_or names k None) ≡ true = ap p e ∙ own s in
@@ -50,21 +51,25 @@ found names s k h e =
     inside : (m n : ℕ) → m < n → cond (ltb m n) (Some m) None ≡ Some m
     inside m n b = grind (arith, nat_tests)
 
-module _ (entries : Entries ℕ) (names : List (Option Name)) (are : AreFirstNumbers entries names) (k : ℕ) (h : k < length names) where
+module _ (entries : Entries ℕ) (names : List (Option Name)) (are : AreFirstNumbers entries names) (k : ℕ)
+    (h : k < length names) where
   pub no_name : get_or names k None ≡ None → IsFirst names k
   no_name e s is = absurd (let r : ⊥ = cc in r)
 
-  pub not_entered : (name : Option Name) (s : Name) → get_or names k None ≡ name → name ≡ Some s → entry_of entries s ≡ None → IsFirst names k
+  pub not_entered : (name : Option Name) (s : Name) → get_or names k None ≡ name → name ≡ Some s
+      → entry_of entries s ≡ None → IsFirst names k
   not_entered name s e n none t is =
       let f = found names s k h (e ∙ n) in
       let given = are s in
       absurd (let r : ⊥ = cc (f.is) in r)
 
-  pub is_second : (name : Option Name) (s : Name) (first : ℕ) → get_or names k None ≡ name → name ≡ Some s → entry_of entries s ≡ Some first → first < k
+  pub is_second : (name : Option Name) (s : Name) (first : ℕ) → get_or names k None ≡ name → name ≡ Some s
+      → entry_of entries s ≡ Some first → first < k
       → IsSecond names first k
   is_second name s first e n is b = record { name = s; first_is = sym (are s) ∙ is; second_is = e ∙ n; apart = b }
 
-  pub is_first : (name : Option Name) (s : Name) (first : ℕ) → get_or names k None ≡ name → name ≡ Some s → entry_of entries s ≡ Some first → (first < k
+  pub is_first : (name : Option Name) (s : Name) (first : ℕ) → get_or names k None ≡ name → name ≡ Some s
+      → entry_of entries s ≡ Some first → (first < k
       → ⊥) → IsFirst names k
   is_first name s first e n is b t its =
       let f = found names s k h (e ∙ n) in

@@ -1,6 +1,7 @@
 -- Lists of operations, and the limits that they exceed.
-use Rattle.std.proofs.Common.{◌≡◌, ℕ, suc, ◌+◌, ◌<◌, ◌≤◌, List, [], ◌∷◌, ◌++◌, length, map, take, get_or, Bool, true, false, cond, Option, Some, None}
-use Rattle.std.proofs.Common.{unwrap_or, refl, sym, ap, ◌∙◌, subst, arith, ltb, ◌-◌, ◌^◌}
+use Rattle.std.proofs.Common.{◌≡◌, ℕ, suc, ◌+◌, ◌<◌, ◌≤◌, List, [], ◌∷◌, ◌++◌, length, map, take, get_or, Bool, true}
+use Rattle.std.proofs.Common.{false, cond, Option, Some, None, unwrap_or, refl, sym, ap, ◌∙◌, subst, arith, ltb, ◌-◌}
+use Rattle.std.proofs.Common.{◌^◌}
 use Rattle.std.specs.Prelude.{find}
 use Rattle.std.specs.Prelude.{All}
 use Rattle.std.specs.List.{filter}
@@ -9,12 +10,14 @@ use Rattle.std.proofs.lemmas.List.Elements.{All-cons, filter-append}
 use Rattle.std.proofs.lemmas.Bool.Decides.{nat_tests}
 use Rattle.cost_figures.specs.declared.figures.Figures.{Figures}
 use Rattle.cost_figures.specs.declared.limits.Limit.{Limit}
-use Rattle.cost_figures.specs.declared.limits.Limit.TheVariants.{Depth, Fields, RootFields, Aliases, Directives, Height, DistinctRootFields}
+use Rattle.cost_figures.specs.declared.limits.Limit.TheVariants.{Depth, Fields, RootFields, Aliases, Directives, Height}
+use Rattle.cost_figures.specs.declared.limits.Limit.TheVariants.{DistinctRootFields}
 use Rattle.cost_figures.specs.Limiting.{figure_of, limits_in_order}
 use Rattle.cost_figures.specs.Outcome.{AreMeasured, none, next}
 use Rattle.cost_figures.specs.declared.items.Item.{Item}
 use Rattle.cost_figures.specs.declared.items.Item.TheVariants.{Alias, Directive, Spread}
-use Rattle.document_grammar.specs.declared.kind.SyntaxKind.TheVariants.{FIELD, ALIAS, DIRECTIVE, FRAGMENT_SPREAD, FRAGMENT_NAME}
+use Rattle.document_grammar.specs.declared.kind.SyntaxKind.TheVariants.{FIELD, ALIAS, DIRECTIVE, FRAGMENT_SPREAD}
+use Rattle.document_grammar.specs.declared.kind.SyntaxKind.TheVariants.{FRAGMENT_NAME}
 use Rattle.document_grammar.specs.Forests.{Forest, none as no_tree, leaf, node, count}
 use Rattle.document_grammar.specs.Numbers.{is_kind}
 use Rattle.apollo_tree.specs.Order.{Place, tree_at, tree_kids, kind_at}
@@ -25,13 +28,14 @@ use Rattle.validation_names.specs.Definitions.{Defined, as_defined, fragment_nam
 use Rattle.validation_names.specs.declared.executables.ExecutableDefinition.{ExecutableDefinition}
 use Rattle.validation_names.specs.declared.executables.DefinitionKind.{DefinitionKind}
 use Rattle.validation_names.specs.declared.executables.DefinitionKind.TheVariants.{Operation, Fragment}
-use Rattle.cost_limits.specs.Items.{field_items, is_new, response_name, span_at, items_of as own_items, seen_after, inside, items_below}
-use Rattle.cost_limits.specs.Items.{definition_items}
+use Rattle.cost_limits.specs.Items.{field_items, is_new, response_name, span_at, items_of as own_items, seen_after}
+use Rattle.cost_limits.specs.Items.{inside, items_below, definition_items}
 use Rattle.cost_limits.specs.Collecting.{number_of}
 use Rattle.cost_limits.specs.Measures.{Measure, number_in, items_of, is_operation, operations}
 use Rattle.cost_limits.specs.Limits.{exceeded_by, IsWithin}
 
-first_none : (p : Limit → Bool) (x : Limit) (xs : List Limit) → find p (x ∷ xs) ≡ None → (p x ≡ false) × (find p xs ≡ None)
+first_none : (p : Limit → Bool) (x : Limit) (xs : List Limit) → find p (x ∷ xs) ≡ None
+    → (p x ≡ false) × (find p xs ≡ None)
 first_none p x xs e = go (p x) refl e
   where
     go : (b : Bool) → p x ≡ b → cond b (Some x) (find p xs) ≡ None → (p x ≡ false) × (find p xs ≡ None)
@@ -62,7 +66,9 @@ not_less : (m n : ℕ) → ltb m n ≡ false → n ≤ m
 not_less m n h = grind (arith, nat_tests)
 
 pub is_within : (limits : Figures) (m : Measure) → exceeded_by limits m.figures ≡ None → IsWithin limits m
-is_within limits m e l = not_less (figure_of l limits) (figure_of l m.figures) (none_passes (λ l. ltb (figure_of l limits) (figure_of l m.figures)) e l)
+is_within limits m e l =
+    not_less (figure_of l limits) (figure_of l m.figures)
+    (none_passes (λ l. ltb (figure_of l limits) (figure_of l m.figures)) e l)
 
 -- ---- the same items by another numbering of the fragments
 
@@ -76,32 +82,42 @@ module _ (f g : Option Name → ℕ) (same : (o : Option Name) → f o ≡ g o) 
   joined : (xs ys zs us vs ws : List Item) → xs ≡ us → ys ≡ vs → zs ≡ ws → xs ++ (ys ++ zs) ≡ us ++ (vs ++ ws)
   joined xs ys zs us vs ws a b c = cc
 
-  below_same : (whole : Forest) (n i : ℕ) (seen : List Name) (t : Forest) → items_below whole f n i seen t ≡ items_below whole g n i seen t
+  below_same : (whole : Forest) (n i : ℕ) (seen : List Name) (t : Forest)
+      → items_below whole f n i seen t ≡ items_below whole g n i seen t
   below_same whole n i seen no_tree = refl
   below_same whole n i seen (leaf k s rest) = below_same whole n (suc i) seen rest
   below_same whole n i seen (node k kids rest) =
       let p : Place = record { whole = whole; index = i } in
-      joined (own_items f n seen p) (items_below whole f (inside n p) (suc i) [] kids) (items_below whole f n (suc (i + count kids)) (seen_after seen p) rest)
-      (own_items g n seen p) (items_below whole g (inside n p) (suc i) [] kids) (items_below whole g n (suc (i + count kids)) (seen_after seen p) rest)
-      (own_same n seen p) (below_same whole (inside n p) (suc i) [] kids) (below_same whole n (suc (i + count kids)) (seen_after seen p) rest)
+      joined (own_items f n seen p) (items_below whole f (inside n p) (suc i) [] kids)
+      (items_below whole f n (suc (i + count kids)) (seen_after seen p) rest)
+      (own_items g n seen p) (items_below whole g (inside n p) (suc i) [] kids)
+      (items_below whole g n (suc (i + count kids)) (seen_after seen p) rest)
+      (own_same n seen p) (below_same whole (inside n p) (suc i) [] kids)
+      (below_same whole n (suc (i + count kids)) (seen_after seen p) rest)
 
   all_same : (vs : List ExecutableDefinition)
-      → map (λ (d : ExecutableDefinition). definition_items f (node_place d.node)) vs ≡ map (λ (d : Defined). definition_items g d.place) (map as_defined vs)
+      → map (λ (d : ExecutableDefinition). definition_items f (node_place d.node)) vs
+      ≡ map (λ (d : Defined). definition_items g d.place) (map as_defined vs)
   all_same [] = refl
   all_same (v ∷ vs) =
       let p = node_place v.node in
-      ap (λ xs. xs ∷ map (λ (d : ExecutableDefinition). definition_items f (node_place d.node)) vs) (below_same p.whole 0 (suc p.index) [] (tree_kids
+      ap (λ xs. xs ∷ map (λ (d : ExecutableDefinition). definition_items f (node_place d.node)) vs)
+      (below_same p.whole 0 (suc p.index) [] (tree_kids
       (tree_at p)))
       ∙ ap (λ xss. definition_items g p ∷ xss) (all_same vs)
 
-same_number : (entries : Entries ℕ) (names : List (Option Name)) → AreFirstNumbers entries names → (o : Option Name) → number_of entries o ≡ number_in names o
+same_number : (entries : Entries ℕ) (names : List (Option Name)) → AreFirstNumbers entries names → (o : Option Name)
+    → number_of entries o ≡ number_in names o
 same_number entries names are None = refl
 same_number entries names are (Some s) = ap (λ o. unwrap_or o (2 ^ 64 - 1)) (are s)
 
-pub items_are : (entries : Entries ℕ) (vs : List ExecutableDefinition) → AreFirstNumbers entries (fragment_names (map as_defined vs))
-    → map (λ (d : ExecutableDefinition). definition_items (number_of entries) (node_place d.node)) vs ≡ items_of (map as_defined vs)
+pub items_are : (entries : Entries ℕ) (vs : List ExecutableDefinition)
+    → AreFirstNumbers entries (fragment_names (map as_defined vs))
+    → map (λ (d : ExecutableDefinition). definition_items (number_of entries) (node_place d.node)) vs
+    ≡ items_of (map as_defined vs)
 items_are entries vs are =
-    all_same (number_of entries) (number_in (fragment_names (map as_defined vs))) (same_number entries (fragment_names (map as_defined vs)) are) vs
+    all_same (number_of entries) (number_in (fragment_names (map as_defined vs)))
+    (same_number entries (fragment_names (map as_defined vs)) are) vs
 
 -- ---- the operations
 
@@ -114,7 +130,8 @@ operations-append : (i : ℕ) (xs : List Defined) (y : Defined)
 operations-append i [] y = ap (λ j. cond (is_operation y) (j ∷ []) []) (let h : i ≡ i + 0 = omega arith in h)
 operations-append i (x ∷ xs) y =
     let step : suc i + length xs ≡ i + suc (length xs) = omega arith in
-    either_append (is_operation x) i (operations (suc i) xs) (operations (suc i) (xs ++ y ∷ [])) (cond (is_operation y) ((i + suc (length xs)) ∷ []) [])
+    either_append (is_operation x) i (operations (suc i) xs) (operations (suc i) (xs ++ y ∷ []))
+    (cond (is_operation y) ((i + suc (length xs)) ∷ []) [])
     (operations-append (suc i) xs y ∙ ap (λ j. operations (suc i) xs ++ cond (is_operation y) (j ∷ []) []) step)
 
 kind_is : (k : DefinitionKind) → k ≡ Operation → elim k [ Operation ↦ true | Fragment ↦ false ] ≡ true
@@ -125,7 +142,8 @@ kind_is_not : (k : DefinitionKind) → (k ≡ Operation → ⊥) → elim k [ Op
 kind_is_not Operation e = absurd (e refl)
 kind_is_not Fragment e = refl
 
-module _ (vs : List ExecutableDefinition) (n : ℕ) (v : ExecutableDefinition) (h : n < length vs) (is : v ≡ get_or vs n v) where
+module _ (vs : List ExecutableDefinition) (n : ℕ) (v : ExecutableDefinition) (h : n < length vs)
+    (is : v ≡ get_or vs n v) where
   more : map as_defined (take (n + 1) vs) ≡ map as_defined (take n vs) ++ as_defined v ∷ []
   more = ap (map as_defined) (take_more vs n v h) ∙ map-append as_defined (take n vs) (get_or vs n v ∷ [])
       ∙ ap (λ d. map as_defined (take n vs) ++ as_defined d ∷ []) (sym is)
@@ -138,43 +156,55 @@ module _ (vs : List ExecutableDefinition) (n : ℕ) (v : ExecutableDefinition) (
   length_so_far = omega (arith, length-map (take n vs) as_defined, length-take n vs)
 
   pub one_more : (ds es : List ExecutableDefinition) (ks ms : List ℕ) → v.kind ≡ Operation
-      → map as_defined ds ≡ filter is_operation (map as_defined (take n vs)) → ks ≡ operations 0 (map as_defined (take n vs))
+      → map as_defined ds ≡ filter is_operation (map as_defined (take n vs))
+      → ks ≡ operations 0 (map as_defined (take n vs))
       → es ≡ ds ++ v ∷ [] → ms ≡ ks ++ n ∷ [] → Longer es ms
   one_more ds es ks ms k d e es_are ms_are =
       let is_one = kind_is v.kind k in
       record {
-        operations_are = ap (map as_defined) es_are ∙ map-append as_defined ds (v ∷ []) ∙ ap (λ xs. xs ++ as_defined v ∷ []) d
+        operations_are = ap (map as_defined) es_are ∙ map-append as_defined ds (v ∷ [])
+            ∙ ap (λ xs. xs ++ as_defined v ∷ []) d
             ∙ ap (λ b. filter is_operation (map as_defined (take n vs)) ++ cond b (as_defined v ∷ []) []) (sym is_one)
-            ∙ sym (ap (filter is_operation) more ∙ filter-append is_operation (map as_defined (take n vs)) (as_defined v ∷ []));
-        numbers_are = ms_are ∙ ap (λ xs. xs ++ n ∷ []) e ∙ ap (λ j. operations 0 (map as_defined (take n vs)) ++ j ∷ []) (sym length_so_far)
-            ∙ ap (λ b. operations 0 (map as_defined (take n vs)) ++ cond b ((0 + length (map as_defined (take n vs))) ∷ []) []) (sym is_one)
+            ∙ sym (ap (filter is_operation) more
+            ∙ filter-append is_operation (map as_defined (take n vs)) (as_defined v ∷ []));
+        numbers_are = ms_are ∙ ap (λ xs. xs ++ n ∷ []) e
+            ∙ ap (λ j. operations 0 (map as_defined (take n vs)) ++ j ∷ []) (sym length_so_far)
+            ∙ ap (λ b. operations 0 (map as_defined (take n vs))
+            ++ cond b ((0 + length (map as_defined (take n vs))) ∷ []) []) (sym is_one)
             ∙ sym (ap (operations 0) more ∙ operations-append 0 (map as_defined (take n vs)) (as_defined v));
       }
 
   pub none_more : (ds es : List ExecutableDefinition) (ks ms : List ℕ) → (v.kind ≡ Operation → ⊥)
-      → map as_defined ds ≡ filter is_operation (map as_defined (take n vs)) → ks ≡ operations 0 (map as_defined (take n vs))
+      → map as_defined ds ≡ filter is_operation (map as_defined (take n vs))
+      → ks ≡ operations 0 (map as_defined (take n vs))
       → es ≡ ds → ms ≡ ks → Longer es ms
   none_more ds es ks ms k d e es_are ms_are =
       let is_none = kind_is_not v.kind k in
       record {
-        operations_are = ap (map as_defined) es_are ∙ d ∙ sym (append-nil (filter is_operation (map as_defined (take n vs))))
+        operations_are = ap (map as_defined) es_are ∙ d
+            ∙ sym (append-nil (filter is_operation (map as_defined (take n vs))))
             ∙ ap (λ b. filter is_operation (map as_defined (take n vs)) ++ cond b (as_defined v ∷ []) []) (sym is_none)
-            ∙ sym (ap (filter is_operation) more ∙ filter-append is_operation (map as_defined (take n vs)) (as_defined v ∷ []));
+            ∙ sym (ap (filter is_operation) more
+            ∙ filter-append is_operation (map as_defined (take n vs)) (as_defined v ∷ []));
         numbers_are = ms_are ∙ e ∙ sym (append-nil (operations 0 (map as_defined (take n vs))))
-            ∙ ap (λ b. operations 0 (map as_defined (take n vs)) ++ cond b ((0 + length (map as_defined (take n vs))) ∷ []) []) (sym is_none)
+            ∙ ap (λ b. operations 0 (map as_defined (take n vs))
+            ++ cond b ((0 + length (map as_defined (take n vs))) ∷ []) []) (sym is_none)
             ∙ sym (ap (operations 0) more ∙ operations-append 0 (map as_defined (take n vs)) (as_defined v));
       }
 
-either_below : (n : ℕ) (b : Bool) (k : ℕ) (ks : List ℕ) → k < n → All (λ r. r < n) ks → All (λ r. r < n) (cond b (k ∷ ks) ks)
+either_below : (n : ℕ) (b : Bool) (k : ℕ) (ks : List ℕ) → k < n → All (λ r. r < n) ks
+    → All (λ r. r < n) (cond b (k ∷ ks) ks)
 either_below n true k ks h a = All-cons (λ r. r < n) k ks h a
 either_below n false k ks h a = a
 
 operations-in_range : (i n : ℕ) (ds : List Defined) → i + length ds ≤ n → All (λ r. r < n) (operations i ds)
 operations-in_range i n [] h = λ k d b. absurd (omega arith)
 operations-in_range i n (x ∷ ds) h =
-    either_below n (is_operation x) i (operations (suc i) ds) (omega arith) (operations-in_range (suc i) n ds (omega arith))
+    either_below n (is_operation x) i (operations (suc i) ds) (omega arith)
+    (operations-in_range (suc i) n ds (omega arith))
 
-pub in_range : {V : Type 0} (f : V → List Item) (vs : List V) (ds : List Defined) (roots : List ℕ) → map f vs ≡ items_of ds → roots ≡ operations 0 ds
+pub in_range : {V : Type 0} (f : V → List Item) (vs : List V) (ds : List Defined) (roots : List ℕ)
+    → map f vs ≡ items_of ds → roots ≡ operations 0 ds
     → All (λ r. r < length vs) roots
 in_range f vs ds roots e is =
     subst (All (λ r. r < length vs)) (sym is) (operations-in_range 0 (length vs) ds (omega (
@@ -192,13 +222,16 @@ either_length false k ks d ds e = e
 
 length-operations : (i : ℕ) (ds : List Defined) → length (operations i ds) ≡ length (filter is_operation ds)
 length-operations i [] = refl
-length-operations i (x ∷ ds) = either_length (is_operation x) i (operations (suc i) ds) x (filter is_operation ds) (length-operations (suc i) ds)
+length-operations i (x ∷ ds) =
+    either_length (is_operation x) i (operations (suc i) ds) x (filter is_operation ds) (length-operations (suc i) ds)
 
 length-measured : {d : List (List Item)} {rs : List ℕ} {fs : List Figures} → AreMeasured d rs fs → length rs ≡ length fs
 length-measured none = refl
 length-measured (next m ms) = ap suc (length-measured ms)
 
-pub same_length : (d : List (List Item)) (ds : List Defined) (rs : List ℕ) (fs : List Figures) (os : List ExecutableDefinition) → AreMeasured d rs fs
+pub same_length : (d : List (List Item)) (ds : List Defined) (rs : List ℕ) (fs : List Figures)
+    (os : List ExecutableDefinition) → AreMeasured d rs fs
     → rs ≡ operations 0 ds → map as_defined os ≡ filter is_operation ds → length os ≡ length fs
 same_length d ds rs fs os m r o =
-    sym (length-map os as_defined) ∙ ap (λ xs. length xs) o ∙ sym (length-operations 0 ds) ∙ ap (λ xs. length xs) (sym r) ∙ length-measured m
+    sym (length-map os as_defined) ∙ ap (λ xs. length xs) o ∙ sym (length-operations 0 ds)
+    ∙ ap (λ xs. length xs) (sym r) ∙ length-measured m

@@ -1,13 +1,14 @@
 -- Parts of a tree's order: their first node, and the children of an element.
-use Rattle.std.proofs.Common.{◌≡◌, ℕ, suc, ◌+◌, ◌<◌, ◌≤◌, List, [], ◌∷◌, ◌++◌, length, get_or, map, refl, sym, ap, ◌∙◌, subst, arith, Option, Some, None}
-use Rattle.std.proofs.Common.{Bool, true, false, cond}
+use Rattle.std.proofs.Common.{◌≡◌, ℕ, suc, ◌+◌, ◌<◌, ◌≤◌, List, [], ◌∷◌, ◌++◌, length, get_or, map, refl, sym, ap, ◌∙◌}
+use Rattle.std.proofs.Common.{subst, arith, Option, Some, None, Bool, true, false, cond}
 use Rattle.std.specs.List.{filter}
 use Rattle.std.proofs.lemmas.List.{append_assoc, append-nil, length-append, get_or_at}
 use Rattle.document_grammar.specs.declared.kind.SyntaxKind.{SyntaxKind}
 use Rattle.document_grammar.specs.declared.kind.SyntaxKind.TheVariants.{FIELD}
 use Rattle.document_grammar.specs.Forests.{Forest, none, leaf, node, Leaf, Node, text, count}
 use Rattle.document_grammar.specs.Numbers.{is_kind}
-use Rattle.apollo_tree.specs.Order.{Element, Place, element, order_from, order, nowhere, places, tree_at, tree_kids, kind_at, is_node}
+use Rattle.apollo_tree.specs.Order.{Element, Place, element, order_from, order, nowhere, places, tree_at, tree_kids}
+use Rattle.apollo_tree.specs.Order.{kind_at, is_node}
 use Rattle.apollo_tree.specs.Children.{child_nodes, is_node_place}
 use Rattle.apollo_tree.specs.References.{node_place}
 use Rattle.apollo_tree.specs.ReadBack.{length-records}
@@ -23,12 +24,15 @@ use Rattle.cost_limits.specs.Collecting.{ArePart, nodes_from, AreNames, IsLeft, 
 regroup : (xs ys zs us : List Element) (e : Element) → xs ++ ((e ∷ (ys ++ zs)) ++ us) ≡ (xs ++ (e ∷ ys)) ++ (zs ++ us)
 regroup xs ys zs us e = simp append_assoc
 
-its_element : (whole : Forest) (i : ℕ) (before after : List Element) (e : Element) → order whole ≡ before ++ (e ∷ after) → length before ≡ i
+its_element : (whole : Forest) (i : ℕ) (before after : List Element) (e : Element)
+    → order whole ≡ before ++ (e ∷ after) → length before ≡ i
     → element (at whole i) ≡ e
-its_element whole i before after e is begins = ap (λ es. get_or es i nowhere) is ∙ get_or_at before e after nowhere i begins
+its_element whole i before after e is begins =
+    ap (λ es. get_or es i nowhere) is ∙ get_or_at before e after nowhere i begins
 
 -- the part after a leaf, and the part after a node and the one below it
-after_leaf : (whole : Forest) (i end : ℕ) (k : SyntaxKind) (t : List ℕ) (rest : Forest) → ArePart whole i end (leaf k t rest) → ArePart whole (suc i) end rest
+after_leaf : (whole : Forest) (i end : ℕ) (k : SyntaxKind) (t : List ℕ) (rest : Forest)
+    → ArePart whole i end (leaf k t rest) → ArePart whole (suc i) end rest
 after_leaf whole i end k t rest s =
     let e : Element = record { tree = Leaf k t; start = s.start; parent = s.parent; children = [] } in
     record {
@@ -41,13 +45,16 @@ after_leaf whole i end k t rest s =
       ends = omega (arith, s.ends);
     }
 
-leaf_there : (whole : Forest) (i end : ℕ) (k : SyntaxKind) (t : List ℕ) (rest : Forest) → ArePart whole i end (leaf k t rest)
+leaf_there : (whole : Forest) (i end : ℕ) (k : SyntaxKind) (t : List ℕ) (rest : Forest)
+    → ArePart whole i end (leaf k t rest)
     → tree_at (at whole i) ≡ Leaf k t
 leaf_there whole i end k t rest s =
     let e : Element = record { tree = Leaf k t; start = s.start; parent = s.parent; children = [] } in
-    ap (λ (x : Element). x.tree) (its_element whole i s.before (order_from (s.start + length t) (suc i) s.parent rest ++ s.after) e s.is s.begins)
+    ap (λ (x : Element). x.tree)
+    (its_element whole i s.before (order_from (s.start + length t) (suc i) s.parent rest ++ s.after) e s.is s.begins)
 
-module _ (whole : Forest) (i end : ℕ) (k : SyntaxKind) (kids rest : Forest) (s : ArePart whole i end (node k kids rest)) where
+module _ (whole : Forest) (i end : ℕ) (k : SyntaxKind) (kids rest : Forest)
+    (s : ArePart whole i end (node k kids rest)) where
   its : Element
   its = record { tree = Node k kids; start = s.start; parent = s.parent; children = places (suc i) kids }
 
@@ -59,7 +66,8 @@ module _ (whole : Forest) (i end : ℕ) (k : SyntaxKind) (kids rest : Forest) (s
 
   node_there : tree_at (at whole i) ≡ Node k kids
   unfolding its inner outer
-  node_there = ap (λ (x : Element). x.tree) (its_element whole i s.before ((inner ++ outer) ++ s.after) its s.is s.begins)
+  node_there = ap (λ (x : Element). x.tree)
+      (its_element whole i s.before ((inner ++ outer) ++ s.after) its s.is s.begins)
 
   after_node : ArePart whole (suc (i + count kids)) end rest
   unfolding its inner outer
@@ -77,16 +85,20 @@ module _ (whole : Forest) (i end : ℕ) (k : SyntaxKind) (kids rest : Forest) (s
 nodes_at : Forest → List ℕ → List Place
 nodes_at whole is = filter is_node_place (map (λ i. record { whole = whole; index = i }) is)
 
-nodes-part : (whole : Forest) (i end : ℕ) (f : Forest) → ArePart whole i end f → nodes_at whole (places i f) ≡ nodes_from whole i f
+nodes-part : (whole : Forest) (i end : ℕ) (f : Forest) → ArePart whole i end f
+    → nodes_at whole (places i f) ≡ nodes_from whole i f
 unfolding nodes_at
 nodes-part whole i end none s = refl
 nodes-part whole i end (leaf k t rest) s =
-    ap (λ t. cond (is_node t) (at whole i ∷ nodes_at whole (places (suc i) rest)) (nodes_at whole (places (suc i) rest))) (leaf_there whole i end k t rest s)
+    ap (λ t. cond (is_node t) (at whole i ∷ nodes_at whole (places (suc i) rest))
+    (nodes_at whole (places (suc i) rest))) (leaf_there whole i end k t rest s)
     ∙ nodes-part whole (suc i) end rest (after_leaf whole i end k t rest s)
 nodes-part whole i end (node k kids rest) s =
-    ap (λ t. cond (is_node t) (at whole i ∷ nodes_at whole (places (suc (i + count kids)) rest)) (nodes_at whole (places (suc (i + count kids)) rest)))
+    ap (λ t. cond (is_node t) (at whole i ∷ nodes_at whole (places (suc (i + count kids)) rest))
+    (nodes_at whole (places (suc (i + count kids)) rest)))
     (node_there whole i end k kids rest s)
-    ∙ ap (λ ps. at whole i ∷ ps) (nodes-part whole (suc (i + count kids)) end rest (after_node whole i end k kids rest s))
+    ∙ ap (λ ps. at whole i ∷ ps)
+    (nodes-part whole (suc (i + count kids)) end rest (after_node whole i end k kids rest s))
 
 -- the trees below an element
 kids_part : (p : Place) → p.index < length (order p.whole)
@@ -101,30 +113,41 @@ kids_part p h =
       parent = Some (0 + p.index);
       before = c.front ++ (e ∷ []);
       after = c.back;
-      is = c.order ∙ sym (append_assoc c.front (e ∷ []) (order_from e.start (suc (0 + p.index)) (Some (0 + p.index)) kids ++ c.back))
-          ∙ ap (λ j. (c.front ++ (e ∷ [])) ++ (order_from e.start (suc j) (Some (0 + p.index)) kids ++ c.back)) zero_add;
+      is = c.order ∙ sym (append_assoc c.front (e ∷ [])
+          (order_from e.start (suc (0 + p.index)) (Some (0 + p.index)) kids ++ c.back))
+          ∙ ap (λ j. (c.front ++ (e ∷ [])) ++ (order_from e.start (suc j) (Some (0 + p.index)) kids ++ c.back))
+          zero_add;
       begins = length-append c.front (e ∷ []) ∙ omega (arith, c.index);
       ends = omega arith;
     }
 
-kids_places : (p : Place) → p.index < length (order p.whole) → (element p).children ≡ places (suc p.index) (tree_kids (tree_at p))
+kids_places : (p : Place) → p.index < length (order p.whole)
+    → (element p).children ≡ places (suc p.index) (tree_kids (tree_at p))
 kids_places p h =
     let c = part 0 0 None p.whole p.index nowhere (omega (arith, length-order 0 0 None p.whole)) in
     let zero_add : 0 + p.index ≡ p.index = omega arith in
     c.children ∙ ap (λ j. places (suc j) (tree_kids (tree_at p))) zero_add
 
-child_nodes-are : (p : Place) → p.index < length (order p.whole) → child_nodes p ≡ nodes_from p.whole (suc p.index) (tree_kids (tree_at p))
+child_nodes-are : (p : Place) → p.index < length (order p.whole)
+    → child_nodes p ≡ nodes_from p.whole (suc p.index) (tree_kids (tree_at p))
 unfolding nodes_at
 child_nodes-are p h =
     ap (λ is. nodes_at p.whole is) (kids_places p h)
-    ∙ nodes-part p.whole (suc p.index) (suc (p.index + count (tree_kids (tree_at p)))) (tree_kids (tree_at p)) (kids_part p h)
+    ∙ nodes-part p.whole (suc p.index) (suc (p.index + count (tree_kids (tree_at p))))
+    (tree_kids (tree_at p)) (kids_part p h)
 
 -- ---- what is left of the children
 
 -- a node is an element of its tree
 pub in_range : (n : SyntaxNode) → (node_place n).index < length (order (node_place n).whole)
 in_range n =
-    omega (arith, n.inside, ap (λ rs. length rs) n.table.is_table.table, length-records 0 0 (node_place n).whole, length-order 0 0 None (node_place n).whole)
+    omega (
+      arith,
+      n.inside,
+      ap (λ rs. length rs) n.table.is_table.table,
+      length-records 0 0 (node_place n).whole,
+      length-order 0 0 None (node_place n).whole,
+    )
 
 module _ (p : Place) (number : Option Name → ℕ) (n : ℕ) where
   pub left_first : (old : List Item) (names : Entries (Unit {0})) (left : List Place)
@@ -152,7 +175,8 @@ module _ (p : Place) (number : Option Name → ℕ) (n : ℕ) where
     pub more_are : more ≡ nodes_from p.whole index rest
     pub whole : q.whole ≡ p.whole
     pub later : p.index < q.index
-    pub same : found ++ (items_of number n seen q ++ (items_below p.whole number (inside n q) (suc q.index) [] (tree_kids (tree_at q))
+    pub same : found ++ (items_of number n seen q
+        ++ (items_below p.whole number (inside n q) (suc q.index) [] (tree_kids (tree_at q))
         ++ items_below p.whole number n index (seen_after seen q) rest)) ≡ all
 
   heads : (x y : Place) (xs ys : List Place) → ◌≡◌ {A = List Place} (x ∷ xs) (y ∷ ys) → x ≡ y
@@ -164,14 +188,17 @@ module _ (p : Place) (number : Option Name → ℕ) (n : ℕ) where
   none_more : (x : Place) (xs : List Place) → ◌≡◌ {A = List Place} (x ∷ xs) [] → ⊥
   none_more x xs e = cc
 
-  next_of : (all found : List Item) (seen : List Name) (q : Place) (more : List Place) (i end : ℕ) (rest : Forest) → ArePart p.whole i end rest → p.index < i
-      → q ∷ more ≡ nodes_from p.whole i rest → found ++ items_below p.whole number n i seen rest ≡ all → Next all found seen q more
+  next_of : (all found : List Item) (seen : List Name) (q : Place) (more : List Place) (i end : ℕ) (rest : Forest)
+      → ArePart p.whole i end rest → p.index < i
+      → q ∷ more ≡ nodes_from p.whole i rest → found ++ items_below p.whole number n i seen rest ≡ all
+      → Next all found seen q more
   next_of all found seen q more i end none s b e h = absurd (none_more q more e)
   next_of all found seen q more i end (leaf k t rest) s b e h =
       next_of all found seen q more (suc i) end rest (after_leaf p.whole i end k t rest s) (omega arith) e h
   next_of all found seen q more i end (node k kids rest) s b e h =
       let r = nodes_from p.whole (suc (i + count kids)) rest in
-      let its_kids : tree_kids (tree_at (at p.whole i)) ≡ kids = ap tree_kids (node_there p.whole i end k kids rest s) in
+      let its_kids : tree_kids (tree_at (at p.whole i)) ≡ kids =
+      ap tree_kids (node_there p.whole i end k kids rest s) in
       subst (λ x. Next all found seen x more) (sym (heads q (at p.whole i) more r e)) (record {
         rest = rest;
         index = suc (i + count kids);
@@ -181,14 +208,17 @@ module _ (p : Place) (number : Option Name → ℕ) (n : ℕ) where
         more_are = tails q (at p.whole i) more r e;
         whole = refl;
         later = b;
-        same = ap (λ ts. found ++ (items_of number n seen (at p.whole i) ++ (items_below p.whole number (inside n (at p.whole i)) (suc i) [] ts
-            ++ items_below p.whole number n (suc (i + count kids)) (seen_after seen (at p.whole i)) rest))) its_kids ∙ h;
+        same = ap (λ ts. found ++ (items_of number n seen (at p.whole i)
+            ++ (items_below p.whole number (inside n (at p.whole i)) (suc i) [] ts
+            ++ items_below p.whole number n (suc (i + count kids)) (seen_after seen (at p.whole i)) rest))) its_kids
+            ∙ h;
       })
 
   regroup_items : (xs ys zs us : List Item) → ((xs ++ ys) ++ zs) ++ us ≡ xs ++ (ys ++ (zs ++ us))
   regroup_items xs ys zs us = simp append_assoc
 
-  module _ (all found : List Item) (names : Entries (Unit {0})) (q : Place) (more left : List Place) (l : IsLeft p number n all found names left)
+  module _ (all found : List Item) (names : Entries (Unit {0})) (q : Place) (more left : List Place)
+      (l : IsLeft p number n all found names left)
       (e : left ≡ q ∷ more) where
     next : Next all found l.seen q more
     next = next_of all found l.seen q more l.index l.end l.rest l.part l.further (sym e ∙ l.left_are) l.same
@@ -199,8 +229,10 @@ module _ (p : Place) (number : Option Name → ℕ) (n : ℕ) where
     pub next_later : p.index < q.index
     next_later = next.later
 
-    pub left_on : (one two : List Item) (after : Entries (Unit {0})) → ((seen : List Name) → AreNames names seen → Adds number n q seen found one after)
-        → two ≡ one ++ items_below q.whole number (inside n q) (suc q.index) [] (tree_kids (tree_at q)) → IsLeft p number n all two after more
+    pub left_on : (one two : List Item) (after : Entries (Unit {0}))
+        → ((seen : List Name) → AreNames names seen → Adds number n q seen found one after)
+        → two ≡ one ++ items_below q.whole number (inside n q) (suc q.index) [] (tree_kids (tree_at q))
+        → IsLeft p number n all two after more
     left_on one two after adds two_is =
         let x = next in
         let a = adds l.seen l.names_are in
@@ -208,7 +240,8 @@ module _ (p : Place) (number : Option Name → ℕ) (n : ℕ) where
         let below = items_below p.whole number (inside n q) (suc q.index) [] (tree_kids (tree_at q)) in
         let others = items_below p.whole number n x.index (seen_after l.seen q) x.rest in
         let together : two ≡ (found ++ own) ++ below =
-        two_is ∙ ap (λ w. one ++ items_below w number (inside n q) (suc q.index) [] (tree_kids (tree_at q))) x.whole ∙ ap (λ ys. ys ++ below) a.items_are in
+        two_is ∙ ap (λ w. one ++ items_below w number (inside n q) (suc q.index) [] (tree_kids (tree_at q))) x.whole
+        ∙ ap (λ ys. ys ++ below) a.items_are in
         record {
           rest = x.rest;
           index = x.index;
@@ -221,25 +254,33 @@ module _ (p : Place) (number : Option Name → ℕ) (n : ℕ) where
           same = ap (λ ys. ys ++ others) together ∙ regroup_items found own below others ∙ x.same;
         }
 
-  no_nodes : (i end : ℕ) (seen : List Name) (rest : Forest) → [] ≡ nodes_from p.whole i rest → items_below p.whole number n i seen rest ≡ []
+  no_nodes : (i end : ℕ) (seen : List Name) (rest : Forest) → [] ≡ nodes_from p.whole i rest
+      → items_below p.whole number n i seen rest ≡ []
   no_nodes i end seen none e = refl
   no_nodes i end seen (leaf k t rest) e = no_nodes (suc i) end seen rest e
-  no_nodes i end seen (node k kids rest) e = absurd (none_more (at p.whole i) (nodes_from p.whole (suc (i + count kids)) rest) (sym e))
+  no_nodes i end seen (node k kids rest) e =
+      absurd (none_more (at p.whole i) (nodes_from p.whole (suc (i + count kids)) rest) (sym e))
 
-  pub left_none : (all found : List Item) (names : Entries (Unit {0})) (left : List Place) → IsLeft p number n all found names left → left ≡ [] → found ≡ all
+  pub left_none : (all found : List Item) (names : Entries (Unit {0})) (left : List Place)
+      → IsLeft p number n all found names left → left ≡ [] → found ≡ all
   left_none all found names left l e =
-      sym (append-nil found) ∙ ap (λ xs. found ++ xs) (sym (no_nodes l.index l.end l.seen l.rest (sym e ∙ l.left_are))) ∙ l.same
+      sym (append-nil found) ∙ ap (λ xs. found ++ xs) (sym (no_nodes l.index l.end l.seen l.rest (sym e ∙ l.left_are)))
+      ∙ l.same
 
 -- one field
 pub adds_field : (number : Option Name
-    → ℕ) (n : ℕ) (p : Place) (seen : List Name) (old new : List Item) (names : Entries (Unit {0})) (name : Option Name) (b : Bool)
-    → is_kind FIELD (kind_at p) ≡ true → name ≡ response_name p → IsNoted name seen names b → new ≡ old ++ field_items n b
+    → ℕ) (n : ℕ) (p : Place) (seen : List Name) (old new : List Item) (names : Entries (Unit {0}))
+    (name : Option Name) (b : Bool)
+    → is_kind FIELD (kind_at p) ≡ true → name ≡ response_name p → IsNoted name seen names b
+    → new ≡ old ++ field_items n b
     → Adds number n p seen old new names
 adds_field number n p seen old new names name b k e r h = record {
   items_are = h ∙ ap (λ x. old ++ field_items n x) (r.new_is ∙ ap (is_new seen) e)
       ∙ ap (λ x. old ++ cond x (field_items n (is_new seen (response_name p))) (other_items number n p)) (sym k);
-  names_are = λ s. r.names_are s ∙ ap (λ m. is_among (with_name m seen) s) e ∙ ap (λ x. is_among (cond x (with_name (response_name p) seen) seen) s) (sym k);
+  names_are = λ s. r.names_are s ∙ ap (λ m. is_among (with_name m seen) s) e
+      ∙ ap (λ x. is_among (cond x (with_name (response_name p) seen) seen) s) (sym k);
 }
 
 pub inside-le : (n : ℕ) (p : Place) → inside n p ≤ n + 1
-inside-le n p = elim (is_kind FIELD (kind_at p)) as (λ b. cond b (n + 1) n ≤ n + 1) [ true ↦ omega arith | false ↦ omega arith ]
+inside-le n p = elim (is_kind FIELD (kind_at p)) as (λ b. cond b (n + 1) n ≤ n + 1)
+    [ true ↦ omega arith | false ↦ omega arith ]

@@ -1,5 +1,6 @@
 -- What the walk over the nodes of a definition keeps true.
-use Rattle.std.specs.Prelude.{◌≡◌, ℕ, ◌+◌, ◌-◌, ◌^◌, ◌<◌, suc, List, [], ◌∷◌, ◌++◌, length, Bool, is_some, Option, Some, None, unwrap_or}
+use Rattle.std.specs.Prelude.{◌≡◌, ℕ, ◌+◌, ◌-◌, ◌^◌, ◌<◌, suc, List, [], ◌∷◌, ◌++◌, length, Bool, is_some, Option, Some}
+use Rattle.std.specs.Prelude.{None, unwrap_or}
 use Rattle.document_grammar.specs.Forests.{Forest, none, leaf, node, count}
 use Rattle.apollo_tree.specs.Order.{Element, Place, order, order_from}
 use Rattle.validation_names.specs.Names.{Name, Entries, entry_of}
@@ -21,7 +22,8 @@ pub record IsNoted (name : Option Name) (seen : List Name) (names : Entries (Uni
   pub names_are : AreNames names (with_name name seen)
 
 -- one more node
-pub record Adds (number : Option Name → ℕ) (n : ℕ) (p : Place) (seen : List Name) (old new : List Item) (names : Entries (Unit {0})) : Type 0 where
+pub record Adds (number : Option Name → ℕ) (n : ℕ) (p : Place) (seen : List Name) (old new : List Item)
+    (names : Entries (Unit {0})) : Type 0 where
   pub items_are : new ≡ old ++ items_of number n seen p
   pub names_are : AreNames names (seen_after seen p)
 
@@ -41,8 +43,10 @@ nodes_from whole i none = []
 nodes_from whole i (leaf k s rest) = nodes_from whole (suc i) rest
 nodes_from whole i (node k kids rest) = spot whole i ∷ nodes_from whole (suc (i + count kids)) rest
 
--- what is left of the children of the element `p`: `left` are the nodes among them, `all` is what there is to be found, and `found` what has been
-pub record IsLeft (p : Place) (number : Option Name → ℕ) (n : ℕ) (all found : List Item) (names : Entries (Unit {0})) (left : List Place) : Type 0 where
+-- what is left of the children of the element `p`: `left` are the nodes among them, `all` is what there is to be found,
+-- and `found` what has been
+pub record IsLeft (p : Place) (number : Option Name → ℕ) (n : ℕ) (all found : List Item) (names : Entries (Unit {0}))
+    (left : List Place) : Type 0 where
   pub rest : Forest
   pub index : ℕ
   pub end : ℕ

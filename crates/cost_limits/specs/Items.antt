@@ -1,7 +1,9 @@
 -- The items of an operation or a fragment, in the order of the text.
-use Rattle.std.specs.Prelude.{ℕ, suc, ◌+◌, List, [], ◌∷◌, ◌++◌, Bool, true, not, if◌then◌else◌, Option, Some, None, bytes_eq}
+use Rattle.std.specs.Prelude.{ℕ, suc, ◌+◌, List, [], ◌∷◌, ◌++◌, Bool, true, not, if◌then◌else◌, Option, Some, None}
+use Rattle.std.specs.Prelude.{bytes_eq}
 use Rattle.std.specs.List.{list_any}
-use Rattle.document_grammar.specs.declared.kind.SyntaxKind.TheVariants.{FIELD, ALIAS, DIRECTIVE, FRAGMENT_SPREAD, FRAGMENT_NAME}
+use Rattle.document_grammar.specs.declared.kind.SyntaxKind.TheVariants.{FIELD, ALIAS, DIRECTIVE, FRAGMENT_SPREAD}
+use Rattle.document_grammar.specs.declared.kind.SyntaxKind.TheVariants.{FRAGMENT_NAME}
 use Rattle.document_grammar.specs.Forests.{Forest, none, leaf, node, count}
 use Rattle.document_grammar.specs.Numbers.{is_kind}
 use Rattle.apollo_tree.specs.Order.{Place, tree_at, tree_kids, kind_at, range_at}
@@ -47,7 +49,8 @@ other_items number n p =
     else (if is_kind FRAGMENT_SPREAD (kind_at p) then Spread n (number (name_in FRAGMENT_NAME p)) (span_at p) ∷ []
     else []))
 
--- The items of a node itself. `n` fields of the definition enclose it, and `seen` are the response names of the fields before it in its parent.
+-- The items of a node itself. `n` fields of the definition enclose it, and `seen` are the response names of the fields
+-- before it in its parent.
 abbrev pub items_of : (Option Name → ℕ) → ℕ → List Name → Place → List Item
 items_of number n seen p =
     if is_kind FIELD (kind_at p) then field_items n (is_new seen (response_name p)) else other_items number n p

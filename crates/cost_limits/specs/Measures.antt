@@ -1,6 +1,6 @@
 -- The figures of a document's operations, and why there are none.
-use Rattle.std.specs.Prelude.{◌≡◌, ℕ, suc, ◌-◌, ◌^◌, ◌<◌, List, [], ◌∷◌, length, map, Bool, true, false, if◌then◌else◌, Option, Some, None, unwrap_or}
-use Rattle.std.specs.Prelude.{slice_index_or, Contains}
+use Rattle.std.specs.Prelude.{◌≡◌, ℕ, suc, ◌-◌, ◌^◌, ◌<◌, List, [], ◌∷◌, length, map, Bool, true, false, if◌then◌else◌}
+use Rattle.std.specs.Prelude.{Option, Some, None, unwrap_or, slice_index_or, Contains}
 use Rattle.std.specs.List.{filter}
 use Rattle.validation_names.specs.Names.{Name, first_number}
 use Rattle.validation_names.specs.Definitions.{Defined, as_defined, fragment_names}

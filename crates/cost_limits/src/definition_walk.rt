@@ -47,7 +47,8 @@ fn add_other<A: Allocator + Copy>(
     enclosing: usize,
     found: &mut Vec<Item, A>,
 ) -> Result<(), AllocError>
-    ensures { OnOk result (found.new.items ≡ found.old.items ++ other_items (number_of fragments.now) enclosing (node_place node.now)) }
+    ensures { OnOk result (found.new.items ≡ found.old.items
+        ++ other_items (number_of fragments.now) enclosing (node_place node.now)) }
 {
     let kind = node.kind();
     if kind.is(SyntaxKind::ALIAS) {
@@ -80,7 +81,8 @@ fn add<'t, A: Allocator + Copy>(
     found: &mut Vec<Item, A>,
 ) -> Result<(), AllocError>
     ensures { OnOk result ((seen : List Name) → AreNames names.old seen
-        → Adds (number_of fragments.now) enclosing (node_place node.now) seen found.old.items found.new.items names.new) }
+        → Adds (number_of fragments.now) enclosing (node_place node.now) seen found.old.items
+        found.new.items names.new) }
 {
     if node.kind().is(SyntaxKind::FIELD) {
         let is_new = is_new(response_name(node), names)?;
@@ -100,7 +102,8 @@ fn collect<'t, A: Allocator + Copy>(
     found: &mut Vec<Item, A>,
 ) -> Result<(), AllocError>
     requires { enclosing ≤ (node_place node.now).index }
-    ensures { OnOk result (found.new.items ≡ found.old.items ++ items_below (node_place node.now).whole (number_of fragments.now) enclosing
+    ensures { OnOk result (found.new.items ≡ found.old.items
+        ++ items_below (node_place node.now).whole (number_of fragments.now) enclosing
         (suc (node_place node.now).index) [] (tree_kids (tree_at (node_place node.now)))) }
 {
     let mut names: BTreeMap<&'t str, (), A> = BTreeMap::new(alloc);
@@ -111,14 +114,15 @@ fn collect<'t, A: Allocator + Copy>(
     Ok(())
 }
 
-/// The items of an operation or a fragment, where `fragments` has the number of the first definition of each fragment. A spread of no fragment
-/// names the definition with the number `usize::MAX`.
+/// The items of an operation or a fragment, where `fragments` has the number of the first definition of each fragment.
+/// A spread of no fragment names the definition with the number `usize::MAX`.
 pub fn items<A: Allocator + Copy>(
     alloc: A,
     definition: &SyntaxNode<'_>,
     fragments: &BTreeMap<&str, usize, A>,
 ) -> Result<Vec<Item, A>, AllocError>
-    ensures { IfOk result (λ items. items.items ≡ definition_items (number_of fragments.now) (node_place definition.now)) }
+    ensures { IfOk result (λ items. items.items
+        ≡ definition_items (number_of fragments.now) (node_place definition.now)) }
 {
     let mut found = Vec::new(alloc);
     collect(alloc, definition, fragments, 0, &mut found)?;

@@ -1,7 +1,8 @@
 //! How large the operations of a document are with their fragments expanded, and whether that is within limits.
 //!
-//! `measure` gives the figures of each operation of a parsed document, and `within` the first limit that one of them exceeds. A small document can
-//! expand to an exponentially large one: here time and memory are linear in the document, but for the look-up of names.
+//! `measure` gives the figures of each operation of a parsed document, and `within` the first limit that one of them
+//! exceeds. A small document can expand to an exponentially large one: here time and memory are linear in the document,
+//! but for the look-up of names.
 //!
 //!     let tree = Parser::new(text).parse(alloc)?;
 //!     let operations = measure(alloc, &tree.root())?;

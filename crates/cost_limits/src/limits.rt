@@ -18,8 +18,8 @@ pub struct Exceeded<'t> {
     pub found: u64,
 }
 
-/// Whether each figure of each operation is at most the one that `limits` has. The error has the first operation that exceeds a limit, and the
-/// first limit that it exceeds, in the order of `Limit`.
+/// Whether each figure of each operation is at most the one that `limits` has. The error has the first operation that
+/// exceeds a limit, and the first limit that it exceeds, in the order of `Limit`.
 pub fn within<'t>(operations: &[OperationFigures<'t>], limits: &Figures) -> Result<(), Exceeded<'t>>
     ensures within { IfOk result (λ _. All (IsWithin limits.now) (map as_measure operations.now)) }
     ensures exceeded { IfErr result (IsExceeded (map as_measure operations.now) limits.now) }

@@ -4,7 +4,8 @@ ghost use Rattle.std.specs.List.{filter};
 ghost use Rattle.apollo_tree.specs.References.{node_place};
 ghost use Rattle.validation_names.specs.Names.{AreFirstNumbers};
 ghost use Rattle.validation_names.specs.Definitions.{as_defined, defined, fragment_names};
-ghost use Rattle.cost_limits.specs.Measures.{IsFirst, AreDistinct, IsSecond, AreTwins, AreMeasures, IsMeasureError, as_measure, is_operation, items_of, operations};
+ghost use Rattle.cost_limits.specs.Measures.{IsFirst, AreDistinct, IsSecond, AreTwins, AreMeasures, IsMeasureError};
+ghost use Rattle.cost_limits.specs.Measures.{as_measure, is_operation, items_of, operations};
 
 use crate::definition_walk::items;
 use apollo_tree::SyntaxNode;
@@ -73,7 +74,8 @@ fn all_items<'t, A: Allocator + Copy>(
     fragments: &BTreeMap<&'t str, usize, A>,
 ) -> Result<Vec<Vec<Item, A>, A>, AllocError>
     requires { AreFirstNumbers fragments.now (fragment_names (map as_defined definitions.now)) }
-    ensures { IfOk result (λ found. map (λ items. items.items) found.items ≡ items_of (map as_defined definitions.now)) }
+    ensures { IfOk result (λ found. map (λ items. items.items) found.items
+        ≡ items_of (map as_defined definitions.now)) }
 {
     let mut found = Vec::new(alloc);
     for definition in definitions {
@@ -93,7 +95,8 @@ fn operations<'t, A: Allocator + Copy>(
     alloc: A,
     definitions: &[ExecutableDefinition<'t>],
 ) -> Result<OperationList<'t, A>, AllocError>
-    ensures operations { IfOk result (λ found. map as_defined found.operations.items ≡ filter is_operation (map as_defined definitions.now)) }
+    ensures operations { IfOk result
+        (λ found. map as_defined found.operations.items ≡ filter is_operation (map as_defined definitions.now)) }
     ensures numbers { IfOk result (λ found. found.numbers.items ≡ operations 0 (map as_defined definitions.now)) }
 {
     let mut operations = Vec::new(alloc);
@@ -117,7 +120,8 @@ fn paired<'t, A: Allocator + Copy>(
     figures: &[Figures],
 ) -> Result<Vec<OperationFigures<'t>, A>, AllocError>
     requires { length operations.now ≡ length figures.now }
-    ensures operations { IfOk result (λ v. map (λ m. m.operation) (map as_measure v.items) ≡ map as_defined operations.now) }
+    ensures operations { IfOk result
+        (λ v. map (λ m. m.operation) (map as_measure v.items) ≡ map as_defined operations.now) }
     ensures figures { IfOk result (λ v. map (λ m. m.figures) (map as_measure v.items) ≡ figures.now) }
 {
     let mut found = Vec::new(alloc);
@@ -159,12 +163,12 @@ fn measure_distinct<'t, A: Allocator + Copy>(
     }
 }
 
-/// The figures of the operations of a document, in order. `document` is the root of its tree, which should have no syntax errors: a field or a
-/// fragment without a name counts by these rules too.
+/// The figures of the operations of a document, in order. `document` is the root of its tree, which should have no
+/// syntax errors: a field or a fragment without a name counts by these rules too.
 ///
-/// Unless memory is refused, there are figures exactly if no two fragments have one name, and no operation leads to a cycle of fragments or to a spread
-/// of no fragment. Fragments that no operation leads to may have both. If several errors apply, names come first, and then the first wrong spread,
-/// fragments expanded.
+/// Unless memory is refused, there are figures exactly if no two fragments have one name, and no operation leads to a
+/// cycle of fragments or to a spread of no fragment. Fragments that no operation leads to may have both. If several
+/// errors apply, names come first, and then the first wrong spread, fragments expanded.
 pub fn measure<'t, A: Allocator + Copy>(
     alloc: A,
     document: &SyntaxNode<'t>,

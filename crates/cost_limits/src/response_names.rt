@@ -23,12 +23,14 @@ pub(crate) fn response_name<'t>(field: &SyntaxNode<'t>) -> Option<&'t str>
     }
 }
 
-/// Whether a response name is new in its selection set, which then has it. A field without a name, after a syntax error, counts as new.
+/// Whether a response name is new in its selection set, which then has it. A field without a name, after a syntax
+/// error, counts as new.
 pub(crate) fn is_new<'t, A: Allocator + Copy>(
     name: Option<&'t str>,
     names: &mut BTreeMap<&'t str, (), A>,
 ) -> Result<bool, AllocError>
-    ensures { IfOk result (λ new. (seen : List Name) → AreNames names.old seen → IsNoted (option_map (λ n. n.now) name.entry) seen names.new new) }
+    ensures { IfOk result (λ new. (seen : List Name) → AreNames names.old seen
+        → IsNoted (option_map (λ n. n.now) name.entry) seen names.new new) }
 {
     match name {
         Some(name) => Ok(enter(names, name, ())?.is_none()),

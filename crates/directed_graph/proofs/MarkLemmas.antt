@@ -6,17 +6,20 @@ use Rattle.std.specs.List.{Contains}
 use Rattle.std.proofs.lemmas.Bool.{cases_eq}
 use Rattle.std.proofs.lemmas.List.{get_or_default}
 use Rattle.std.proofs.lemmas.List.Sums.{sum_by-set}
-use Rattle.std.proofs.lemmas.List.Elements.{Contains-append_cases, Contains-append_left, Contains-get_or, Contains-push, Contains-push_cases}
+use Rattle.std.proofs.lemmas.List.Elements.{Contains-append_cases, Contains-append_left, Contains-get_or, Contains-push}
+use Rattle.std.proofs.lemmas.List.Elements.{Contains-push_cases}
 use Rattle.std.proofs.lemmas.List.Quantifiers.{all_pairs_push}
 use Rattle.directed_graph.specs.Marks.{AreMarked, IsMarked, MarksAll, Unmarks, unmarked}
 
 pub marks_old :
-    (row : List ℕ) (vertex : ℕ) (old new : List Bool) (found_old found_new : List ℕ) → IsMarked new vertex → MarksAll row old new found_old found_new
+    (row : List ℕ) (vertex : ℕ) (old new : List Bool) (found_old found_new : List ℕ) → IsMarked new vertex
+    → MarksAll row old new found_old found_new
     → MarksAll (row ++ vertex ∷ []) old new found_old found_new
 marks_old row vertex old new found_old found_new is so = record {
   as_many = so.as_many;
   kept = so.kept;
-  marked = λ p there. ⊎_elim (λ (before : Contains row p). so.marked p before) (λ (e : vertex ≡ p). rw (← e) is) (Contains-push_cases row vertex p there);
+  marked = λ p there. ⊎_elim (λ (before : Contains row p). so.marked p before) (λ (e : vertex ≡ p). rw (← e) is)
+      (Contains-push_cases row vertex p there);
   added = so.added;
   found = so.found;
   from_row = λ p there. Contains-append_left row (vertex ∷ []) p (so.from_row p there);
@@ -27,7 +30,8 @@ marks_old row vertex old new found_old found_new is so = record {
 
 -- what was found before and what is found now is marked
 pub all_marked :
-    (row : List ℕ) (old new : List Bool) (found_old found_new : List ℕ) → MarksAll row old new found_old found_new → AreMarked old found_old
+    (row : List ℕ) (old new : List Bool) (found_old found_new : List ℕ) → MarksAll row old new found_old found_new
+    → AreMarked old found_old
     → AreMarked new found_new
 all_marked row old new found_old found_new so were vertex there =
     ⊎_elim
@@ -35,31 +39,37 @@ all_marked row old new found_old found_new so were vertex there =
     (λ (is : Contains so.added vertex). so.marked vertex (so.from_row vertex is))
     (Contains-append_cases found_old so.added vertex (rw so.found at there))
 
-marked_after : (marks : List Bool) (vertex p : ℕ) → vertex < length marks → IsMarked marks p → IsMarked (set marks vertex true) p
+marked_after : (marks : List Bool) (vertex p : ℕ) → vertex < length marks → IsMarked marks p
+    → IsMarked (set marks vertex true) p
 marked_after marks vertex p inside is =
-    ⊎_elim (λ (e : p ≡ vertex). rw (e, get_or-set_same) refl) (λ (ne : p ≢ vertex). rw get_or-set_other is) (cases_eq p vertex)
+    ⊎_elim (λ (e : p ≡ vertex). rw (e, get_or-set_same) refl)
+    (λ (ne : p ≢ vertex). rw get_or-set_other is) (cases_eq p vertex)
 
 marked_before : (marks : List Bool) (vertex p : ℕ) → p ≢ vertex → IsMarked (set marks vertex true) p → IsMarked marks p
 marked_before marks vertex p ne is = rw get_or-set_other at is
 
-one_less : (marks : List Bool) (vertex : ℕ) → vertex < length marks → get_or marks vertex false ≡ false → unmarked (set marks vertex true) + 1 ≡ unmarked marks
+one_less : (marks : List Bool) (vertex : ℕ) → vertex < length marks → get_or marks vertex false ≡ false
+    → unmarked (set marks vertex true) + 1 ≡ unmarked marks
 one_less marks vertex inside is =
     let e = sum_by-set (λ (b : Bool). cond (not b) 1 0) marks vertex true false inside in
     let f = rw is at e in
     omega (arith, f)
 
 -- what an index reads
-pub read_false : (marks : List Bool) (vertex : ℕ) (read : Bool) → read ≡ get_or marks vertex read → read ≡ false → get_or marks vertex false ≡ false
+pub read_false : (marks : List Bool) (vertex : ℕ) (read : Bool) → read ≡ get_or marks vertex read → read ≡ false
+    → get_or marks vertex false ≡ false
 read_false marks vertex true at is = absurd (cc)
 read_false marks vertex false at is = sym at
 
-pub read_true : (marks : List Bool) (vertex : ℕ) (read : Bool) → vertex < length marks → read ≡ get_or marks vertex read → read ≡ true → IsMarked marks vertex
+pub read_true : (marks : List Bool) (vertex : ℕ) (read : Bool) → vertex < length marks → read ≡ get_or marks vertex read
+    → read ≡ true → IsMarked marks vertex
 read_true marks vertex false inside at is = absurd (cc)
 read_true marks vertex true inside at is = get_or_default marks vertex false true inside ∙ sym at
 
 -- it was not, and is now
 pub marks_new :
-    (row : List ℕ) (vertex : ℕ) (old new : List Bool) (found_old found_new : List ℕ) → vertex < length new → get_or new vertex false ≡ false
+    (row : List ℕ) (vertex : ℕ) (old new : List Bool) (found_old found_new : List ℕ) → vertex < length new
+    → get_or new vertex false ≡ false
     → MarksAll row old new found_old found_new
     → MarksAll (row ++ vertex ∷ []) old (set new vertex true) found_old (found_new ++ vertex ∷ [])
 marks_new row vertex old new found_old found_new inside is so = record {
@@ -93,7 +103,8 @@ marks_new row vertex old new found_old found_new inside is so = record {
   distinct = λ were apart.
       all_pairs_push (λ a b. a ≢ b) found_new vertex (so.distinct were apart)
       (λ k d below same.
-      let on = all_marked row old new found_old found_new so were (get_or found_new k d) (Contains-get_or found_new k d below) in
+      let on = all_marked row old new found_old found_new so were (get_or found_new k d)
+      (Contains-get_or found_new k d below) in
       let e : true ≡ false = sym (rw same at on) ∙ is in
       cc);
 }
@@ -112,7 +123,10 @@ unmarks_more vertices vertex old new inside so = record {
       (λ (e : v ≡ vertex). let off : get_or (set new vertex false) v false ≡ false = rw (e, get_or-set_same) refl in
       absurd (let t : true ≡ false = sym is ∙ off in cc))
       (λ (ne : v ≢ vertex).
-      let was = so.still v (rw get_or-set_other at is) in
-      (was.0, λ there. ⊎_elim (λ (before : Contains vertices v). was.1 before) (λ (e : vertex ≡ v). ne (sym e)) (Contains-push_cases vertices vertex v there)))
+      let was = so.still v (rw get_or-set_other at is) in (
+        was.0,
+        λ there. ⊎_elim (λ (before : Contains vertices v). was.1 before) (λ (e : vertex ≡ v). ne (sym e))
+            (Contains-push_cases vertices vertex v there),
+      ))
       (cases_eq v vertex);
 }

@@ -7,7 +7,8 @@ use Rattle.std.specs.List.{Contains, All}
 use Rattle.std.proofs.lemmas.Grind.{common_steps}
 use Rattle.std.proofs.lemmas.Bool.{cases_eq}
 use Rattle.std.proofs.lemmas.List.{get_or_default}
-use Rattle.std.proofs.lemmas.List.Elements.{Contains-append_left, Contains-append_right, Contains-append_cases, Contains-get_or}
+use Rattle.std.proofs.lemmas.List.Elements.{Contains-append_left, Contains-append_right, Contains-append_cases}
+use Rattle.std.proofs.lemmas.List.Elements.{Contains-get_or}
 use Rattle.directed_graph.specs.Graph.{Graph, row_of, HasEdge, IsClosed, Reached, start, next}
 use Rattle.directed_graph.specs.Marks.{AreDistinct, AreMarked, AreUnmarked, IsMarked, MarksAll}
 use Rattle.directed_graph.proofs.MarkLemmas.{all_marked}
@@ -27,10 +28,13 @@ pub record Searched (graph : Graph) (starts : List ℕ) (marks : List Bool) (fou
 
 -- the starts are marked
 pub search_begins :
-    (graph : Graph) (starts : List ℕ) (unset marks : List Bool) (found : List ℕ) → All (λ vertex. vertex < length graph) starts
-    → length unset ≡ length graph → AreUnmarked unset → (empty : List ℕ) → empty ≡ [] → MarksAll starts unset marks empty found
+    (graph : Graph) (starts : List ℕ) (unset marks : List Bool) (found : List ℕ)
+    → All (λ vertex. vertex < length graph) starts
+    → length unset ≡ length graph → AreUnmarked unset → (empty : List ℕ) → empty ≡ []
+    → MarksAll starts unset marks empty found
     → Searched graph starts marks found 0
-search_begins graph starts unset marks found inside as_many unmarked empty is_empty marks_all = begins (rw is_empty at marks_all)
+search_begins graph starts unset marks found inside as_many unmarked empty is_empty marks_all =
+    begins (rw is_empty at marks_all)
   where
     in_starts : (vertex : ℕ) → Contains starts vertex → vertex < length graph
     in_starts vertex (k, below, is) = rw is at (inside k vertex below)
@@ -57,8 +61,10 @@ search_begins graph starts unset marks found inside as_many unmarked empty is_em
 
 -- the row of the next vertex is marked
 pub search_goes_on :
-    (graph : Graph) (starts : List ℕ) (old new : List Bool) (found_old found_new : List ℕ) (done : ℕ) → IsClosed graph → done < length found_old
-    → Searched graph starts old found_old done → MarksAll (row_of graph (slice_index found_old done)) old new found_old found_new
+    (graph : Graph) (starts : List ℕ) (old new : List Bool) (found_old found_new : List ℕ) (done : ℕ) → IsClosed graph
+    → done < length found_old
+    → Searched graph starts old found_old done
+    → MarksAll (row_of graph (slice_index found_old done)) old new found_old found_new
     → Searched graph starts new found_new (done + 1)
 search_goes_on graph starts old new found_old found_new done is_closed below before so = record {
   as_many = so.as_many ∙ before.as_many;
@@ -75,7 +81,8 @@ search_goes_on graph starts old new found_old found_new done is_closed below bef
       (parts vertex there);
   listed = λ vertex is.
       ⊎_elim
-      (λ (was : IsMarked old vertex). rw so.found (Contains-append_left found_old so.added vertex (before.listed vertex was)))
+      (λ (was : IsMarked old vertex). rw so.found
+      (Contains-append_left found_old so.added vertex (before.listed vertex was)))
       (λ (added : Contains so.added vertex). rw so.found (Contains-append_right found_old so.added vertex added))
       (so.no_others vertex is);
   marked = all_marked (row_of graph at_done) old new found_old found_new so before.marked;
@@ -84,7 +91,8 @@ search_goes_on graph starts old new found_old found_new done is_closed below bef
   closed = λ k to less edge.
       ⊎_elim
       (λ (e : k ≡ done). so.marked to (rw (e, same done below) at edge))
-      (λ (ne : k ≢ done). let lt : k < done = omega arith in let l : k < length found_old = omega (arith, before.within) in
+      (λ (ne : k ≢ done). let lt : k < done = omega arith in
+      let l : k < length found_old = omega (arith, before.within) in
       so.kept to (before.closed k to lt (rw (same k l) at edge)))
       (cases_eq k done);
 }
@@ -103,7 +111,8 @@ search_goes_on graph starts old new found_old found_new done is_closed below bef
 
 -- all rows are marked
 marked_if_reached :
-    (graph : Graph) (starts : List ℕ) (marks : List Bool) (found : List ℕ) → Searched graph starts marks found (length found)
+    (graph : Graph) (starts : List ℕ) (marks : List Bool) (found : List ℕ)
+    → Searched graph starts marks found (length found)
     → (vertex : ℕ) → Reached (HasEdge graph) starts vertex → IsMarked marks vertex
 marked_if_reached graph starts marks found so vertex (start _ there) = so.begun vertex there
 marked_if_reached graph starts marks found so vertex (next from _ was edge) =
@@ -112,48 +121,57 @@ marked_if_reached graph starts marks found so vertex (next from _ was edge) =
     so.closed k vertex below (rw e edge)
 
 pub search_ends :
-    (graph : Graph) (starts : List ℕ) (marks : List Bool) (found : List ℕ) (done : ℕ) → done ≡ length found → Searched graph starts marks found done
+    (graph : Graph) (starts : List ℕ) (marks : List Bool) (found : List ℕ) (done : ℕ) → done ≡ length found
+    → Searched graph starts marks found done
     → (vertex : ℕ) → IsMarked marks vertex ↔ Reached (HasEdge graph) starts vertex
 search_ends graph starts marks found done end so vertex =
     let all = rw end at so in
     ((λ is. so.sound vertex (so.listed vertex is)), marked_if_reached graph starts marks found all vertex)
 
 pub found_ends :
-    (graph : Graph) (starts : List ℕ) (marks : List Bool) (found : List ℕ) (done : ℕ) → done ≡ length found → Searched graph starts marks found done
+    (graph : Graph) (starts : List ℕ) (marks : List Bool) (found : List ℕ) (done : ℕ) → done ≡ length found
+    → Searched graph starts marks found done
     → (vertex : ℕ) → Contains found vertex ↔ Reached (HasEdge graph) starts vertex
 found_ends graph starts marks found done end so vertex =
     let all = rw end at so in
     (so.sound vertex, λ there. so.listed vertex (marked_if_reached graph starts marks found all vertex there))
 
 pub found_inside :
-    (graph : Graph) (starts : List ℕ) (marks : List Bool) (found : List ℕ) (done : ℕ) → Searched graph starts marks found done
+    (graph : Graph) (starts : List ℕ) (marks : List Bool) (found : List ℕ) (done : ℕ)
+    → Searched graph starts marks found done
     → All (λ vertex. vertex < length graph) found
 found_inside graph starts marks found done so k d below = so.inside (get_or found k d) (Contains-get_or found k d below)
 
 -- the row that an index reads
-pub row_of_read : (graph : Graph) (vertex : ℕ) (row : _) → vertex < length graph → row ≡ get_or graph vertex row → row_of graph vertex ≡ row.items
+pub row_of_read : (graph : Graph) (vertex : ℕ) (row : _) → vertex < length graph → row ≡ get_or graph vertex row
+    → row_of graph vertex ≡ row.items
 row_of_read [] vertex row below is = absurd (omega arith)
 row_of_read (r ∷ rows) zero row below is = ap (λ v. v.items) (sym is)
 row_of_read (r ∷ rows) (suc vertex) row below is = row_of_read rows vertex row (omega arith) is
 
 -- the vertex that an index reads among those found
-pub next_vertex : (found : List ℕ) (done read : ℕ) → done < length found → read ≡ get_or found done read → slice_index found done ≡ read
+pub next_vertex : (found : List ℕ) (done read : ℕ) → done < length found → read ≡ get_or found done read
+    → slice_index found done ≡ read
 next_vertex found done read below is = get_or_default found done 0 read below ∙ sym is
 
 pub next_inside :
-    (graph : Graph) (starts : List ℕ) (marks : List Bool) (found : List ℕ) (done read : ℕ) → Searched graph starts marks found done → done < length found
+    (graph : Graph) (starts : List ℕ) (marks : List Bool) (found : List ℕ) (done read : ℕ)
+    → Searched graph starts marks found done → done < length found
     → read ≡ get_or found done read → read < length graph
 next_inside graph starts marks found done read so below is = so.inside read (done, below, sym is)
 
 pub row_within :
-    (graph : Graph) (marks : List Bool) (vertex : ℕ) (items : List ℕ) → IsClosed graph → length marks ≡ length graph → items ≡ row_of graph vertex
+    (graph : Graph) (marks : List Bool) (vertex : ℕ) (items : List ℕ) → IsClosed graph → length marks ≡ length graph
+    → items ≡ row_of graph vertex
     → All (λ to. to < length marks) items
 row_within graph marks vertex items is_closed as_many same k d inside =
     rw as_many (is_closed vertex (get_or items k d) (rw (← same) (Contains-get_or items k d inside)))
 
 pub goes_on :
-    (graph : Graph) (starts : List ℕ) (old new : List Bool) (found_old found_new : List ℕ) (done vertex : ℕ) (items : List ℕ) → IsClosed graph
-    → done < length found_old → vertex ≡ get_or found_old done vertex → items ≡ row_of graph vertex → Searched graph starts old found_old done
+    (graph : Graph) (starts : List ℕ) (old new : List Bool) (found_old found_new : List ℕ) (done vertex : ℕ)
+    (items : List ℕ) → IsClosed graph
+    → done < length found_old → vertex ≡ get_or found_old done vertex → items ≡ row_of graph vertex
+    → Searched graph starts old found_old done
     → MarksAll items old new found_old found_new → Searched graph starts new found_new (done + 1)
 goes_on graph starts old new found_old found_new done vertex items is_closed below is same before so =
     let e = next_vertex found_old done vertex below is in
@@ -162,7 +180,8 @@ goes_on graph starts old new found_old found_new done vertex items is_closed bel
 
 -- an edge that is read by its number
 pub edge_read :
-    (graph : Graph) (from number to : ℕ) (row : _) (items : List ℕ) → true ≡ ltb from (length graph) → row ≡ get_or graph from row
+    (graph : Graph) (from number to : ℕ) (row : _) (items : List ℕ) → true ≡ ltb from (length graph)
+    → row ≡ get_or graph from row
     → items ≡ row.items → true ≡ ltb number (length items) → to ≡ get_or items number to → HasEdge graph from to
 edge_read graph from number to row items below is same inside at =
     let less : from < length graph = ltb-true _ _ (sym below) in
@@ -171,7 +190,8 @@ edge_read graph from number to row items below is same inside at =
 
 -- what is so at each number of a row is so of each edge
 pub in_row :
-    (P : ℕ → Type 0) (graph : Graph) (vertex : ℕ) (items : List ℕ) (n : ℕ) → items ≡ row_of graph vertex → length items ≤ n
+    (P : ℕ → Type 0) (graph : Graph) (vertex : ℕ) (items : List ℕ) (n : ℕ)
+    → items ≡ row_of graph vertex → length items ≤ n
     → ((k : ℕ) → k < n → P (slice_index items k)) → (to : ℕ) → HasEdge graph vertex to → P to
 in_row P graph vertex items n same end each to edge =
     let at = rw (← same) at edge in

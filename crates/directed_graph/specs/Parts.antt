@@ -4,7 +4,14 @@ use Rattle.directed_graph.specs.declared.components.Part.{Part}
 use Rattle.directed_graph.specs.Graph.{Graph, HasEdge}
 
 abbrev pub no_part : Part
-no_part = record { component = 0; root = 0; out = 0; to_root = 0; into = record { from = 0; number = 0 }; from_root = 0 }
+no_part = record {
+  component = 0;
+  root = 0;
+  out = 0;
+  to_root = 0;
+  into = record { from = 0; number = 0 };
+  from_root = 0;
+}
 
 abbrev pub part_of : List Part → ℕ → Part
 part_of parts vertex = slice_index_or parts vertex no_part
@@ -18,12 +25,14 @@ abbrev pub GoesOut : Graph → List Part → ℕ → Type 0
 GoesOut graph parts vertex = Nears (HasEdge graph) (λ v. (part_of parts v).root) (λ v. (part_of parts v).to_root) vertex
 
 abbrev pub ComesIn : Graph → List Part → ℕ → Type 0
-ComesIn graph parts vertex = Nears (λ to from. HasEdge graph from to) (λ v. (part_of parts v).root) (λ v. (part_of parts v).from_root) vertex
+ComesIn graph parts vertex =
+    Nears (λ to from. HasEdge graph from to) (λ v. (part_of parts v).root) (λ v. (part_of parts v).from_root) vertex
 
 -- A vertex is in a later component than another, or in the same.
 abbrev pub Follows : List Part → Part → ℕ → Type 0
 Follows parts part to =
-    (part.component < (part_of parts to).component) ⊎ (((part_of parts to).component ≡ part.component) × ((part_of parts to).root ≡ part.root))
+    (part.component < (part_of parts to).component)
+    ⊎ (((part_of parts to).component ≡ part.component) × ((part_of parts to).root ≡ part.root))
 
 pub record IsSound (graph : Graph) (parts : List Part) (vertex : ℕ) : Type 0 where
   pub order : (to : ℕ) → HasEdge graph vertex to → Follows parts (part_of parts vertex) to

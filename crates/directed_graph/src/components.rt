@@ -1,5 +1,5 @@
-// Strongly connected components by Kosaraju's algorithm, with paths between each vertex and its component's root. Nothing is promised of them:
-// `cycles.rt` tests them.
+// Strongly connected components by Kosaraju's algorithm, with paths between each vertex and its component's root.
+// Nothing is promised of them: `cycles.rt` tests them.
 use crate::cycles::target;
 use std::alloc::{AllocError, Global};
 
@@ -131,7 +131,8 @@ fn assign_sources(
     Ok(())
 }
 
-// The component of a root, unless the root is in one: all from which edges lead to it, and that are in no component before.
+// The component of a root, unless the root is in one: all from which edges lead to it, and that are in no component
+// before.
 fn assign_component(
     into: &[Vec<Edge>],
     parts: &mut Vec<Part>,

@@ -100,7 +100,8 @@ fn are_sound(graph: &[Vec<usize>], parts: &[Part]) -> bool
     true
 }
 
-// Whether an edge leads back to the vertex that it leads from: by the components, if they are sound, and else by a search.
+// Whether an edge leads back to the vertex that it leads from: by the components, if they are sound, and else by a
+// search.
 fn leads_back(
     alloc: Global,
     graph: &[Vec<usize>],
@@ -154,7 +155,8 @@ fn first_return(
     Ok(None)
 }
 
-/// For each vertex the first one that its edges lead to and from which edges lead back to it: there is one exactly if the vertex is on a cycle.
+/// For each vertex the first one that its edges lead to and from which edges lead back to it: there is one exactly if
+/// the vertex is on a cycle.
 pub fn returns(alloc: Global, graph: &[Vec<usize>]) -> Result<Vec<Option<usize>>, AllocError>
     requires { IsClosed graph.now }
     ensures { IfOk result (λ found. AreReturns graph.now (length graph.now) found.items) }

@@ -40,8 +40,10 @@ fn search(
     requires as_many { length marks.old.items ≡ length graph.now }
     requires unmarked { AreUnmarked marks.old.items }
     ensures as_many { OnOk result (length marks.new.items ≡ length graph.now) }
-    ensures marked { OnOk result ((vertex : ℕ) → IsMarked marks.new.items vertex ↔ Reached (HasEdge graph.now) starts.now vertex) }
-    ensures found { IfOk result (λ found. (vertex : ℕ) → Contains found.items vertex ↔ Reached (HasEdge graph.now) starts.now vertex) }
+    ensures marked { OnOk result
+        ((vertex : ℕ) → IsMarked marks.new.items vertex ↔ Reached (HasEdge graph.now) starts.now vertex) }
+    ensures found { IfOk result
+        (λ found. (vertex : ℕ) → Contains found.items vertex ↔ Reached (HasEdge graph.now) starts.now vertex) }
     ensures inside { IfOk result (λ found. All (λ vertex. vertex < length graph.now) found.items) }
     ensures distinct { IfOk result (λ found. AreDistinct found.items) }
 {
@@ -65,7 +67,8 @@ pub fn reached(
     requires graph { IsClosed graph.now }
     requires starts { All (λ vertex. vertex < length graph.now) starts.now }
     ensures as_many { IfOk result (λ marks. length marks.items ≡ length graph.now) }
-    ensures marked { IfOk result (λ marks. (vertex : ℕ) → IsMarked marks.items vertex ↔ Reached (HasEdge graph.now) starts.now vertex) }
+    ensures marked { IfOk result
+        (λ marks. (vertex : ℕ) → IsMarked marks.items vertex ↔ Reached (HasEdge graph.now) starts.now vertex) }
 {
     let mut marks = vec![in alloc; false; graph.len()]?;
     search(alloc, graph, starts, &mut marks)?;
@@ -82,8 +85,8 @@ fn unmark(marks: &mut Vec<bool>, vertices: &[usize])
     }
 }
 
-/// The vertex itself and all that edges lead to from it, each once. The marks are room for the search, one for each vertex: all unset before and after, so
-/// that a search takes time only for the vertices that it finds.
+/// The vertex itself and all that edges lead to from it, each once. The marks are room for the search, one for each
+/// vertex: all unset before and after, so that a search takes time only for the vertices that it finds.
 pub fn reach(
     alloc: Global,
     graph: &[Vec<usize>],
@@ -96,7 +99,8 @@ pub fn reach(
     requires unmarked { AreUnmarked marks.old.items }
     ensures as_many { OnOk result (length marks.new.items ≡ length graph.now) }
     ensures unmarked { OnOk result (AreUnmarked marks.new.items) }
-    ensures found { IfOk result (λ found. (vertex : ℕ) → Contains found.items vertex ↔ Reached (HasEdge graph.now) (start ∷ []) vertex) }
+    ensures found { IfOk result
+        (λ found. (vertex : ℕ) → Contains found.items vertex ↔ Reached (HasEdge graph.now) (start ∷ []) vertex) }
     ensures inside { IfOk result (λ found. All (λ vertex. vertex < length graph.now) found.items) }
     ensures distinct { IfOk result (λ found. AreDistinct found.items) }
 {

@@ -14,15 +14,19 @@ use Rattle.document_checks.specs.Findings.{AreFindings}
 use Rattle.document_checks.specs.declared.report.Finding.{Finding}
 
 -- Each of the errors that are shown is found where it is shown, so the first finding is where the first error is.
-pub first_found : (source : List ℕ) (document : Place) (errors shown : List Diagnostic) (most more : ℕ) (starts : List ℕ) → 1 ≤ most
-    → IsFirst document errors most shown more → starts ≡ map (shown_at source) shown → take 1 starts ≡ map (shown_at source) (take 1 errors)
+pub first_found : (source : List ℕ) (document : Place) (errors shown : List Diagnostic) (most more : ℕ)
+    (starts : List ℕ) → 1 ≤ most
+    → IsFirst document errors most shown more → starts ≡ map (shown_at source) shown
+    → take 1 starts ≡ map (shown_at source) (take 1 errors)
 first_found source document errors shown most more starts some is are =
-    ap (take 1) are ∙ take-map (shown_at source) 1 shown ∙ ap (map (shown_at source)) (first_shown document errors most shown more some is)
+    ap (take 1) are ∙ take-map (shown_at source) 1 shown
+    ∙ ap (map (shown_at source)) (first_shown document errors most shown more some is)
 
 -- what is found of a text with errors
 pub of_errors : (limits : Limits) (source : List ℕ) (t : Parsed) (errors : List Diagnostic) (findings : List Finding)
     → Promise source limits.recursion limits.tokens t → errors ≡ t.errors → 0 < length errors
-    → take 1 (map (λ (f : Finding). f.start) findings) ≡ map (shown_at source) (take 1 errors) → AreFindings limits source findings
+    → take 1 (map (λ (f : Finding). f.start) findings) ≡ map (shown_at source) (take 1 errors)
+    → AreFindings limits source findings
 of_errors limits source t [] findings promise are some first = absurd (omega (arith, some))
 of_errors limits source t (e ∷ es) [] promise are some first = absurd (let r : ⊥ = cc in r)
 of_errors limits source t (e ∷ es) (f ∷ fs) promise are some first = λ error is.
@@ -33,7 +37,8 @@ of_errors limits source t (e ∷ es) (f ∷ fs) promise are some first = λ erro
     at ∙ ap (shown_at source) it
 
 -- and of one without
-pub of_no_errors : (limits : Limits) (source : List ℕ) (t : Parsed) (findings : List Finding) → Promise source limits.recursion limits.tokens t
+pub of_no_errors : (limits : Limits) (source : List ℕ) (t : Parsed) (findings : List Finding)
+    → Promise source limits.recursion limits.tokens t
     → t.errors ≡ [] → 0 < length findings → AreFindings limits source findings
 of_no_errors limits source t [] promise none some = absurd (omega (arith, some))
 of_no_errors limits source t (f ∷ fs) promise none some = λ error is.

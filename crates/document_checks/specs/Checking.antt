@@ -1,5 +1,6 @@
 -- Which texts pass.
-use Rattle.std.specs.Prelude.{◌≡◌, ◌≢◌, ◌⊎◌, ℕ, Bool, true, false, List, [], All, bytes_eq, Option, Some, None, option_map}
+use Rattle.std.specs.Prelude.{◌≡◌, ◌≢◌, ◌⊎◌, ℕ, Bool, true, false, List, [], All, bytes_eq, Option, Some, None}
+use Rattle.std.specs.Prelude.{option_map}
 use Rattle.std.specs.List.{filter}
 use denote.Ref.{Bor}
 use Rattle.apollo_lexer.specs.declared.limits.Limits.{Limits}
@@ -16,8 +17,8 @@ use Rattle.document_validation.specs.Lists.{document_kind}
 use Rattle.document_validation.specs.Validity.{IsValidAs}
 use Rattle.document_checks.specs.declared.report.Checks.{Checks}
 
--- What a text is checked against: the parser's limits, the greatest figures that an operation may have, and the name of the operation that has to be
--- within them, if it is not all of them.
+-- What a text is checked against: the parser's limits, the greatest figures that an operation may have, and the name of
+-- the operation that has to be within them, if it is not all of them.
 pub record Asked : Type 0 where
   pub limits : Limits
   pub most : Figures
@@ -68,7 +69,8 @@ pub record IsSoundText (asked : Asked) (source : List ℕ) : Type 0 where
   pub no_errors : parsed.errors ≡ []
   pub sound : IsSound asked (record { whole = parsed.tree; index = 0 })
 
--- The text has nothing to check: no definition, within the token limit, and no operation is named that would have to be there.
+-- The text has nothing to check: no definition, within the token limit, and no operation is named that would have to be
+-- there.
 pub record HasNothing (asked : Asked) (source : List ℕ) : Type 0 where
   pub comments : HasCommentsAlone asked.limits source
   pub unnamed : asked.operation ≡ None

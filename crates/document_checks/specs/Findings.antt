@@ -7,7 +7,8 @@ use Rattle.document_checks.specs.declared.report.Finding.{Finding}
 
 -- If the text has errors, the first of them is shown at this byte offset.
 abbrev pub IsAtFirstError : Limits → List ℕ → ℕ → Type 0
-IsAtFirstError limits source offset = (error : Diagnostic) → IsFirstErrorOf limits source error → offset ≡ shown_at source error
+IsAtFirstError limits source offset =
+    (error : Diagnostic) → IsFirstErrorOf limits source error → offset ≡ shown_at source error
 
 -- There is a finding, and the first is there.
 abbrev pub AreFindings : Limits → List ℕ → List Finding → Type 0

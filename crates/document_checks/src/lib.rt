@@ -1,7 +1,8 @@
-//! Checks of a document before it runs: that it is one, that it is valid by the rules of `document_validation`, and that its operations are within limits.
+//! Checks of a document before it runs: that it is one, that it is valid by the rules of `document_validation`, and
+//! that its operations are within limits.
 //!
-//! `check` judges a text and says what it found. `gqlcheck_run` calls it through the trait `DocumentChecker`, so that it is proved without the code of the
-//! parser.
+//! `check` judges a text and says what it found. `gqlcheck_run` calls it through the trait `DocumentChecker`, so that
+//! it is proved without the code of the parser.
 #![tactic(auto)]
 
 mod operations;

@@ -32,7 +32,8 @@ fn chosen<'t>(
     operations: &[OperationFigures<'t>],
     operation: Option<&str>,
 ) -> Result<Vec<OperationFigures<'t>>, AllocError>
-    ensures { IfOk result (λ found. map as_measure found.items ≡ filter (is_chosen (option_map (λ n. n.now) operation.entry)) (map as_measure operations.now)) }
+    ensures { IfOk result (λ found. map as_measure found.items
+        ≡ filter (is_chosen (option_map (λ n. n.now) operation.entry)) (map as_measure operations.now)) }
 {
     let mut found = Vec::new(alloc);
     for measured in operations {
@@ -97,7 +98,8 @@ fn exceeded_limits(
     operations: &[OperationFigures<'_>],
     most: &Figures,
 ) -> Result<Vec<Finding>, AllocError>
-    ensures { IfOk result (λ findings. (vec_len findings ≡ 0) ↔ All (IsWithin most.now) (map as_measure operations.now)) }
+    ensures { IfOk result (λ findings. (vec_len findings ≡ 0)
+        ↔ All (IsWithin most.now) (map as_measure operations.now)) }
 {
     let mut findings = Vec::new(alloc);
     for measured in operations {
@@ -126,7 +128,8 @@ fn limited(
     operations: &[OperationFigures<'_>],
     checks: &Checks<'_>,
 ) -> Result<Report, AllocError>
-    ensures judged { IfOk result (λ report. (report.passes ≡ true) ↔ IsChosenWithin (as_asked checks.now) (map as_measure operations.now)) }
+    ensures judged { IfOk result
+        (λ report. (report.passes ≡ true) ↔ IsChosenWithin (as_asked checks.now) (map as_measure operations.now)) }
     ensures found { IfOk result (λ report. report.passes ≡ false → 0 < vec_len report.findings) }
 {
     let chosen = chosen(alloc, operations, checks.operation)?;
@@ -183,7 +186,8 @@ pub(crate) fn check_operations(
     document: &SyntaxNode<'_>,
     checks: &Checks<'_>,
 ) -> Result<Report, AllocError>
-    ensures judged { IfOk result (λ report. (report.passes ≡ true) ↔ AreWithin (as_asked checks.now) (node_place document.now)) }
+    ensures judged { IfOk result
+        (λ report. (report.passes ≡ true) ↔ AreWithin (as_asked checks.now) (node_place document.now)) }
     ensures found { IfOk result (λ report. report.passes ≡ false → 0 < vec_len report.findings) }
 {
     match measure(alloc, document) {

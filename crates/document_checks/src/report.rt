@@ -73,7 +73,8 @@ pub struct OperationReport {
 pub struct Report {
     /// Whether the text passes.
     pub passes: bool,
-    /// The first things that keep it from passing, in the order in which they are found: of errors the first of each definition.
+    /// The first things that keep it from passing, in the order in which they are found: of errors the first of each
+    /// definition.
     pub findings: Vec<Finding>,
     /// How many more there are.
     pub more: usize,
@@ -144,7 +145,8 @@ impl Finding {
         Finding::of(range.start(), range.end(), rule, message)
     }
 
-    /// A finding that an error of the parser is, with the byte offset at which it is shown. At the end of the text it has no length.
+    /// A finding that an error of the parser is, with the byte offset at which it is shown. At the end of the text it
+    /// has no length.
     pub(crate) fn of_error(error: &BorrowedError<'_>, start: usize, message: String) -> Finding
         ensures { result.start ≡ start }
     {

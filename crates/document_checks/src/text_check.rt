@@ -16,7 +16,8 @@ use first_errors::{first_errors, for_people, shown_at};
 use formatter::{has_no_definitions, stays_within};
 use std::alloc::{AllocError, Global};
 
-// How many violations are looked for: one more than are reported at most, so that it is known of a thousand whether they are all.
+// How many violations are looked for: one more than are reported at most, so that it is known of a thousand whether
+// they are all.
 const MOST: usize = 1001;
 
 // An error, in words for people.
@@ -29,7 +30,8 @@ fn finding_of(alloc: Global, source: &str, error: &BorrowedError<'_>) -> Result<
     Ok(Finding::of_error(error, shown_at(source, error), message))
 }
 
-// The report of a text that has these errors, by the root of its tree: of each definition the first, in words for people.
+// The report of a text that has these errors, by the root of its tree: of each definition the first, in words for
+// people.
 fn refused(
     alloc: Global,
     source: &str,
@@ -38,7 +40,9 @@ fn refused(
     most: usize,
 ) -> Result<Report, AllocError>
     ensures passes { IfOk result (λ report. report.passes ≡ false) }
-    ensures found { IfOk result (λ report. take 1 (map (λ finding. finding.start) report.findings.items) ≡ map (shown_at source.now) (take 1 (map error_of errors.now))) }
+    ensures found { IfOk result
+        (λ report. take 1 (map (λ finding. finding.start) report.findings.items)
+        ≡ map (shown_at source.now) (take 1 (map error_of errors.now))) }
 {
     let first = first_errors(alloc, document, errors, most.max(1))?;
     let mut findings = Vec::new(alloc);
@@ -70,7 +74,8 @@ fn check_document(
     document: &SyntaxNode<'_>,
     checks: &Checks<'_>,
 ) -> Result<Report, AllocError>
-    ensures judged { IfOk result (λ report. (report.passes ≡ true) ↔ IsSound (as_asked checks.now) (node_place document.now)) }
+    ensures judged { IfOk result
+        (λ report. (report.passes ≡ true) ↔ IsSound (as_asked checks.now) (node_place document.now)) }
     ensures found { IfOk result (λ report. report.passes ≡ false → 0 < vec_len report.findings) }
 {
     let violations = validate(alloc, document, MOST)?;
@@ -84,7 +89,8 @@ fn check_document(
 
 // Whether a text has nothing to check.
 fn has_nothing(source: &str, checks: &Checks<'_>) -> bool
-    ensures { MatchBool result (HasNothing (as_asked checks.now) source.now) (¬ HasNothing (as_asked checks.now) source.now) }
+    ensures { MatchBool result (HasNothing (as_asked checks.now) source.now)
+        (¬ HasNothing (as_asked checks.now) source.now) }
 {
     checks.operation.is_none()
         && has_no_definitions(source)
@@ -94,7 +100,8 @@ fn has_nothing(source: &str, checks: &Checks<'_>) -> bool
 // Checks a text that has something to check.
 fn check_text(alloc: Global, source: &str, checks: &Checks<'_>) -> Result<Report, AllocError>
     ensures judged { IfOk result (λ report. (report.passes ≡ true) ↔ IsSoundText (as_asked checks.now) source.now) }
-    ensures found { IfOk result (λ report. report.passes ≡ false → AreFindings checks.now.limits source.now report.findings.items) }
+    ensures found { IfOk result
+        (λ report. report.passes ≡ false → AreFindings checks.now.limits source.now report.findings.items) }
 {
     let tree = Parser::within(source, checks.limits).parse_borrowed(alloc)?;
     let errors = tree.errors().as_slice();
@@ -106,13 +113,15 @@ fn check_text(alloc: Global, source: &str, checks: &Checks<'_>) -> Result<Report
     Ok(report)
 }
 
-/// Checks a text: it passes exactly if it is a document within the parser's limits, which keeps all rules that `validate` has for its kind, and each operation
-/// is within the limits, or the one that is named, which has to be there; or if it has no definition, and no operation is named. Of a text that does not
-/// pass there is a finding; if it has errors, the first finding is where its first error is shown. It fails only where memory is refused.
+/// Checks a text: it passes exactly if it is a document within the parser's limits, which keeps all rules that
+/// `validate` has for its kind, and each operation is within the limits, or the one that is named, which has to be
+/// there; or if it has no definition, and no operation is named. Of a text that does not pass there is a finding; if it
+/// has errors, the first finding is where its first error is shown. It fails only where memory is refused.
 #[tactic(auto, using(crate::proofs::Texts::with_nothing, crate::proofs::Texts::with_something))]
 pub fn check(alloc: Global, source: &str, checks: &Checks<'_>) -> Result<Report, AllocError>
     ensures judged { IfOk result (λ report. (report.passes ≡ true) ↔ Passes (as_asked checks.now) source.now) }
-    ensures found { IfOk result (λ report. report.passes ≡ false → AreFindings checks.now.limits source.now report.findings.items) }
+    ensures found { IfOk result
+        (λ report. report.passes ≡ false → AreFindings checks.now.limits source.now report.findings.items) }
 {
     if has_nothing(source, checks) {
         return Ok(Report::of_nothing(alloc));
@@ -126,7 +135,8 @@ pub trait DocumentChecker {
     /// What is found of a text, as the function `check` has it.
     fn check(&self, source: &str, checks: &Checks<'_>) -> Result<Report, AllocError>
         ensures judged { IfOk result (λ report. (report.passes ≡ true) ↔ Passes (as_asked checks.now) source.now) }
-        ensures found { IfOk result (λ report. report.passes ≡ false → AreFindings checks.now.limits source.now report.findings.items) };
+        ensures found { IfOk result
+            (λ report. report.passes ≡ false → AreFindings checks.now.limits source.now report.findings.items) };
 }
 
 /// The function `check`, with its memory.

@@ -1,8 +1,10 @@
--- Trees that are added to the open node: one list after another, a node that was opened and closed, and one that opens at an earlier index.
+-- Trees that are added to the open node: one list after another, a node that was opened and closed, and one that opens
+-- at an earlier index.
 use Rattle.std.proofs.Common.{◌≡◌, ℕ, zero, suc, ◌+◌, ◌-◌, List, ◌∷◌, refl, sym, ap, ap₂, ◌∙◌, subst, arith}
 use Rattle.document_grammar.specs.declared.kind.SyntaxKind.{SyntaxKind}
 use Rattle.document_grammar.specs.Forests.{Forest, none, leaf, node, count, join}
-use Rattle.document_grammar.specs.Builds.{Building, start, add_leaf, close, finish, open_count, built_count, front, wrap, IsSeam, CanOpenAt}
+use Rattle.document_grammar.specs.Builds.{Building, start, add_leaf, close, finish, open_count, built_count, front}
+use Rattle.document_grammar.specs.Builds.{wrap, IsSeam, CanOpenAt}
 use Rattle.document_grammar.proofs.Joins.{join-none, join-assoc}
 use Rattle.document_grammar.proofs.Built.{front-join, back-join}
 
@@ -18,9 +20,11 @@ pub added-leaf : (k : SyntaxKind) (x : List ℕ) (b : Building) → Added (leaf 
 added-leaf k x b = record { above = refl; here = refl }
 
 pub added-then : {f g : Forest} {b t u : Building} → Added f b t → Added g t u → Added (join f g) b u
-added-then {f = f} {g = g} {b = b} h k = record { above = k.above ∙ h.above; here = k.here ∙ (ap (λ (x : Forest). join x g) h.here ∙ join-assoc b.here f g) }
+added-then {f = f} {g = g} {b = b} h k =
+    record { above = k.above ∙ h.above; here = k.here ∙ (ap (λ (x : Forest). join x g) h.here ∙ join-assoc b.here f g) }
 
-pub added-node : {f : Forest} {b t : Building} (k : SyntaxKind) → Added f (start k b) t → Added (node k f none) b (finish t)
+pub added-node : {f : Forest} {b t : Building} (k : SyntaxKind) → Added f (start k b) t
+    → Added (node k f none) b (finish t)
 added-node {b = b} {t = t} k h =
     let e = ap (close t.here) h.above in record {
       above = ap (λ (z : Building). z.above) e;
@@ -32,9 +36,11 @@ pub wrap-added : (k : SyntaxKind) (b t : Building) (f : Forest) → t.above ≡ 
     → wrap (built_count b) k t ≡ record { here = f; above = record { before = b.here; kind = k } ∷ b.above }
 wrap-added k b t f a e =
     let left : (open_count b.above + count b.here) - open_count b.above ≡ count b.here = omega arith in
-    ap₂ (λ above here. wrap (built_count b) k (record { here = here; above = above })) a e ∙ rw (left, front-join b.here f, back-join b.here f) refl
+    ap₂ (λ above here. wrap (built_count b) k (record { here = here; above = above })) a e
+    ∙ rw (left, front-join b.here f, back-join b.here f) refl
 
-pub added-wrap : {f : Forest} {b t : Building} (k : SyntaxKind) → Added f b t → Added f (start k b) (wrap (built_count b) k t)
+pub added-wrap : {f : Forest} {b t : Building} (k : SyntaxKind) → Added f b t
+    → Added f (start k b) (wrap (built_count b) k t)
 added-wrap {f = f} {b = b} {t = t} k h = let e = wrap-added k b t f h.above h.here in
     record { above = ap (λ (z : Building). z.above) e; here = ap (λ (z : Building). z.here) e }
 

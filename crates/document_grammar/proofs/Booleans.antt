@@ -1,6 +1,7 @@
 -- Lemmas on Booleans, and std's lemmas on `&&` and `||` for the `and` and `or` that proofs unfold.
 use Rattle.std.proofs.Common.{◌≡◌, ℕ, Bool, true, false, cond, not, eqb, Option, Some, None, is_some, refl, sym, ◌⊎◌}
-use Rattle.std.proofs.lemmas.Bool.{both_ways, and_parts, and_from, and_left, and_right, or_cases, or_left, or_right, or_from, or_parts, eq-eqb}
+use Rattle.std.proofs.lemmas.Bool.{both_ways, and_parts, and_from, and_left, and_right, or_cases, or_left, or_right}
+use Rattle.std.proofs.lemmas.Bool.{or_from, or_parts, eq-eqb}
 pub use Rattle.std.proofs.lemmas.Bool.{cases_Bool as either, not-true as not-c}
 use Rattle.document_grammar.specs.Booleans.{◌and◌, ◌or◌}
 

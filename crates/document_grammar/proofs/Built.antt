@@ -1,5 +1,7 @@
--- Lists of trees, one after the other, with and without their ignored leaves: what they spell; and the same of built trees.
-use Rattle.std.proofs.Common.{◌≡◌, ℕ, ◌+◌, ◌-◌, true, zero, suc, List, [], ◌∷◌, ◌++◌, append_assoc, refl, sym, ap, ◌∙◌, inl, inr, true≢false, arith}
+-- Lists of trees, one after the other, with and without their ignored leaves: what they spell; and the same of built
+-- trees.
+use Rattle.std.proofs.Common.{◌≡◌, ℕ, ◌+◌, ◌-◌, true, zero, suc, List, [], ◌∷◌, ◌++◌, append_assoc, refl, sym, ap, ◌∙◌}
+use Rattle.std.proofs.Common.{inl, inr, true≢false, arith}
 use Rattle.document_grammar.specs.Numbers.{number}
 use Rattle.document_grammar.specs.Forests as built
 use Rattle.document_grammar.specs.Builds.{Open, front, back, close, built_count}
@@ -17,11 +19,13 @@ forest-none (u ▸ f) = ap (λ (x : Forest). u ▸ x) (forest-none f)
 
 pub Yields-append : (f g : Forest) → Yields (f +++ g) ≡ Yields f ++ Yields g
 Yields-append none g = refl
-Yields-append (t ▸ f) g = ap (λ (w : List Token). Yield t ++ w) (Yields-append f g) ∙ sym (append_assoc (Yield t) (Yields f) (Yields g))
+Yields-append (t ▸ f) g =
+    ap (λ (w : List Token). Yield t ++ w) (Yields-append f g) ∙ sym (append_assoc (Yield t) (Yields f) (Yields g))
 
 pub bares-append : (f g : Forest) → bares (f +++ g) ≡ bares f +++ bares g
 bares-append none g = refl
-bares-append (t ▸ f) g = elim (either (ignored t)) [ inl p ↦ rw (p, bares-append f g) refl | inr p ↦ rw (p, bares-append f g) refl ]
+bares-append (t ▸ f) g =
+    elim (either (ignored t)) [ inl p ↦ rw (p, bares-append f g) refl | inr p ↦ rw (p, bares-append f g) refl ]
 
 -- What is spelled stays without the ignored leaves.
 yield-ignored : (t : Tree) → ignored t ≡ true → Yield t ≡ []
@@ -44,9 +48,11 @@ mutual
 pub numbered-join : (f g : built.Forest) → numbered (built.join f g) ≡ numbered f +++ numbered g
 numbered-join built.none g = refl
 numbered-join (built.leaf k s rest) g = ap (λ (h : Forest). leaf (number k) s ▸ h) (numbered-join rest g)
-numbered-join (built.node k kids rest) g = ap (λ (h : Forest). node (number k) (numbered kids) ▸ h) (numbered-join rest g)
+numbered-join (built.node k kids rest) g =
+    ap (λ (h : Forest). node (number k) (numbered kids) ▸ h) (numbered-join rest g)
 
-pub bares-numbered-join : (f g : built.Forest) → bares (numbered (built.join f g)) ≡ bares (numbered f) +++ bares (numbered g)
+pub bares-numbered-join : (f g : built.Forest)
+    → bares (numbered (built.join f g)) ≡ bares (numbered f) +++ bares (numbered g)
 bares-numbered-join f g = rw numbered-join (bares-append (numbered f) (numbered g))
 
 -- A node that opens at an earlier index takes the trees from there on.
@@ -59,13 +65,15 @@ join-front_back (suc n) (built.node k kids rest) = ap (built.node k kids) (join-
 pub front-join : (f g : built.Forest) → front (built.count f) (built.join f g) ≡ f
 front-join built.none g = refl
 front-join (built.leaf k s rest) g = ap (built.leaf k s) (front-join rest g)
-front-join (built.node k kids rest) g = let e : (built.count kids + built.count rest) - built.count kids ≡ built.count rest = omega arith in
+front-join (built.node k kids rest) g =
+    let e : (built.count kids + built.count rest) - built.count kids ≡ built.count rest = omega arith in
     rw (e, front-join rest g) refl
 
 pub back-join : (f g : built.Forest) → back (built.count f) (built.join f g) ≡ g
 back-join built.none g = refl
 back-join (built.leaf k s rest) g = back-join rest g
-back-join (built.node k kids rest) g = let e : (built.count kids + built.count rest) - built.count kids ≡ built.count rest = omega arith in
+back-join (built.node k kids rest) g =
+    let e : (built.count kids + built.count rest) - built.count kids ≡ built.count rest = omega arith in
     rw (e, back) (back-join rest g)
 
 -- A node that is closed is an element as it was when it was open.

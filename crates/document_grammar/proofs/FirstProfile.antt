@@ -4,7 +4,8 @@ use Rattle.document_grammar.specs.Tree.{Token, Tree, leaf, node, Forest, none, �
 use Rattle.document_grammar.specs.Pattern.{Matches}
 use Rattle.document_grammar.specs.Kinds.{OPERATION_DEFINITION, FRAGMENT_DEFINITION, VARIABLE_DEFINITION}
 use Rattle.document_grammar.specs.Rows.{Row, FirstRow, first_operation, first_fragment, first_variable}
-use Rattle.document_grammar.specs.Derivation.{FitsBy, AllFitBy, BareBy, Sort, document, selections, type, DerivationBy, Derivation, Spells}
+use Rattle.document_grammar.specs.Derivation.{FitsBy, AllFitBy, BareBy, Sort, document, selections, type, DerivationBy}
+use Rattle.document_grammar.specs.Derivation.{Derivation, Spells}
 use Rattle.document_grammar.specs.Beginnings.{FirstSpells}
 use Rattle.document_grammar.proofs.Booleans.{either}
 
@@ -12,11 +13,13 @@ use Rattle.document_grammar.proofs.Booleans.{either}
 row-kept : (k : ℕ) (w : List ℕ) → Matches (FirstRow k) w → Matches (Row k) w
 unfolding FirstRow Row
 row-kept k w m = elim (either (eqb k OPERATION_DEFINITION)) [
-  | inl p ↦ (let m' : Matches first_operation w = rw p at m in rw (eqb-true _ _ p) (elim m' [ inl a ↦ inl a | inr b ↦ inr ([], w, refl, inr refl, b) ]))
+  | inl p ↦ (let m' : Matches first_operation w = rw p at m in
+      rw (eqb-true _ _ p) (elim m' [ inl a ↦ inl a | inr b ↦ inr ([], w, refl, inr refl, b) ]))
   | inr p ↦ elim (either (eqb k FRAGMENT_DEFINITION)) [
     | inl q ↦ (let m' : Matches first_fragment w = rw (p, q) at m in rw (eqb-true _ _ q) ([], w, refl, inr refl, m'))
     | inr q ↦ elim (either (eqb k VARIABLE_DEFINITION)) [
-      | inl r ↦ (let m' : Matches first_variable w = rw (p, q, r) at m in rw (eqb-true _ _ r) ([], w, refl, inr refl, m'))
+      | inl r ↦ (let m' : Matches first_variable w = rw (p, q, r) at m in
+          rw (eqb-true _ _ r) ([], w, refl, inr refl, m'))
       | inr r ↦ (rw (p, q, r) at m)
     ]
   ]

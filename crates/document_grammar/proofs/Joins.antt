@@ -21,4 +21,5 @@ count-join (node k kids rest) g = omega (arith, count-join rest g)
 pub text-join : (f g : Forest) → text (join f g) ≡ text f ++ text g
 text-join none g = refl
 text-join (leaf k s rest) g = ap (λ t. s ++ t) (text-join rest g) ∙ sym (append_assoc s (text rest) (text g))
-text-join (node k kids rest) g = ap (λ t. text kids ++ t) (text-join rest g) ∙ sym (append_assoc (text kids) (text rest) (text g))
+text-join (node k kids rest) g =
+    ap (λ t. text kids ++ t) (text-join rest g) ∙ sym (append_assoc (text kids) (text rest) (text g))

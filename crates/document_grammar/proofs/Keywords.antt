@@ -9,7 +9,8 @@ abbrev pub all_words : List (ℕ × Text) → (ℕ → Text → Bool) → Bool
 all_words [] t = true
 all_words (w ∷ more) t = t w.0 w.1 and all_words more t
 
-pub listed-at : (ws : List (ℕ × Text)) (t : ℕ → Text → Bool) (l : ℕ) (x : Text) → all_words ws t ≡ true → Listed ws l x → t l x ≡ true
+pub listed-at : (ws : List (ℕ × Text)) (t : ℕ → Text → Bool) (l : ℕ) (x : Text) → all_words ws t ≡ true
+    → Listed ws l x → t l x ≡ true
 listed-at [] t l x h i = absurd i
 listed-at (w ∷ more) t l x h i = elim i [
   | inl p ↦ subst (λ (n : ℕ). t n x ≡ true) p.0 (subst (λ (y : Text). t w.0 y ≡ true) p.1 (and-l _ _ h))

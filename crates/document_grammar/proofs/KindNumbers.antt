@@ -24,7 +24,8 @@ kind_of-number _ = refl
 pub one-kind : (k l : SyntaxKind) → number k ≡ number l → k ≡ l
 one-kind k l e = sym (kind_of-number k) ∙ ap kind_of e ∙ kind_of-number l
 
--- Checks of the definitions against each other, which no proof uses. `Numbering` and `Kinds` give each kind the same number.
+-- Checks of the definitions against each other, which no proof uses. `Numbering` and `Kinds` give each kind the same
+-- number.
 numbers-named : map number all_kinds ≡ leaf_kinds ++ node_kinds
 unfolding all_kinds
 numbers-named = refl
@@ -33,7 +34,8 @@ numbers-named = refl
 rows-named : map (λ (row : _). row.0) children ≡ node_kinds
 rows-named = refl
 
--- `HasConstantDirectives` lists, of the kinds whose rows have DIRECTIVES, those that neither are selections nor have a selection set.
+-- `HasConstantDirectives` lists, of the kinds whose rows have DIRECTIVES, those that neither are selections nor have a
+-- selection set.
 abbrev mentions : ℕ → Pattern → Bool
 mentions k (any_of ks) = member k ks
 mentions k nothing = false

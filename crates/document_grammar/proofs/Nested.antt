@@ -1,6 +1,7 @@
--- How deep trees nest in a node of a kind: what one tree and one list of trees add, by the kinds alone; and the same of built trees.
-use Rattle.std.proofs.Common.{not, ◌≡◌, ℕ, zero, suc, ◌+◌, ◌<◌, ◌≤◌, max, Bool, true, false, cond, List, refl, sym, ap, ap₂, ◌∙◌, inl, inr, true≢false}
-use Rattle.std.proofs.Common.{ltb-true, arith}
+-- How deep trees nest in a node of a kind: what one tree and one list of trees add, by the kinds alone; and the same of
+-- built trees.
+use Rattle.std.proofs.Common.{not, ◌≡◌, ℕ, zero, suc, ◌+◌, ◌<◌, ◌≤◌, max, Bool, true, false, cond, List, refl, sym, ap}
+use Rattle.std.proofs.Common.{ap₂, ◌∙◌, inl, inr, true≢false, ltb-true, arith}
 use Rattle.document_grammar.specs.declared.kind.SyntaxKind.{SyntaxKind}
 use Rattle.document_grammar.specs.Kinds.{SELECTION_SET, LIST_TYPE, LIST_VALUE, OBJECT_FIELD}
 use Rattle.document_grammar.specs.Choices.{Values, is_ignored}
@@ -30,12 +31,15 @@ weight p k = counts p k
 
 pub weight-none : (p k : ℕ) → uncounted k ≡ true → weight p k ≡ 0
 unfolding weight
-weight-none p k h = rw (not-c _ (and-l _ _ h), not-c _ (and-r _ _ h)) (cond-zero (member p (LIST_VALUE ∷ OBJECT_FIELD ∷ [])))
+weight-none p k h = rw (not-c _ (and-l _ _ h), not-c _ (and-r _ _ h))
+    (cond-zero (member p (LIST_VALUE ∷ OBJECT_FIELD ∷ [])))
 
 -- all parents count alike what is no value, and those that do not count values count all alike
 pub weight-no_value : (p q k : ℕ) → member k Values ≡ false → weight p k ≡ weight q k
 unfolding weight
-weight-no_value p q k h = rw (h, cond-zero (member p (LIST_VALUE ∷ OBJECT_FIELD ∷ [])), cond-zero (member q (LIST_VALUE ∷ OBJECT_FIELD ∷ []))) refl
+weight-no_value p q k h =
+    rw (h, cond-zero (member p (LIST_VALUE ∷ OBJECT_FIELD ∷ [])), cond-zero (member q (LIST_VALUE ∷ OBJECT_FIELD ∷ [])))
+    refl
 
 weight-same : (p q k : ℕ) → is_bare p ≡ true → is_bare q ≡ true → weight p k ≡ weight q k
 unfolding weight
@@ -43,7 +47,8 @@ weight-same p q k h g = rw (not-c _ h, not-c _ g) refl
 
 pub weight-le : (p k : ℕ) → weight p k ≤ 1
 unfolding weight
-weight-le p k = three (member k (SELECTION_SET ∷ LIST_TYPE ∷ [])) (member p (LIST_VALUE ∷ OBJECT_FIELD ∷ [])) (member k Values)
+weight-le p k = three (member k (SELECTION_SET ∷ LIST_TYPE ∷ []))
+    (member p (LIST_VALUE ∷ OBJECT_FIELD ∷ [])) (member k Values)
   where
     three : (a b c : Bool) → cond a 1 (cond b (cond c 1 0) 0) ≤ 1
     three true b c = omega arith
@@ -59,7 +64,8 @@ belows-append k (t ▸ f) g = let h = belows-append k f g in omega (arith, h)
 pub belows-same : (p q : ℕ) (f : Forest) → is_bare p ≡ true → is_bare q ≡ true → belows p f ≡ belows q f
 unfolding weight
 belows-same p q none h g = refl
-belows-same p q (t ▸ f) h g = ap₂ (λ (w d : ℕ). max (w + below t) d) (weight-same p q (root t) h g) (belows-same p q f h g)
+belows-same p q (t ▸ f) h g =
+    ap₂ (λ (w d : ℕ). max (w + below t) d) (weight-same p q (root t) h g) (belows-same p q f h g)
 
 -- Ignored leaves nest nothing.
 ignored-uncounted : (k : ℕ) → is_ignored k ≡ true → uncounted k ≡ true
@@ -106,11 +112,13 @@ pub inner-none : (p : ℕ) → inner p built.none ≡ 0
 unfolding inner
 inner-none p = refl
 
-pub inner-leaf : (p : ℕ) (k : SyntaxKind) (x : List ℕ) → inner p (built.leaf k x built.none) ≡ max (weight p (number k) + 0) 0
+pub inner-leaf : (p : ℕ) (k : SyntaxKind) (x : List ℕ)
+    → inner p (built.leaf k x built.none) ≡ max (weight p (number k) + 0) 0
 unfolding inner weight
 inner-leaf p k x = refl
 
-pub inner-node : (p : ℕ) (k : SyntaxKind) (kids : built.Forest) → inner p (built.node k kids built.none) ≡ max (weight p (number k) + inner (number k) kids) 0
+pub inner-node : (p : ℕ) (k : SyntaxKind) (kids : built.Forest)
+    → inner p (built.node k kids built.none) ≡ max (weight p (number k) + inner (number k) kids) 0
 unfolding inner weight
 inner-node p k kids = refl
 
@@ -123,6 +131,8 @@ inner-same p q f h g = belows-same p q (numbered f) h g
 pub inner-count : (p : ℕ) (f : built.Forest) → inner p f ≤ built.count f
 unfolding inner weight
 inner-count p built.none = omega arith
-inner-count p (built.leaf k x rest) = let w = weight-le p (number k) in let r = inner-count p rest in omega (arith, w, r)
-inner-count p (built.node k kids rest) = let w = weight-le p (number k) in let b = inner-count (number k) kids in let r = inner-count p rest in
+inner-count p (built.leaf k x rest) = let w = weight-le p (number k) in let r = inner-count p rest in
+    omega (arith, w, r)
+inner-count p (built.node k kids rest) = let w = weight-le p (number k) in let b = inner-count (number k) kids in
+    let r = inner-count p rest in
     omega (arith, w, b, r)

@@ -18,7 +18,8 @@ nil-parts (k ∷ u) v e = absurd cc
 pub nullable-to : (p : Pattern) (w : List ℕ) → w ≡ [] → Matches p w → nullable p ≡ true
 nullable-to (any_of ks) w e (k, i, f) = absurd cc
 nullable-to nothing w e h = refl
-nullable-to (p then q) w e (u, v, f, a, b) = let n = nil-parts u v (sym f ∙ e) in and-i (nullable-to p u n.0 a) (nullable-to q v n.1 b)
+nullable-to (p then q) w e (u, v, f, a, b) = let n = nil-parts u v (sym f ∙ e) in
+    and-i (nullable-to p u n.0 a) (nullable-to q v n.1 b)
 nullable-to (p or_else q) w e (inl h) = or-l _ _ (nullable-to p w e h)
 nullable-to (p or_else q) w e (inr h) = or-r _ _ (nullable-to q w e h)
 nullable-to (many p) w e h = refl

@@ -1,9 +1,10 @@
--- Examples of the places of ignored leaves: a space is placed between a brace and a field, and behind an operation; not behind the leaf
--- of a name.
+-- Examples of the places of ignored leaves: a space is placed between a brace and a field, and behind an operation; not
+-- behind the leaf of a name.
 use Rattle.std.proofs.Common.{◌≢◌, true≢false, sym, IsTrue, false, List, [], ◌∷◌, refl}
 use Rattle.document_grammar.specs.Tree.{Token, Tree, leaf, node, Forest, none, ◌▸◌, ◌+++◌}
 use Rattle.std.specs.Prelude.{codes}
-use Rattle.document_grammar.specs.Kinds.{WHITESPACE, L_CURLY, R_CURLY, IDENT, DOCUMENT, OPERATION_DEFINITION, SELECTION_SET, FIELD, NAME}
+use Rattle.document_grammar.specs.Kinds.{WHITESPACE, L_CURLY, R_CURLY, IDENT, DOCUMENT, OPERATION_DEFINITION}
+use Rattle.document_grammar.specs.Kinds.{SELECTION_SET, FIELD, NAME}
 use Rattle.document_grammar.specs.Placed.{PlacedIn, Placed}
 
 abbrev space : Tree
@@ -13,7 +14,9 @@ abbrev name : Forest → Tree
 name f = node FIELD (node NAME (leaf IDENT (codes "a") ▸ f) ▸ none)
 
 abbrev query : Forest → Tree → Tree
-query f t = node DOCUMENT (node OPERATION_DEFINITION (node SELECTION_SET (leaf L_CURLY (codes "{") ▸ (f +++ (t ▸ leaf R_CURLY (codes "}") ▸ none))) ▸ none) ▸
+query f t = node DOCUMENT
+    (node OPERATION_DEFINITION
+    (node SELECTION_SET (leaf L_CURLY (codes "{") ▸ (f +++ (t ▸ leaf R_CURLY (codes "}") ▸ none))) ▸ none) ▸
     space ▸ none)
 
 no : {A : Type 0} → IsTrue false → A

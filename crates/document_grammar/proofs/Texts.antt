@@ -1,4 +1,5 @@
--- A text has at most one cut without bad text, so a sentence has one derivation. And what is said of texts, said of their tokens.
+-- A text has at most one cut without bad text, so a sentence has one derivation. And what is said of texts, said of
+-- their tokens.
 use Rattle.std.proofs.Common.{◌≡◌, ℕ, true, List, [], ◌∷◌, refl, sym, ap, ap₂, ◌∙◌, inl, inr, true≢false}
 use Rattle.std.proofs.lemmas.Bool.{and_parts}
 use Rattle.std.specs.Prelude.{is_some}
@@ -22,16 +23,26 @@ agree-same (item ∷ items) (other ∷ others) a h =
       | inr bad ↦ absurd (true≢false (sym parts.0 ∙ ap is_some bad.0.bad))
     ]
 
-pub one-cut : (source : List ℕ) (items others : List Item) → Cut source items → Cut source others → are_tokens items ≡ true → items ≡ others
-one-cut source items others c d h = agree-same items others (cuts-agree items others 0 c.each d.each (c.joined ∙ sym d.joined)) h
+pub one-cut : (source : List ℕ) (items others : List Item) → Cut source items → Cut source others
+    → are_tokens items ≡ true → items ≡ others
+one-cut source items others c d h =
+    agree-same items others (cuts-agree items others 0 c.each d.each (c.joined ∙ sym d.joined)) h
 
 pub first-sentence : (source : List ℕ) (t : Tree) (sort : Sort) → FirstSentence source t sort → Sentence source t sort
 first-sentence source t sort s =
-    record { items = s.items; cut = s.cut; tokens = s.tokens; derivation = derivation-kept sort t s.derivation; yield = s.yield }
+    record {
+      items = s.items;
+      cut = s.cut;
+      tokens = s.tokens;
+      derivation = derivation-kept sort t s.derivation;
+      yield = s.yield;
+    }
 
 -- What starts a sentence, starts the tokens that a derivation spells.
 pub sentence-starts : (sort : Sort) (front : List Terminal) → StartSentence sort front → Starts sort front
 sentence-starts sort front (r, s) = (Yield s.tree, s.tree, s.rest, (s.sentence.derivation, refl), s.beginning)
 
-pub sentence-starts-within : (sort : Sort) (r : ℕ) (front : List Terminal) → StartSentenceWithin sort r front → StartsWithin sort r front
-sentence-starts-within sort r front s = (Yield s.tree, s.tree, s.rest, (s.sentence.derivation, refl), s.beginning, s.nesting)
+pub sentence-starts-within : (sort : Sort) (r : ℕ) (front : List Terminal) → StartSentenceWithin sort r front
+    → StartsWithin sort r front
+sentence-starts-within sort r front s =
+    (Yield s.tree, s.tree, s.rest, (s.sentence.derivation, refl), s.beginning, s.nesting)

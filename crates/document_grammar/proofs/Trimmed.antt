@@ -1,5 +1,6 @@
 -- Ignored leaves are placed where no node but the root begins or ends with one: of built trees.
-use Rattle.std.proofs.Common.{◌≡◌, ◌≢◌, ℕ, Bool, true, false, not, eqb, ltb, List, [], ◌∷◌, ◌++◌, refl, sym, ap, ◌∙◌, inl, inr, true≢false}
+use Rattle.std.proofs.Common.{◌≡◌, ◌≢◌, ℕ, Bool, true, false, not, eqb, ltb, List, [], ◌∷◌, ◌++◌, refl, sym, ap, ◌∙◌}
+use Rattle.std.proofs.Common.{inl, inr, true≢false}
 use Rattle.document_grammar.specs.declared.kind.SyntaxKind.{SyntaxKind}
 use Rattle.document_grammar.specs.Numbers.{number}
 use Rattle.document_grammar.specs.Kinds.{ERROR}
@@ -36,7 +37,8 @@ trim built.none = true
 trim (built.leaf k x rest) = trim rest
 trim (built.node k kids rest) = (starts_well kids and (ends_with true kids and trim kids)) and trim rest
 
-pub starts-join : (f g : built.Forest) → starts_well f ≡ true → (f ≡ built.none → starts_well g ≡ true) → starts_well (built.join f g) ≡ true
+pub starts-join : (f g : built.Forest) → starts_well f ≡ true → (f ≡ built.none → starts_well g ≡ true)
+    → starts_well (built.join f g) ≡ true
 starts-join built.none g a b = b refl
 starts-join (built.leaf k x rest) g a b = a
 starts-join (built.node k kids rest) g a b = a
@@ -53,7 +55,8 @@ trim-join (built.node k kids rest) g a b = and-i (and-l _ _ a) (trim-join rest g
 
 -- the trees after the first one fit
 pub fits-tail : (t : Tree) (f : Forest) → AllFit (bares (t ▸ f)) → AllFit (bares f)
-fits-tail t f h = elim (either (ignored t)) [ inl e ↦ (rw e at h) | inr e ↦ (let g : AllFit (bare t ▸ bares f) = rw e at h in g.1) ]
+fits-tail t f h = elim (either (ignored t))
+    [ inl e ↦ (rw e at h) | inr e ↦ (let g : AllFit (bare t ▸ bares f) = rw e at h in g.1) ]
 
 -- No node's row is empty.
 all_some : List (ℕ × Pattern) → Bool
@@ -86,11 +89,12 @@ mutual
   spells-forest none h n = λ z. n refl
   spells-forest (t ▸ f) h n = elim (either (ignored t)) [
     | inl e ↦ λ z. spells-forest f (fits-tail t f h) (λ y. n (rw e y)) (nil-parts (Yield t) (Yields f) z).1
-    | inr e ↦ λ z. (let g : AllFit (bare t ▸ bares f) = rw e at h in spells-tree t e g.0 (nil-parts (Yield t) (Yields f) z).0)
+    | inr e ↦ λ z. (let g : AllFit (bare t ▸ bares f) = rw e at h in
+        spells-tree t e g.0 (nil-parts (Yield t) (Yields f) z).0)
   ]
 
--- What begins behind an ignored leaf and ends with none spells something. So behind something such a list has its ignored leaves in place;
--- and so has one that begins with none.
+-- What begins behind an ignored leaf and ends with none spells something. So behind something such a list has its
+-- ignored leaves in place; and so has one that begins with none.
 ends-spell : (f : built.Forest) → ends_with false f ≡ true → AllFit (bares (numbered f)) → Yields (numbered f) ≢ []
 ends-spell built.none h a = absurd (true≢false (sym h))
 ends-spell (built.leaf k x rest) h a = elim (either (is_ignored k)) [
@@ -102,22 +106,30 @@ ends-spell (built.leaf k x rest) h a = elim (either (is_ignored k)) [
 ends-spell (built.node k kids rest) h a = λ z. spells-tree (node (number k) (numbered kids)) refl a.0
     (nil-parts (Yields (numbered kids)) (Yields (numbered rest)) z).0
 
-between : (c : Bool) (b : List Token) (f : built.Forest) → b ≢ [] → ends_with c f ≡ true → AllFit (bares (numbered f)) → Between b (numbered f)
+between : (c : Bool) (b : List Token) (f : built.Forest) → b ≢ [] → ends_with c f ≡ true → AllFit (bares (numbered f))
+    → Between b (numbered f)
 between c b built.none n e a = tt
 between c b (built.leaf k x rest) n e a =
-    let r = fits-tail (leaf (number k) x) (numbered rest) a in
-    ((λ i. (n, ends-spell rest (rw i at e) r)), between (not (is_ignored k)) (b ++ Yield (leaf (number k) x)) rest (λ z. n (nil-parts b _ z).0) e r)
+    let r = fits-tail (leaf (number k) x) (numbered rest) a in (
+      (λ i. (n, ends-spell rest (rw i at e) r)),
+      between (not (is_ignored k)) (b ++ Yield (leaf (number k) x)) rest (λ z. n (nil-parts b _ z).0) e r,
+    )
 between c b (built.node k kids rest) n e a =
     ((λ i. false-true refl i), between true (b ++ Yields (numbered kids)) rest (λ z. n (nil-parts b _ z).0) e a.1)
 
-from-start : (f : built.Forest) → starts_well f ≡ true → ends_with true f ≡ true → AllFit (bares (numbered f)) → Between [] (numbered f)
+from-start : (f : built.Forest) → starts_well f ≡ true → ends_with true f ≡ true → AllFit (bares (numbered f))
+    → Between [] (numbered f)
 from-start built.none s e a = tt
 from-start (built.leaf k x rest) s e a =
     let p = not-c _ s in
-    let g : AllFit (leaf (number k) x ▸ bares (numbered rest)) = rw p at a in
-    ((λ i. false-true p i), between (not (is_ignored k)) (Yield (leaf (number k) x)) rest (spells-tree (leaf (number k) x) p g.0) e g.1)
-from-start (built.node k kids rest) s e a =
-    ((λ i. false-true refl i), between true (Yields (numbered kids)) rest (spells-tree (node (number k) (numbered kids)) refl a.0) e a.1)
+    let g : AllFit (leaf (number k) x ▸ bares (numbered rest)) = rw p at a in (
+      (λ i. false-true p i),
+      between (not (is_ignored k)) (Yield (leaf (number k) x)) rest (spells-tree (leaf (number k) x) p g.0) e g.1,
+    )
+from-start (built.node k kids rest) s e a = (
+  (λ i. false-true refl i),
+  between true (Yields (numbered kids)) rest (spells-tree (node (number k) (numbered kids)) refl a.0) e a.1,
+)
 
 trims : (f : built.Forest) → trim f ≡ true → AllFit (bares (numbered f)) → AllPlaced (numbered f)
 trims built.none h a = tt
@@ -127,9 +139,11 @@ trims (built.node k kids rest) h a =
     let e = and-r _ _ g in
     ((from-start kids (and-l _ _ g) (and-l _ _ e) a.0.4, trims kids (and-r _ _ e) a.0.4), trims rest (and-r _ _ h) a.1)
 
-pub root-placed : (b : Building) (o : Open) → o.before ≡ built.none → b.above ≡ o ∷ [] → trim b.here ≡ true → Fits (bare (tree_of (finish b).here))
+pub root-placed : (b : Building) (o : Open) → o.before ≡ built.none → b.above ≡ o ∷ [] → trim b.here ≡ true
+    → Fits (bare (tree_of (finish b).here))
     → Placed (tree_of (finish b).here)
 root-placed b o n a h =
-    let e : (finish b).here ≡ built.node o.kind b.here built.none = ap (λ (above : List Open). (close b.here above).here) a
+    let e : (finish b).here ≡ built.node o.kind b.here built.none =
+    ap (λ (above : List Open). (close b.here above).here) a
     ∙ ap (λ (f : built.Forest). built.join f (built.node o.kind b.here built.none)) n in
     rw e (λ g. trims b.here h g.4)

@@ -1,4 +1,5 @@
--- Over tokens alone, without a text: derivations by the rows of the first profile, and the beginnings of the tokens that derivations spell.
+-- Over tokens alone, without a text: derivations by the rows of the first profile, and the beginnings of the tokens
+-- that derivations spell.
 use Rattle.std.specs.Prelude.{◌≡◌, ℕ, ◌≤◌, List, ◌++◌}
 use Rattle.document_grammar.specs.Tree.{Token, Tree}
 use Rattle.document_grammar.specs.Rows.{FirstRow}

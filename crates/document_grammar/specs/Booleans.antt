@@ -1,4 +1,5 @@
--- `&&` and `||` that stay as written until a proof unfolds them. Tests that proofs compute use them; no definition of the grammar does.
+-- `&&` and `||` that stay as written until a proof unfolds them. Tests that proofs compute use them; no definition of
+-- the grammar does.
 use Rattle.std.specs.Prelude.{Bool, true, false}
 
 infixl 35 ◌and◌

@@ -1,15 +1,20 @@
--- Choices of kinds: which leaves are ignored and which are keywords, and what may be in one place (GraphQL October 2021, sections 2 and 3).
+-- Choices of kinds: which leaves are ignored and which are keywords, and what may be in one place (GraphQL October
+-- 2021, sections 2 and 3).
 use Rattle.std.specs.Prelude.{ℕ, Bool, cond, eqb, ltb, List, [], ◌∷◌, Option, None, Some}
 use Rattle.document_grammar.specs.Tree.{Text}
-use Rattle.document_grammar.specs.Kinds.{ERROR, STRING, QUERY_KW, MUTATION_KW, SUBSCRIPTION_KW, FIELD_KW, FRAGMENT_DEFINITION_KW, FRAGMENT_SPREAD_KW}
-use Rattle.document_grammar.specs.Kinds.{INLINE_FRAGMENT_KW, VARIABLE_DEFINITION_KW, SCHEMA_KW, SCALAR_KW, OBJECT_KW, FIELD_DEFINITION_KW}
-use Rattle.document_grammar.specs.Kinds.{ARGUMENT_DEFINITION_KW, INTERFACE_KW, UNION_KW, ENUM_KW, ENUM_VALUE_KW, INPUT_OBJECT_KW, INPUT_FIELD_DEFINITION_KW}
-use Rattle.document_grammar.specs.Kinds.{OPERATION_DEFINITION, FIELD, FRAGMENT_SPREAD, INLINE_FRAGMENT, FRAGMENT_DEFINITION, VARIABLE, INT_VALUE, FLOAT_VALUE}
-use Rattle.document_grammar.specs.Kinds.{STRING_VALUE, BOOLEAN_VALUE, NULL_VALUE, ENUM_VALUE, LIST_VALUE, OBJECT_VALUE, NAMED_TYPE, LIST_TYPE, NON_NULL_TYPE}
-use Rattle.document_grammar.specs.Kinds.{SCHEMA_DEFINITION, SCALAR_TYPE_DEFINITION, OBJECT_TYPE_DEFINITION, INTERFACE_TYPE_DEFINITION, UNION_TYPE_DEFINITION}
-use Rattle.document_grammar.specs.Kinds.{ENUM_TYPE_DEFINITION, INPUT_OBJECT_TYPE_DEFINITION, DIRECTIVE_DEFINITION, SCHEMA_EXTENSION, SCALAR_TYPE_EXTENSION}
-use Rattle.document_grammar.specs.Kinds.{OBJECT_TYPE_EXTENSION, INTERFACE_TYPE_EXTENSION, UNION_TYPE_EXTENSION, ENUM_TYPE_EXTENSION}
-use Rattle.document_grammar.specs.Kinds.{INPUT_OBJECT_TYPE_EXTENSION, words}
+use Rattle.document_grammar.specs.Kinds.{ERROR, STRING, QUERY_KW, MUTATION_KW, SUBSCRIPTION_KW, FIELD_KW}
+use Rattle.document_grammar.specs.Kinds.{FRAGMENT_DEFINITION_KW, FRAGMENT_SPREAD_KW, INLINE_FRAGMENT_KW}
+use Rattle.document_grammar.specs.Kinds.{VARIABLE_DEFINITION_KW, SCHEMA_KW, SCALAR_KW, OBJECT_KW, FIELD_DEFINITION_KW}
+use Rattle.document_grammar.specs.Kinds.{ARGUMENT_DEFINITION_KW, INTERFACE_KW, UNION_KW, ENUM_KW, ENUM_VALUE_KW}
+use Rattle.document_grammar.specs.Kinds.{INPUT_OBJECT_KW, INPUT_FIELD_DEFINITION_KW, OPERATION_DEFINITION, FIELD}
+use Rattle.document_grammar.specs.Kinds.{FRAGMENT_SPREAD, INLINE_FRAGMENT, FRAGMENT_DEFINITION, VARIABLE, INT_VALUE}
+use Rattle.document_grammar.specs.Kinds.{FLOAT_VALUE, STRING_VALUE, BOOLEAN_VALUE, NULL_VALUE, ENUM_VALUE, LIST_VALUE}
+use Rattle.document_grammar.specs.Kinds.{OBJECT_VALUE, NAMED_TYPE, LIST_TYPE, NON_NULL_TYPE, SCHEMA_DEFINITION}
+use Rattle.document_grammar.specs.Kinds.{SCALAR_TYPE_DEFINITION, OBJECT_TYPE_DEFINITION, INTERFACE_TYPE_DEFINITION}
+use Rattle.document_grammar.specs.Kinds.{UNION_TYPE_DEFINITION, ENUM_TYPE_DEFINITION, INPUT_OBJECT_TYPE_DEFINITION}
+use Rattle.document_grammar.specs.Kinds.{DIRECTIVE_DEFINITION, SCHEMA_EXTENSION, SCALAR_TYPE_EXTENSION}
+use Rattle.document_grammar.specs.Kinds.{OBJECT_TYPE_EXTENSION, INTERFACE_TYPE_EXTENSION, UNION_TYPE_EXTENSION}
+use Rattle.document_grammar.specs.Kinds.{ENUM_TYPE_EXTENSION, INPUT_OBJECT_TYPE_EXTENSION, words}
 
 -- The leaves of ignored tokens: WHITESPACE, COMMENT and COMMA.
 abbrev pub is_ignored : ℕ → Bool
@@ -47,7 +52,8 @@ Selections = FIELD ∷ FRAGMENT_SPREAD ∷ INLINE_FRAGMENT ∷ []
 
 -- The values (section 2.9).
 abbrev pub Values : List ℕ
-Values = VARIABLE ∷ INT_VALUE ∷ FLOAT_VALUE ∷ STRING_VALUE ∷ BOOLEAN_VALUE ∷ NULL_VALUE ∷ ENUM_VALUE ∷ LIST_VALUE ∷ OBJECT_VALUE ∷ []
+Values = VARIABLE ∷ INT_VALUE ∷ FLOAT_VALUE ∷ STRING_VALUE ∷ BOOLEAN_VALUE ∷ NULL_VALUE ∷ ENUM_VALUE
+    ∷ LIST_VALUE ∷ OBJECT_VALUE ∷ []
 
 -- The types (section 2.11).
 abbrev pub Types : List ℕ

@@ -1,15 +1,19 @@
--- Derivations: trees whose nodes fit their rows and that keep four rules, on leaves, names, constants and braces (GraphQL October 2021,
--- section 2.2, "Document", and the sections that `Rows` names). Then the nesting of a tree.
+-- Derivations: trees whose nodes fit their rows and that keep four rules, on leaves, names, constants and braces
+-- (GraphQL October 2021, section 2.2, "Document", and the sections that `Rows` names). Then the nesting of a tree.
 use Rattle.std.specs.Prelude.{◌≡◌, ◌≢◌, ℕ, ◌+◌, ◌<◌, max, cond, List, [], ◌∷◌, ◌++◌, ◌⊎◌, IsTrue, IsFalse, codes}
 use Rattle.document_grammar.specs.Tree.{Text, Token, Tree, leaf, node, Forest, none, ◌▸◌, root}
 use Rattle.document_grammar.specs.Pattern.{Pattern, Matches, member}
 use Rattle.document_grammar.specs.Rows.{Row, bare_selections}
-use Rattle.document_grammar.specs.Kinds.{L_CURLY, IDENT, STRING, DOCUMENT, OPERATION_DEFINITION, SELECTION_SET, FRAGMENT_NAME, DIRECTIVES, VARIABLE_DEFINITION}
-use Rattle.document_grammar.specs.Kinds.{VARIABLE, DEFAULT_VALUE, ENUM_VALUE, LIST_VALUE, OBJECT_FIELD, LIST_TYPE, SCHEMA_DEFINITION, SCALAR_TYPE_DEFINITION}
-use Rattle.document_grammar.specs.Kinds.{OBJECT_TYPE_DEFINITION, FIELDS_DEFINITION, FIELD_DEFINITION, INPUT_VALUE_DEFINITION, INTERFACE_TYPE_DEFINITION}
-use Rattle.document_grammar.specs.Kinds.{UNION_TYPE_DEFINITION, ENUM_TYPE_DEFINITION, ENUM_VALUES_DEFINITION, ENUM_VALUE_DEFINITION}
-use Rattle.document_grammar.specs.Kinds.{INPUT_OBJECT_TYPE_DEFINITION, INPUT_FIELDS_DEFINITION, SCHEMA_EXTENSION, SCALAR_TYPE_EXTENSION, OBJECT_TYPE_EXTENSION}
-use Rattle.document_grammar.specs.Kinds.{INTERFACE_TYPE_EXTENSION, UNION_TYPE_EXTENSION, ENUM_TYPE_EXTENSION, INPUT_OBJECT_TYPE_EXTENSION, words}
+use Rattle.document_grammar.specs.Kinds.{L_CURLY, IDENT, STRING, DOCUMENT, OPERATION_DEFINITION, SELECTION_SET}
+use Rattle.document_grammar.specs.Kinds.{FRAGMENT_NAME, DIRECTIVES, VARIABLE_DEFINITION, VARIABLE, DEFAULT_VALUE}
+use Rattle.document_grammar.specs.Kinds.{ENUM_VALUE, LIST_VALUE, OBJECT_FIELD, LIST_TYPE, SCHEMA_DEFINITION}
+use Rattle.document_grammar.specs.Kinds.{SCALAR_TYPE_DEFINITION, OBJECT_TYPE_DEFINITION, FIELDS_DEFINITION}
+use Rattle.document_grammar.specs.Kinds.{FIELD_DEFINITION, INPUT_VALUE_DEFINITION, INTERFACE_TYPE_DEFINITION}
+use Rattle.document_grammar.specs.Kinds.{UNION_TYPE_DEFINITION, ENUM_TYPE_DEFINITION, ENUM_VALUES_DEFINITION}
+use Rattle.document_grammar.specs.Kinds.{ENUM_VALUE_DEFINITION, INPUT_OBJECT_TYPE_DEFINITION, INPUT_FIELDS_DEFINITION}
+use Rattle.document_grammar.specs.Kinds.{SCHEMA_EXTENSION, SCALAR_TYPE_EXTENSION, OBJECT_TYPE_EXTENSION}
+use Rattle.document_grammar.specs.Kinds.{INTERFACE_TYPE_EXTENSION, UNION_TYPE_EXTENSION, ENUM_TYPE_EXTENSION}
+use Rattle.document_grammar.specs.Kinds.{INPUT_OBJECT_TYPE_EXTENSION, words}
 use Rattle.document_grammar.specs.Choices.{Types, Values, is_ignored, is_keyword}
 
 -- The kinds of the trees of a list.
@@ -46,9 +50,9 @@ abbrev pub Listed : List (ℕ × Text) → ℕ → Text → Type 0
 Listed [] k x = ⊥
 Listed (w ∷ more) k x = ((w.0 ≡ k) × (w.1 ≡ x)) ⊎ Listed more k x
 
--- Leaf rule: the leaf of a keyword has its word as text. The kinds after STRING are those of keywords, and then those of nodes, which
--- have no word, so no leaf has one. `Sentence`, in which the leaves are a text's tokens, asks that the other leaves have texts of their
--- token kinds.
+-- Leaf rule: the leaf of a keyword has its word as text. The kinds after STRING are those of keywords, and then those
+-- of nodes, which have no word, so no leaf has one. `Sentence`, in which the leaves are a text's tokens, asks that the
+-- other leaves have texts of their token kinds.
 abbrev pub LeafRule : ℕ → Text → Type 0
 LeafRule k x = STRING < k → Listed words k x
 
@@ -64,7 +68,8 @@ false_text = codes "false"
 abbrev pub null_text : Text
 null_text = codes "null"
 
--- Name rule: the name of a fragment is not `on` (section 2.8), and an enum value is not `true`, `false` or `null` (section 2.9.6).
+-- Name rule: the name of a fragment is not `on` (section 2.8), and an enum value is not `true`, `false` or `null`
+-- (section 2.9.6).
 abbrev pub NameRule : ℕ → Forest → Type 0
 NameRule k f =
     (k ≡ FRAGMENT_NAME → texts f ≢ on_text)
@@ -107,9 +112,11 @@ abbrev pub ConstantDirectives : Forest → Type 0
 ConstantDirectives none = Unit {0}
 ConstantDirectives (t ▸ f) = (root t ≡ DIRECTIVES → NoVariable t) × ConstantDirectives f
 
--- Constant rule: no VARIABLE is below a DEFAULT_VALUE or below constant DIRECTIVES (`Const` in the standard's grammar, section 2.9).
+-- Constant rule: no VARIABLE is below a DEFAULT_VALUE or below constant DIRECTIVES (`Const` in the standard's grammar,
+-- section 2.9).
 abbrev pub ConstantRule : ℕ → Forest → Type 0
-ConstantRule k f = (k ≡ DEFAULT_VALUE → NoVariables f) × (IsTrue (member k HasConstantDirectives) → ConstantDirectives f)
+ConstantRule k f = (k ≡ DEFAULT_VALUE → NoVariables f)
+    × (IsTrue (member k HasConstantDirectives) → ConstantDirectives f)
 
 -- The kinds of definitions that may have a block in braces, but the definition of a schema, which always has it.
 abbrev pub Braced : List ℕ
@@ -152,8 +159,8 @@ abbrev pub NotBefore : Tree → Forest → Type 0
 NotBefore t none = Unit {0}
 NotBefore t (u ▸ f) = LacksBlock t → IsQuery u → ⊥
 
--- Brace rule: a definition that lacks its block is not directly followed by an operation that is a selection set alone (the standard's
--- lookahead restriction `[lookahead ≠ {]` in section 3).
+-- Brace rule: a definition that lacks its block is not directly followed by an operation that is a selection set alone
+-- (the standard's lookahead restriction `[lookahead ≠ {]` in section 3).
 abbrev pub BraceRule : Forest → Type 0
 BraceRule none = Unit {0}
 BraceRule (t ▸ f) = NotBefore t f × BraceRule f
@@ -199,13 +206,15 @@ Derivation t sort = DerivationBy Row t sort
 abbrev pub Spells : List Token → Tree → Sort → Type 0
 Spells w t sort = Derivation t sort × (Yield t ≡ w)
 
--- Whether a node of the kind `k` is counted below a parent of the kind `p`: each SELECTION_SET, each LIST_TYPE, and each value that
--- is a child of a LIST_VALUE or an OBJECT_FIELD.
+-- Whether a node of the kind `k` is counted below a parent of the kind `p`: each SELECTION_SET, each LIST_TYPE, and
+-- each value that is a child of a LIST_VALUE or an OBJECT_FIELD.
 abbrev pub counts : ℕ → ℕ → ℕ
 counts p k =
-    cond (member k (SELECTION_SET ∷ LIST_TYPE ∷ [])) 1 (cond (member p (LIST_VALUE ∷ OBJECT_FIELD ∷ [])) (cond (member k Values) 1 0) 0)
+    cond (member k (SELECTION_SET ∷ LIST_TYPE ∷ [])) 1
+    (cond (member p (LIST_VALUE ∷ OBJECT_FIELD ∷ [])) (cond (member k Values) 1 0) 0)
 
--- The greatest number of counted nodes on a path: below the root; with the root, which counts as a child of a DOCUMENT does.
+-- The greatest number of counted nodes on a path: below the root; with the root, which counts as a child of a DOCUMENT
+-- does.
 abbrev mutual
   pub below : Tree → ℕ
   below (leaf k x) = 0

@@ -1,5 +1,7 @@
--- What the offset of the first error says of the text. The standard says nothing of errors, so these are this project's own promises.
-use Rattle.std.specs.Prelude.{◌≡◌, ◌≢◌, ℕ, ◌+◌, ◌<◌, ◌≤◌, List, [], ◌∷◌, ◌++◌, length, take, if◌then◌else◌, Option, Some, None}
+-- What the offset of the first error says of the text. The standard says nothing of errors, so these are this project's
+-- own promises.
+use Rattle.std.specs.Prelude.{◌≡◌, ◌≢◌, ℕ, ◌+◌, ◌<◌, ◌≤◌, List, [], ◌∷◌, ◌++◌, length, take, if◌then◌else◌, Option}
+use Rattle.std.specs.Prelude.{Some, None}
 use Rattle.std.specs.List.{flat_map}
 use Rattle.lexical_grammar.specs.declared.TokenKind.{TokenKind}
 use Rattle.lexical_grammar.specs.declared.TokenKind.TheVariants.{Eof}
@@ -45,17 +47,18 @@ AreAmong k items front = (rest : List Terminal) × (shown (take k items) ≡ fro
 abbrev pub NotLate : Sort → List ℕ → ℕ → Type 0
 NotLate sort source offset = Begins sort (take offset source)
 
--- No early fault: where a token or the end is at the offset, no sentence starts with the tokens before it, that one and the next, as long
--- as all of these are among the first k items.
+-- No early fault: where a token or the end is at the offset, no sentence starts with the tokens before it, that one and
+-- the next, as long as all of these are among the first k items.
 abbrev pub NotEarly : Sort → ℕ → List Item → ℕ → Type 0
-NotEarly sort k items offset = (a : At items offset) × (a.item.kind ≢ None → AreAmong k items (up_to 2 a) → StartSentence sort (up_to 2 a) → ⊥)
+NotEarly sort k items offset =
+    (a : At items offset) × (a.item.kind ≢ None → AreAmong k items (up_to 2 a) → StartSentence sort (up_to 2 a) → ⊥)
 
 -- No early limit: no sentence that nests at most r deep starts with the tokens before the offset and the one there.
 abbrev pub NotEarlyLimit : Sort → ℕ → List Item → ℕ → Type 0
 NotEarlyLimit sort r items offset = (a : At items offset) × (StartSentenceWithin sort r (up_to 1 a) → ⊥)
 
--- Of a tree that begins at the offset n: each node whose text ends at the offset m or before fits its row and the rules, its ignored leaves left
--- out.
+-- Of a tree that begins at the offset n: each node whose text ends at the offset m or before fits its row and the
+-- rules, its ignored leaves left out.
 abbrev mutual
   pub EndedFit : ℕ → ℕ → Tree → Type 0
   EndedFit m n (leaf k x) = Unit {0}

@@ -46,7 +46,8 @@ abbrev pub IsLeafOfToken : TokenKind → Option SyntaxKind → Leaf → Type 0
 IsLeafOfToken k (Some own) l = l.kind ≡ own
 IsLeafOfToken k None l = (l.kind ≡ kind.ERROR) ⊎ Belongs k l
 
--- the kind of leaf that an item becomes: an ignored token its own, bad text ERROR, any other token one that belongs to it, or ERROR
+-- the kind of leaf that an item becomes: an ignored token its own, bad text ERROR, any other token one that belongs to
+-- it, or ERROR
 abbrev pub IsLeafOf : Option TokenKind → Leaf → Type 0
 IsLeafOf None l = l.kind ≡ kind.ERROR
 IsLeafOf (Some k) l = IsLeafOfToken k (ignored k) l
@@ -54,8 +55,11 @@ IsLeafOf (Some k) l = IsLeafOfToken k (ignored k) l
 -- One for one and in order: each item is a leaf with its text. The limit has no leaf, and the end may be left out.
 pub data OneLeafAnItem : List Answer → List Leaf → Type 0 where
   nothing : OneLeafAnItem [] []
-  one : {item : Item} {answers : List Answer} {l : Leaf} {ls : List Leaf} → l.text ≡ item.text → IsLeafOf item.kind l → OneLeafAnItem answers ls
+  one : {item : Item} {answers : List Answer} {l : Leaf} {ls : List Leaf} → l.text ≡ item.text → IsLeafOf item.kind l
+      → OneLeafAnItem answers ls
       → OneLeafAnItem (gives item ∷ answers) (l ∷ ls)
-  the_end : {item : Item} {answers : List Answer} {ls : List Leaf} → item.kind ≡ Some token.Eof → OneLeafAnItem answers ls
+  the_end : {item : Item} {answers : List Answer} {ls : List Leaf} → item.kind ≡ Some token.Eof
+      → OneLeafAnItem answers ls
       → OneLeafAnItem (gives item ∷ answers) ls
-  the_limit : {index : ℕ} {answers : List Answer} {ls : List Leaf} → OneLeafAnItem answers ls → OneLeafAnItem (limit_at index ∷ answers) ls
+  the_limit : {index : ℕ} {answers : List Answer} {ls : List Leaf} → OneLeafAnItem answers ls
+      → OneLeafAnItem (limit_at index ∷ answers) ls

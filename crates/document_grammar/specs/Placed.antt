@@ -1,5 +1,5 @@
--- Trees with the leaves of ignored tokens (GraphQL October 2021, section 2.1.7, "Ignored Tokens"): without them, and where they hang, which
--- is this project's own rule.
+-- Trees with the leaves of ignored tokens (GraphQL October 2021, section 2.1.7, "Ignored Tokens"): without them, and
+-- where they hang, which is this project's own rule.
 use Rattle.std.specs.Prelude.{◌≢◌, Bool, false, cond, List, [], ◌++◌, IsTrue}
 use Rattle.document_grammar.specs.Tree.{Token, Tree, leaf, node, Forest, none, ◌▸◌}
 use Rattle.document_grammar.specs.Choices.{is_ignored}
@@ -34,9 +34,9 @@ abbrev mutual
   AllPlaced none = Unit {0}
   AllPlaced (t ▸ f) = PlacedIn t × AllPlaced f
 
--- Each ignored leaf is a child of the smallest node that has significant leaves before and after it, or of the root: a node other
--- than the root holds an ignored leaf only between significant ones. An ignored child of the root may be anywhere: if no smaller node has
--- leaves on both sides, the root is the one, or there is none.
+-- Each ignored leaf is a child of the smallest node that has significant leaves before and after it, or of the root: a
+-- node other than the root holds an ignored leaf only between significant ones. An ignored child of the root may be
+-- anywhere: if no smaller node has leaves on both sides, the root is the one, or there is none.
 abbrev pub Placed : Tree → Type 0
 Placed (leaf k x) = Unit {0}
 Placed (node k f) = AllPlaced f

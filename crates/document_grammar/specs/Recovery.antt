@@ -1,6 +1,7 @@
--- What holds of a tree with errors: which children a node may have, and where left over tokens are. The standard says nothing of such
--- trees, so these are this project's own promises.
-use Rattle.std.specs.Prelude.{◌≡◌, ◌≢◌, ℕ, ◌+◌, ◌≤◌, Bool, true, false, ◌&&◌, ◌⊎◌, cond, eqb, List, [], ◌∷◌, ◌++◌, length, Option, Some, None, IsTrue, IsFalse}
+-- What holds of a tree with errors: which children a node may have, and where left over tokens are. The standard says
+-- nothing of such trees, so these are this project's own promises.
+use Rattle.std.specs.Prelude.{◌≡◌, ◌≢◌, ℕ, ◌+◌, ◌≤◌, Bool, true, false, ◌&&◌, ◌⊎◌, cond, eqb, List, [], ◌∷◌, ◌++◌}
+use Rattle.std.specs.Prelude.{length, Option, Some, None, IsTrue, IsFalse}
 use Rattle.std.specs.List.{list_any, All}
 use Rattle.lexical_grammar.specs.declared.TokenKind.{TokenKind}
 use Rattle.lexical_grammar.specs.declared.TokenKind.TheVariants.{RBracket}
@@ -56,7 +57,8 @@ abbrev pub is_right_bracket : TokenKind → Bool
 is_right_bracket RBracket = true
 is_right_bracket _ = false
 
--- An ERROR leaf at the offset is a token that was left over where a significant token begins there; else it is bad text or the end.
+-- An ERROR leaf at the offset is a token that was left over where a significant token begins there; else it is bad text
+-- or the end.
 abbrev pub left_over : List Item → ℕ → ℕ → Bool
 left_over items offset k = eqb k ERROR && token_at is_significant_kind items offset
 
@@ -68,25 +70,30 @@ children_of (node k f) = f
 -- How many of the trees that begin at the offset are such tokens.
 abbrev pub count_left_over : List Item → ℕ → Forest → ℕ
 count_left_over items offset none = 0
-count_left_over items offset (leaf k x ▸ f) = cond (left_over items offset k) 1 0 + count_left_over items (offset + length x) f
+count_left_over items offset (leaf k x ▸ f) =
+    cond (left_over items offset k) 1 0 + count_left_over items (offset + length x) f
 count_left_over items offset (node k g ▸ f) = count_left_over items (offset + length (texts g)) f
 
 -- None of them is `]`.
 abbrev pub NoBracket : List Item → ℕ → Forest → Type 0
 NoBracket items offset none = Unit {0}
-NoBracket items offset (leaf k x ▸ f) = (IsTrue (left_over items offset k) → IsFalse (token_at is_right_bracket items offset))
+NoBracket items offset (leaf k x ▸ f) =
+    (IsTrue (left_over items offset k) → IsFalse (token_at is_right_bracket items offset))
     × NoBracket items (offset + length x) f
 NoBracket items offset (node k g ▸ f) = NoBracket items (offset + length (texts g)) f
 
 -- The children of a node but the root: in a LIST_VALUE all but `]` may be left over, in another node one.
 abbrev pub Spares : List Item → ℕ → ℕ → Forest → Type 0
-Spares items offset k f = (k ≡ LIST_VALUE → NoBracket items offset f) × (k ≢ LIST_VALUE → count_left_over items offset f ≤ 1)
+Spares items offset k f =
+    (k ≡ LIST_VALUE → NoBracket items offset f) × (k ≢ LIST_VALUE → count_left_over items offset f ≤ 1)
 
 -- Each token that was left over has an error with its offset and its text; and the nodes below spare the others.
 abbrev pub LeftOver : (ℕ → Text → Type 0) → List Item → ℕ → Forest → Type 0
 LeftOver Told items offset none = Unit {0}
-LeftOver Told items offset (leaf k x ▸ f) = (IsTrue (left_over items offset k) → Told offset x) × LeftOver Told items (offset + length x) f
-LeftOver Told items offset (node k g ▸ f) = Spares items offset k g × LeftOver Told items offset g × LeftOver Told items (offset + length (texts g)) f
+LeftOver Told items offset (leaf k x ▸ f) =
+    (IsTrue (left_over items offset k) → Told offset x) × LeftOver Told items (offset + length x) f
+LeftOver Told items offset (node k g ▸ f) =
+    Spares items offset k g × LeftOver Told items offset g × LeftOver Told items (offset + length (texts g)) f
 
 -- ---- going on
 
@@ -94,8 +101,8 @@ LeftOver Told items offset (node k g ▸ f) = Spares items offset k g × LeftOve
 abbrev pub NoneBeyond : List Item → List ℕ → Type 0
 NoneBeyond items offsets = (m : ℕ) (b : At items m) → Significant (b.item ∷ []) ≢ [] → All (λ n. n ≤ m) offsets
 
--- Where the items after some of the root's children are a document of its own, which nests at most r deep, the later children are its
--- derivation's, and no error is beyond its first token.
+-- Where the items after some of the root's children are a document of its own, which nests at most r deep, the later
+-- children are its derivation's, and no error is beyond its first token.
 abbrev pub GoesOn : ℕ → List Item → List ℕ → built.Forest → Type 0
 GoesOn r items offsets kids =
     (front later : built.Forest) (a : At items (length (built.text front))) (u : Tree) → kids ≡ built.join front later

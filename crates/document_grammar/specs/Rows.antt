@@ -1,27 +1,36 @@
--- The children of each kind of node, in order (GraphQL October 2021, sections 2 and 3); ignored leaves are not among them. This is the
--- second profile, which is this project's own: descriptions may come before operations with a keyword, fragment definitions and
--- variable definitions. The kinds whose DIRECTIVES are constant, and the rules on names, words and braces, are in `Derivation`.
+-- The children of each kind of node, in order (GraphQL October 2021, sections 2 and 3); ignored leaves are not among
+-- them. This is the second profile, which is this project's own: descriptions may come before operations with a
+-- keyword, fragment definitions and variable definitions. The kinds whose DIRECTIVES are constant, and the rules on
+-- names, words and braces, are in `Derivation`.
 use Rattle.std.specs.Prelude.{ℕ, List, [], ◌∷◌, cond, eqb}
 use Rattle.document_grammar.specs.Pattern.{Pattern, any_of, ◌then◌, ◌or_else◌, many, one, optional, some}
-use Rattle.document_grammar.specs.Kinds.{BANG, DOLLAR, AMP, SPREAD, COLON, EQ, AT, L_PAREN, R_PAREN, L_BRACK, R_BRACK, L_CURLY, R_CURLY, PIPE, IDENT, INT}
-use Rattle.document_grammar.specs.Kinds.{FLOAT, STRING, query_KW, mutation_KW, subscription_KW, fragment_KW, on_KW, true_KW, false_KW, null_KW, extend_KW}
-use Rattle.document_grammar.specs.Kinds.{schema_KW, scalar_KW, type_KW, interface_KW, union_KW, enum_KW, input_KW, directive_KW, implements_KW, repeatable_KW}
-use Rattle.document_grammar.specs.Kinds.{DOCUMENT, OPERATION_DEFINITION, OPERATION_TYPE, SELECTION_SET, FIELD, ALIAS, NAME, FRAGMENT_SPREAD, INLINE_FRAGMENT}
-use Rattle.document_grammar.specs.Kinds.{FRAGMENT_DEFINITION, FRAGMENT_NAME, TYPE_CONDITION, ARGUMENTS, ARGUMENT, DIRECTIVES, DIRECTIVE, VARIABLE_DEFINITIONS}
-use Rattle.document_grammar.specs.Kinds.{VARIABLE_DEFINITION, VARIABLE, DEFAULT_VALUE, INT_VALUE, FLOAT_VALUE, STRING_VALUE, BOOLEAN_VALUE, NULL_VALUE}
-use Rattle.document_grammar.specs.Kinds.{ENUM_VALUE, LIST_VALUE, OBJECT_VALUE, OBJECT_FIELD, NAMED_TYPE, LIST_TYPE, NON_NULL_TYPE, DESCRIPTION}
-use Rattle.document_grammar.specs.Kinds.{SCHEMA_DEFINITION, ROOT_OPERATION_TYPE_DEFINITION, SCALAR_TYPE_DEFINITION, OBJECT_TYPE_DEFINITION}
-use Rattle.document_grammar.specs.Kinds.{IMPLEMENTS_INTERFACES, FIELDS_DEFINITION, FIELD_DEFINITION, ARGUMENTS_DEFINITION, INPUT_VALUE_DEFINITION}
-use Rattle.document_grammar.specs.Kinds.{INTERFACE_TYPE_DEFINITION, UNION_TYPE_DEFINITION, UNION_MEMBER_TYPES, ENUM_TYPE_DEFINITION, ENUM_VALUES_DEFINITION}
-use Rattle.document_grammar.specs.Kinds.{ENUM_VALUE_DEFINITION, INPUT_OBJECT_TYPE_DEFINITION, INPUT_FIELDS_DEFINITION, DIRECTIVE_DEFINITION}
-use Rattle.document_grammar.specs.Kinds.{DIRECTIVE_LOCATIONS, DIRECTIVE_LOCATION, SCHEMA_EXTENSION, SCALAR_TYPE_EXTENSION, OBJECT_TYPE_EXTENSION}
-use Rattle.document_grammar.specs.Kinds.{INTERFACE_TYPE_EXTENSION, UNION_TYPE_EXTENSION, ENUM_TYPE_EXTENSION, INPUT_OBJECT_TYPE_EXTENSION}
+use Rattle.document_grammar.specs.Kinds.{BANG, DOLLAR, AMP, SPREAD, COLON, EQ, AT, L_PAREN, R_PAREN, L_BRACK, R_BRACK}
+use Rattle.document_grammar.specs.Kinds.{L_CURLY, R_CURLY, PIPE, IDENT, INT, FLOAT, STRING, query_KW, mutation_KW}
+use Rattle.document_grammar.specs.Kinds.{subscription_KW, fragment_KW, on_KW, true_KW, false_KW, null_KW, extend_KW}
+use Rattle.document_grammar.specs.Kinds.{schema_KW, scalar_KW, type_KW, interface_KW, union_KW, enum_KW, input_KW}
+use Rattle.document_grammar.specs.Kinds.{directive_KW, implements_KW, repeatable_KW, DOCUMENT, OPERATION_DEFINITION}
+use Rattle.document_grammar.specs.Kinds.{OPERATION_TYPE, SELECTION_SET, FIELD, ALIAS, NAME, FRAGMENT_SPREAD}
+use Rattle.document_grammar.specs.Kinds.{INLINE_FRAGMENT, FRAGMENT_DEFINITION, FRAGMENT_NAME, TYPE_CONDITION}
+use Rattle.document_grammar.specs.Kinds.{ARGUMENTS, ARGUMENT, DIRECTIVES, DIRECTIVE, VARIABLE_DEFINITIONS}
+use Rattle.document_grammar.specs.Kinds.{VARIABLE_DEFINITION, VARIABLE, DEFAULT_VALUE, INT_VALUE, FLOAT_VALUE}
+use Rattle.document_grammar.specs.Kinds.{STRING_VALUE, BOOLEAN_VALUE, NULL_VALUE, ENUM_VALUE, LIST_VALUE, OBJECT_VALUE}
+use Rattle.document_grammar.specs.Kinds.{OBJECT_FIELD, NAMED_TYPE, LIST_TYPE, NON_NULL_TYPE, DESCRIPTION}
+use Rattle.document_grammar.specs.Kinds.{SCHEMA_DEFINITION, ROOT_OPERATION_TYPE_DEFINITION, SCALAR_TYPE_DEFINITION}
+use Rattle.document_grammar.specs.Kinds.{OBJECT_TYPE_DEFINITION, IMPLEMENTS_INTERFACES, FIELDS_DEFINITION}
+use Rattle.document_grammar.specs.Kinds.{FIELD_DEFINITION, ARGUMENTS_DEFINITION, INPUT_VALUE_DEFINITION}
+use Rattle.document_grammar.specs.Kinds.{INTERFACE_TYPE_DEFINITION, UNION_TYPE_DEFINITION, UNION_MEMBER_TYPES}
+use Rattle.document_grammar.specs.Kinds.{ENUM_TYPE_DEFINITION, ENUM_VALUES_DEFINITION, ENUM_VALUE_DEFINITION}
+use Rattle.document_grammar.specs.Kinds.{INPUT_OBJECT_TYPE_DEFINITION, INPUT_FIELDS_DEFINITION, DIRECTIVE_DEFINITION}
+use Rattle.document_grammar.specs.Kinds.{DIRECTIVE_LOCATIONS, DIRECTIVE_LOCATION, SCHEMA_EXTENSION}
+use Rattle.document_grammar.specs.Kinds.{SCALAR_TYPE_EXTENSION, OBJECT_TYPE_EXTENSION, INTERFACE_TYPE_EXTENSION}
+use Rattle.document_grammar.specs.Kinds.{UNION_TYPE_EXTENSION, ENUM_TYPE_EXTENSION, INPUT_OBJECT_TYPE_EXTENSION}
 use Rattle.document_grammar.specs.Choices.{Definitions, Selections, Values, Types, DirectiveLocations}
 
 -- An operation with a keyword (section 2.3), in the second profile with a description.
 abbrev pub keyword_operation : Pattern
 keyword_operation =
-    optional DESCRIPTION then one OPERATION_TYPE then optional NAME then optional VARIABLE_DEFINITIONS then optional DIRECTIVES then one SELECTION_SET
+    optional DESCRIPTION then one OPERATION_TYPE then optional NAME then optional VARIABLE_DEFINITIONS then optional
+    DIRECTIVES then one SELECTION_SET
 
 -- At least one of IMPLEMENTS_INTERFACES, DIRECTIVES and FIELDS_DEFINITION, in this order.
 abbrev pub parts_of_fields : Pattern
@@ -106,7 +115,10 @@ children =
       optional DESCRIPTION then one type_KW then one NAME
           then optional IMPLEMENTS_INTERFACES then optional DIRECTIVES then optional FIELDS_DEFINITION,
     )
-    ∷ (IMPLEMENTS_INTERFACES, one implements_KW then optional AMP then one NAMED_TYPE then many (one AMP then one NAMED_TYPE))
+    ∷ (
+      IMPLEMENTS_INTERFACES,
+      one implements_KW then optional AMP then one NAMED_TYPE then many (one AMP then one NAMED_TYPE),
+    )
     ∷ (FIELDS_DEFINITION, one L_CURLY then some (one FIELD_DEFINITION) then one R_CURLY)
     ∷ (
       FIELD_DEFINITION,
@@ -126,10 +138,16 @@ children =
           then optional IMPLEMENTS_INTERFACES then optional DIRECTIVES then optional FIELDS_DEFINITION,
     )
     -- 3.8 Unions
-    ∷ (UNION_TYPE_DEFINITION, optional DESCRIPTION then one union_KW then one NAME then optional DIRECTIVES then optional UNION_MEMBER_TYPES)
+    ∷ (
+      UNION_TYPE_DEFINITION,
+      optional DESCRIPTION then one union_KW then one NAME then optional DIRECTIVES then optional UNION_MEMBER_TYPES,
+    )
     ∷ (UNION_MEMBER_TYPES, one EQ then optional PIPE then one NAMED_TYPE then many (one PIPE then one NAMED_TYPE))
     -- 3.9 Enums
-    ∷ (ENUM_TYPE_DEFINITION, optional DESCRIPTION then one enum_KW then one NAME then optional DIRECTIVES then optional ENUM_VALUES_DEFINITION)
+    ∷ (
+      ENUM_TYPE_DEFINITION,
+      optional DESCRIPTION then one enum_KW then one NAME then optional DIRECTIVES then optional ENUM_VALUES_DEFINITION,
+    )
     ∷ (ENUM_VALUES_DEFINITION, one L_CURLY then some (one ENUM_VALUE_DEFINITION) then one R_CURLY)
     ∷ (ENUM_VALUE_DEFINITION, optional DESCRIPTION then one ENUM_VALUE then optional DIRECTIVES)
     -- 3.10 Input Objects
@@ -151,14 +169,18 @@ children =
     ∷ (
       SCHEMA_EXTENSION,
       one extend_KW then one schema_KW
-          then (one DIRECTIVES or_else (optional DIRECTIVES then one L_CURLY then some (one ROOT_OPERATION_TYPE_DEFINITION) then one R_CURLY)),
+          then (one DIRECTIVES or_else (optional DIRECTIVES then one L_CURLY then some
+          (one ROOT_OPERATION_TYPE_DEFINITION) then one R_CURLY)),
     )
     ∷ (SCALAR_TYPE_EXTENSION, one extend_KW then one scalar_KW then one NAME then one DIRECTIVES)
     ∷ (OBJECT_TYPE_EXTENSION, one extend_KW then one type_KW then one NAME then parts_of_fields)
     ∷ (INTERFACE_TYPE_EXTENSION, one extend_KW then one interface_KW then one NAME then parts_of_fields)
     ∷ (UNION_TYPE_EXTENSION, one extend_KW then one union_KW then one NAME then parts_with UNION_MEMBER_TYPES)
     ∷ (ENUM_TYPE_EXTENSION, one extend_KW then one enum_KW then one NAME then parts_with ENUM_VALUES_DEFINITION)
-    ∷ (INPUT_OBJECT_TYPE_EXTENSION, one extend_KW then one input_KW then one NAME then parts_with INPUT_FIELDS_DEFINITION)
+    ∷ (
+      INPUT_OBJECT_TYPE_EXTENSION,
+      one extend_KW then one input_KW then one NAME then parts_with INPUT_FIELDS_DEFINITION,
+    )
     ∷ []
 
 -- The pattern that a list pairs with a kind. Nothing fits a kind that has none.
@@ -177,10 +199,12 @@ bare_selections = some (any_of Selections)
 abbrev pub first_operation : Pattern
 first_operation =
     one SELECTION_SET
-    or_else (one OPERATION_TYPE then optional NAME then optional VARIABLE_DEFINITIONS then optional DIRECTIVES then one SELECTION_SET)
+    or_else (one OPERATION_TYPE then optional NAME then optional VARIABLE_DEFINITIONS then optional DIRECTIVES then
+    one SELECTION_SET)
 
 abbrev pub first_fragment : Pattern
-first_fragment = one fragment_KW then one FRAGMENT_NAME then one TYPE_CONDITION then optional DIRECTIVES then one SELECTION_SET
+first_fragment = one fragment_KW then one FRAGMENT_NAME then one TYPE_CONDITION then optional DIRECTIVES then
+    one SELECTION_SET
 
 abbrev pub first_variable : Pattern
 first_variable = one VARIABLE then one COLON then any_of Types then optional DEFAULT_VALUE then optional DIRECTIVES

@@ -1,12 +1,13 @@
--- Sentences: texts whose significant tokens a derivation spells (GraphQL October 2021, section 2.1.6, "Lexical Tokens", for the cut, and
--- section 2.2, "Document").
+-- Sentences: texts whose significant tokens a derivation spells (GraphQL October 2021, section 2.1.6, "Lexical Tokens",
+-- for the cut, and section 2.2, "Document").
 use Rattle.std.specs.Prelude.{◌≡◌, ℕ, ◌≤◌, true, List, ◌++◌, length, map}
 use Rattle.std.specs.Str.{IsUtf8}
 use Rattle.lexical_grammar.specs.declared.TokenKind.{TokenKind}
 use Rattle.lexical_grammar.specs.declared.TokenKind.TheVariants as token
 use Rattle.lexical_grammar.specs.Cut.{Item, Word, Cut, Significant, are_tokens}
-use Rattle.document_grammar.specs.Kinds.{WHITESPACE, COMMENT, COMMA, ERROR, BANG, DOLLAR, AMP, SPREAD, COLON, EQ, AT, L_PAREN, R_PAREN, L_BRACK, R_BRACK}
-use Rattle.document_grammar.specs.Kinds.{L_CURLY, R_CURLY, PIPE, IDENT, INT, FLOAT, STRING}
+use Rattle.document_grammar.specs.Kinds.{WHITESPACE, COMMENT, COMMA, ERROR, BANG, DOLLAR, AMP, SPREAD, COLON, EQ, AT}
+use Rattle.document_grammar.specs.Kinds.{L_PAREN, R_PAREN, L_BRACK, R_BRACK, L_CURLY, R_CURLY, PIPE, IDENT, INT, FLOAT}
+use Rattle.document_grammar.specs.Kinds.{STRING}
 use Rattle.document_grammar.specs.Tree.{Token, Tree}
 use Rattle.document_grammar.specs.Pattern.{Pattern}
 use Rattle.document_grammar.specs.Rows.{Row, FirstRow}
@@ -44,8 +45,8 @@ token_of word = (leaf_number word.kind, word.text)
 abbrev pub tokens_of : List Item → List Token
 tokens_of items = map token_of (Significant items)
 
--- The text is a sentence of the sort by a table of rows, with this derivation: a cut of it has no bad text, and the derivation's leaves
--- are, text by text and kind by kind, its significant tokens.
+-- The text is a sentence of the sort by a table of rows, with this derivation: a cut of it has no bad text, and the
+-- derivation's leaves are, text by text and kind by kind, its significant tokens.
 pub record SentenceBy (row : ℕ → Pattern) (source : List ℕ) (t : Tree) (sort : Sort) : Type 0 where
   pub items : List Item
   pub cut : Cut source items
@@ -78,8 +79,8 @@ pub record Begins (sort : Sort) (front : List ℕ) : Type 0 where
   pub characters : IsUtf8 (front ++ rest)
   pub sentence : Sentence (front ++ rest) tree sort
 
--- The tokens, perhaps closed by the end, are a beginning of the significant tokens, and then the end, of some sentence of the sort, whose
--- derivation nests at most r deep.
+-- The tokens, perhaps closed by the end, are a beginning of the significant tokens, and then the end, of some sentence
+-- of the sort, whose derivation nests at most r deep.
 pub record StartSentenceWithin (sort : Sort) (r : ℕ) (front : List Terminal) : Type 0 where
   pub source : List ℕ
   pub tree : Tree

@@ -1,11 +1,13 @@
 /// The kinds of the leaves and nodes of syntax trees, in the order of their numbers, which are this project's own.
 ///
-/// Leaves come first. WHITESPACE, COMMENT and COMMA are those of ignored tokens (GraphQL October 2021, section 2.1.7), ERROR of text that
-/// the grammar refuses. Then come the punctuators, IDENT, INT, FLOAT and STRING, and the keywords, each a Name with the kind's name
-/// without `_KW` as its text. Nodes begin with DOCUMENT; their children are those of the standard's sections 2 and 3.
+/// Leaves come first. WHITESPACE, COMMENT and COMMA are those of ignored tokens (GraphQL October 2021, section 2.1.7),
+/// ERROR of text that the grammar refuses. Then come the punctuators, IDENT, INT, FLOAT and STRING, and the keywords,
+/// each a Name with the kind's name without `_KW` as its text. Nodes begin with DOCUMENT; their children are those of
+/// the standard's sections 2 and 3.
 ///
-/// Each node says what it is, and gives its section and its production. Terminals are in backquotes; a production whose forms hold
-/// characters, and not tokens, is written with `::`, as in the standard. The typed nodes have the same words.
+/// Each node says what it is, and gives its section and its production. Terminals are in backquotes; a production whose
+/// forms hold characters, and not tokens, is written with `::`, as in the standard. The typed nodes have the same
+/// words.
 #[derive(Clone, Copy, PartialEq, Eq, Hash, Debug)]
 pub enum SyntaxKind {
     /// A run of white space and line terminators.
@@ -312,7 +314,8 @@ pub enum SyntaxKind {
     INPUT_FIELDS_DEFINITION,
     /// The definition of a directive (section 3.13, "Directives").
     ///
-    /// *DirectiveDefinition*: Description? `directive` `@` Name ArgumentsDefinition? `repeatable`? `on` DirectiveLocations
+    /// *DirectiveDefinition*: Description? `directive` `@` Name ArgumentsDefinition? `repeatable`? `on`
+    /// DirectiveLocations
     DIRECTIVE_DEFINITION,
     /// The locations where a directive may be used (section 3.13, "Directives").
     ///

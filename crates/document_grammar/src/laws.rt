@@ -17,11 +17,12 @@ pub fn one_kind()
 
 /// Two cuts of a text, one of them without bad text, are the same.
 pub fn one_cut()
-    ensures { (source : List ℕ) (items others : List Item) → Cut source items → Cut source others → are_tokens items ≡ true → items ≡ others }
+    ensures { (source : List ℕ) (items others : List Item) → Cut source items → Cut source others
+        → are_tokens items ≡ true → items ≡ others }
 {}
 
-/// A sentence of the first profile, in which no description comes before an operation, a fragment or a variable, is a sentence with the
-/// same derivation.
+/// A sentence of the first profile, in which no description comes before an operation, a fragment or a variable, is a
+/// sentence with the same derivation.
 pub fn first_profile()
     ensures tokens { (sort : Sort) (w : List Token) (t : Tree) → FirstSpells w t sort → Spells w t sort }
     ensures texts { (source : List ℕ) (t : Tree) (sort : Sort) → FirstSentence source t sort → Sentence source t sort }
@@ -36,5 +37,6 @@ pub fn ignored_leaves()
 /// What starts a sentence, within a nesting too, starts the tokens that a derivation spells.
 pub fn starts()
     ensures any { (sort : Sort) (front : List Terminal) → StartSentence sort front → Starts sort front }
-    ensures within { (sort : Sort) (r : ℕ) (front : List Terminal) → StartSentenceWithin sort r front → StartsWithin sort r front }
+    ensures within { (sort : Sort) (r : ℕ) (front : List Terminal) → StartSentenceWithin sort r front
+        → StartsWithin sort r front }
 {}

@@ -36,8 +36,10 @@ items_apart p =
     (child_nodes p) (child_nodes_apart p)
 
 -- a list by which documents of the kind are judged
-pub judged : (kind : DocumentKind) (p : Place) (list : NamedList) (old new : Violations) → judged_list kind p ≡ Some list
-    → Adds (Repeats (rule_of list) (items_of p)) (AreUnique (items_of p)) old new → Adds (RepeatsIn kind p) (UniqueIn kind p) old new
+pub judged : (kind : DocumentKind) (p : Place) (list : NamedList) (old new : Violations)
+    → judged_list kind p ≡ Some list
+    → Adds (Repeats (rule_of list) (items_of p)) (AreUnique (items_of p)) old new
+    → Adds (RepeatsIn kind p) (UniqueIn kind p) old new
 judged kind p list old new is adds =
     let P : Option NamedList → Type 0 = λ o. Adds (RepeatsAs o p) (UniqueAs o p) old new in
     subst P (sym is) adds
@@ -47,15 +49,19 @@ repeat_parent : (o : Option NamedList) (p : Place) (b : Breach) → RepeatsAs o 
 repeat_parent None p b so = absurd so
 repeat_parent (Some list) p b so =
     let item = item_at (items_of p) so.number in
-    let (q, there, e) = in_filter_map item_of (child_nodes p) item (Contains-get_or (items_of p) so.number (item_at [] 0) so.inside) in
-    ap (λ (x : Breach). parent_place x.place) so.is ∙ ap parent_place (named_place q (own_name q) item e) ∙ child_node_parent p q there
+    let (q, there, e) = in_filter_map item_of (child_nodes p) item
+    (Contains-get_or (items_of p) so.number (item_at [] 0) so.inside) in
+    ap (λ (x : Breach). parent_place x.place) so.is ∙ ap parent_place (named_place q (own_name q) item e)
+    ∙ child_node_parent p q there
 
 pub lists_apart : (kind : DocumentKind) (root : Place) → DifferAt (RepeatsIn kind) (nodes root)
 lists_apart kind root i j d less below b was is =
-    let rises = AllPairs-filter (λ (x y : Place). x.index < y.index) is_node_place (at_or_below root) (nodes_rise root) i j d less below in
+    let rises = AllPairs-filter (λ (x y : Place). x.index < y.index) is_node_place (at_or_below root)
+    (nodes_rise root) i j d less below in
     let p = get_or (nodes root) i d in
     let q = get_or (nodes root) j d in
-    let same : p ≡ q = same_Some p q (sym (repeat_parent (judged_list kind p) p b was) ∙ repeat_parent (judged_list kind q) q b is) in
+    let same : p ≡ q = same_Some p q
+    (sym (repeat_parent (judged_list kind p) p b was) ∙ repeat_parent (judged_list kind q) q b is) in
     let e : p.index ≡ q.index = ap (λ (x : Place). x.index) same in
     omega arith
 

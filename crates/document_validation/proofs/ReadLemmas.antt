@@ -18,6 +18,7 @@ again : (ds : List ExecutableDefinition) → definitions (map (λ d. parts_of (a
 again [] = refl
 again (d ∷ ds) = ap (λ rest. as_defined d ∷ rest) (again ds)
 
-pub definitions_are : (ds : List ExecutableDefinition) (parts : List Parts) → parts ≡ map (λ d. parts_of (as_defined d)) ds
+pub definitions_are : (ds : List ExecutableDefinition) (parts : List Parts)
+    → parts ≡ map (λ d. parts_of (as_defined d)) ds
     → definitions parts ≡ map as_defined ds
 definitions_are ds parts is = ap definitions is ∙ again ds

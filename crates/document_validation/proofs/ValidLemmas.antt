@@ -12,9 +12,11 @@ use Rattle.apollo_tree.specs.Children.{child_nodes}
 use Rattle.validation_names.specs.declared.executables.DefinitionKind.TheVariants.{Operation, Fragment}
 use Rattle.validation_names.specs.Definitions.{defined, named_definitions}
 use Rattle.validation_rules.specs.declared.violations.Rule.{Rule}
-use Rattle.validation_rules.specs.declared.violations.Rule.TheVariants.{ExecutableDefinitions, KnownFragmentNames, LoneAnonymousOperation}
-use Rattle.validation_rules.specs.declared.violations.Rule.TheVariants.{NoFragmentCycles, NoUndefinedVariables, NoUnusedFragments, NoUnusedVariables}
-use Rattle.validation_rules.specs.declared.violations.Rule.TheVariants.{UniqueFragmentNames, UniqueOperationNames}
+use Rattle.validation_rules.specs.declared.violations.Rule.TheVariants.{ExecutableDefinitions, KnownFragmentNames}
+use Rattle.validation_rules.specs.declared.violations.Rule.TheVariants.{LoneAnonymousOperation, NoFragmentCycles}
+use Rattle.validation_rules.specs.declared.violations.Rule.TheVariants.{NoUndefinedVariables, NoUnusedFragments}
+use Rattle.validation_rules.specs.declared.violations.Rule.TheVariants.{NoUnusedVariables, UniqueFragmentNames}
+use Rattle.validation_rules.specs.declared.violations.Rule.TheVariants.{UniqueOperationNames}
 use Rattle.validation_rules.specs.declared.violations.Violation.{Violation}
 use Rattle.validation_rules.specs.declared.violations.Violations.{Violations}
 use Rattle.validation_rules.specs.TextOrder.{AreInTextOrder}
@@ -29,8 +31,10 @@ use Rattle.validation_rules.proofs.DistinctLemmas.{differ_permuted}
 use Rattle.validation_rules.proofs.NameLemmas.{unique_repeats}
 use Rattle.validation_rules.proofs.OperationLemmas.{find_has, find_passes}
 use Rattle.document_validation.specs.declared.lists.NamedList.{NamedList}
-use Rattle.document_validation.specs.declared.lists.NamedList.TheVariants.{Arguments, ObjectFields, Variables, FieldDefinitions}
-use Rattle.document_validation.specs.declared.lists.NamedList.TheVariants.{InputFieldDefinitions, ArgumentDefinitions, EnumValues, UnionMembers, Interfaces}
+use Rattle.document_validation.specs.declared.lists.NamedList.TheVariants.{Arguments, ObjectFields, Variables}
+use Rattle.document_validation.specs.declared.lists.NamedList.TheVariants.{FieldDefinitions, InputFieldDefinitions}
+use Rattle.document_validation.specs.declared.lists.NamedList.TheVariants.{ArgumentDefinitions, EnumValues}
+use Rattle.document_validation.specs.declared.lists.NamedList.TheVariants.{UnionMembers, Interfaces}
 use Rattle.document_validation.specs.declared.lists.DocumentKind.{DocumentKind}
 use Rattle.document_validation.specs.declared.lists.DocumentKind.TheVariants.{Executable, TypeSystem}
 use Rattle.document_validation.specs.Breaches.{IsForeign, OneOf, RepeatsAs, RepeatsIn}
@@ -46,11 +50,13 @@ use Rattle.document_validation.specs.Breaches.{fragment_names, fragments_used, s
 abbrev judge : DocumentKind → Option NamedList → Option NamedList
 judge kind o = option_and_then (λ list. if is_judged list kind then Some list else None) o
 
-judged_of : (kind : DocumentKind) (list : NamedList) (o : Option NamedList) → o ≡ Some list → is_judged list kind ≡ true → judge kind o ≡ Some list
+judged_of : (kind : DocumentKind) (list : NamedList) (o : Option NamedList) → o ≡ Some list → is_judged list kind ≡ true
+    → judge kind o ≡ Some list
 judged_of kind list o is judged = rw (is, judged) refl
 
 -- such lists are unique if all are
-unique_at : (kind : DocumentKind) (p : Place) (list : NamedList) → list_of p ≡ Some list → is_judged list kind ≡ true → UniqueIn kind p → AreUnique (items_of p)
+unique_at : (kind : DocumentKind) (p : Place) (list : NamedList) → list_of p ≡ Some list → is_judged list kind ≡ true
+    → UniqueIn kind p → AreUnique (items_of p)
 unique_at kind p list is judged unique =
     let P : Option NamedList → Type 0 = λ o. UniqueAs o p in subst P (judged_of kind list (list_of p) is judged) unique
 
@@ -61,13 +67,16 @@ no_repeat_if p list false b unique so = so
 
 no_repeat :
     (kind : DocumentKind) (p : Place) (o : Option NamedList) → list_of p ≡ o
-    → ((list : NamedList) → list_of p ≡ Some list → is_judged list kind ≡ true → AreUnique (items_of p)) → (b : Breach) → ¬ RepeatsIn kind p b
-no_repeat kind p None is unique b so = let P : Option NamedList → Type 0 = λ o. RepeatsAs (judge kind o) p b in subst P is so
+    → ((list : NamedList) → list_of p ≡ Some list → is_judged list kind ≡ true → AreUnique (items_of p)) → (b : Breach)
+    → ¬ RepeatsIn kind p b
+no_repeat kind p None is unique b so = let P : Option NamedList → Type 0 = λ o. RepeatsAs (judge kind o) p b in
+    subst P is so
 no_repeat kind p (Some list) is unique b so =
     let P : Option NamedList → Type 0 = λ o. RepeatsAs (judge kind o) p b in
     no_repeat_if p list (is_judged list kind) b (unique list is) (subst P is so)
 
-unique_of : (document : Place) → IsValid document → (p : Place) → Contains (nodes document) p → (list : NamedList) → list_of p ≡ Some list
+unique_of : (document : Place) → IsValid document → (p : Place) → Contains (nodes document) p → (list : NamedList)
+    → list_of p ≡ Some list
     → is_judged list Executable ≡ true → AreUnique (items_of p)
 unique_of document valid p there Arguments is judged = valid.argument_names p there is
 unique_of document valid p there ObjectFields is judged = valid.object_field_names p there is
@@ -79,7 +88,8 @@ unique_of document valid p there EnumValues is judged = let e : false ≡ true =
 unique_of document valid p there UnionMembers is judged = let e : false ≡ true = judged in cc
 unique_of document valid p there Interfaces is judged = let e : false ≡ true = judged in cc
 
-unique_of_type_system : (document : Place) → IsValidTypeSystem document → (p : Place) → Contains (nodes document) p → (list : NamedList)
+unique_of_type_system : (document : Place) → IsValidTypeSystem document → (p : Place)
+    → Contains (nodes document) p → (list : NamedList)
     → list_of p ≡ Some list → is_judged list TypeSystem ≡ true → AreUnique (items_of p)
 unique_of_type_system document valid p there Arguments is judged = valid.given_names p there is
 unique_of_type_system document valid p there ObjectFields is judged = valid.object_field_names p there is
@@ -92,7 +102,8 @@ unique_of_type_system document valid p there UnionMembers is judged = valid.unio
 unique_of_type_system document valid p there Interfaces is judged = valid.interfaces p there is
 
 pub type_system_keeps : (document : Place) → IsValidTypeSystem document → (b : Breach) → ¬ BreaksTypeSystem document b
-type_system_keeps document valid b (p, there, so) = no_repeat TypeSystem p (list_of p) refl (unique_of_type_system document valid p there) b so
+type_system_keeps document valid b (p, there, so) =
+    no_repeat TypeSystem p (list_of p) refl (unique_of_type_system document valid p there) b so
 
 pub is_type_system : (document : Place) → EachOf (nodes document) (UniqueIn TypeSystem) → IsValidTypeSystem document
 is_type_system document unique = record {
@@ -116,13 +127,16 @@ valid_keeps document valid b (operation_names so) =
     unique_repeats UniqueOperationNames (named_definitions Operation (defined document)) b valid.operation_names so
 valid_keeps document valid b (lone_anonymous_operation so) =
     let ds = parts_in document in
-    let same = valid.lone_anonymous_operation so.number so.operation so.anonymous so.other (find_has _ (operations ds) so.other so.is_other) in
+    let same = valid.lone_anonymous_operation so.number so.operation so.anonymous so.other
+    (find_has _ (operations ds) so.other so.is_other) in
     not_other so.other so.number (find_passes (λ k. not (k == so.number)) (operations ds) so.other so.is_other) same
-valid_keeps document valid b (lists (p, there, so)) = no_repeat Executable p (list_of p) refl (unique_of document valid p there) b so
+valid_keeps document valid b (lists (p, there, so)) =
+    no_repeat Executable p (list_of p) refl (unique_of document valid p there) b so
 valid_keeps document valid b (fragment_names so) =
     unique_repeats UniqueFragmentNames (named_definitions Fragment (defined document)) b valid.fragment_names so
 valid_keeps document valid b (fragments_used so) = so.unused (valid.fragments_used so.number so.inside)
-valid_keeps document valid b (spreads_defined (number, below, so)) = so.unknown (valid.spreads_defined number below so.item so.there)
+valid_keeps document valid b (spreads_defined (number, below, so)) =
+    so.unknown (valid.spreads_defined number below so.item so.there)
 valid_keeps document valid b (no_cycles so) =
     valid.no_cycles so.number so.other (
       so.spread,
@@ -133,18 +147,23 @@ valid_keeps document valid b (no_cycles so) =
     so.leads_back
 valid_keeps document valid b (variables (operation, there, so)) =
     ⊎_elim
-    (λ (unused : IsUnusedVariable (parts_in document) operation b). unused.unknown (valid.variables_used operation there unused.item unused.there))
+    (λ (unused : IsUnusedVariable (parts_in document) operation b). unused.unknown
+    (valid.variables_used operation there unused.item unused.there))
     (λ (undefined : IsUndefinedVariable (parts_in document) operation b).
-    undefined.unknown.unknown (valid.variables_defined operation there undefined.number undefined.reached undefined.unknown.item undefined.unknown.there))
+    undefined.unknown.unknown
+    (valid.variables_defined operation there undefined.number undefined.reached undefined.unknown.item
+    undefined.unknown.there))
     so
 
 -- ---- what all rules add
 to_breaks :
     (document : Place) (b : Breach)
-    → ((((((((OneOf (child_nodes document) IsForeign b ⊎ Repeats UniqueOperationNames (named_definitions Operation (defined document)) b)
+    → ((((((((OneOf (child_nodes document) IsForeign b
+    ⊎ Repeats UniqueOperationNames (named_definitions Operation (defined document)) b)
     ⊎ IsNotAlone (parts_in document) b) ⊎ OneOf (nodes document) (RepeatsIn Executable) b)
     ⊎ Repeats UniqueFragmentNames (named_definitions Fragment (defined document)) b)
-    ⊎ IsUnusedFragment (parts_in document) b) ⊎ IsUndefinedSpread (parts_in document) b) ⊎ IsOnCycle (parts_in document) b) ⊎ BreaksVariables
+    ⊎ IsUnusedFragment (parts_in document) b) ⊎ IsUndefinedSpread (parts_in document) b)
+    ⊎ IsOnCycle (parts_in document) b) ⊎ BreaksVariables
     (parts_in document) b)
     → Breaks document b
 to_breaks document b (inl (inl (inl (inl (inl (inl (inl (inl so)))))))) = executable_definitions so
@@ -159,10 +178,12 @@ to_breaks document b (inr so) = variables so
 
 from_breaks :
     (document : Place) (b : Breach) → Breaks document b
-    → (((((((OneOf (child_nodes document) IsForeign b ⊎ Repeats UniqueOperationNames (named_definitions Operation (defined document)) b)
+    → (((((((OneOf (child_nodes document) IsForeign b
+    ⊎ Repeats UniqueOperationNames (named_definitions Operation (defined document)) b)
     ⊎ IsNotAlone (parts_in document) b) ⊎ OneOf (nodes document) (RepeatsIn Executable) b)
     ⊎ Repeats UniqueFragmentNames (named_definitions Fragment (defined document)) b)
-    ⊎ IsUnusedFragment (parts_in document) b) ⊎ IsUndefinedSpread (parts_in document) b) ⊎ IsOnCycle (parts_in document) b) ⊎ BreaksVariables
+    ⊎ IsUnusedFragment (parts_in document) b) ⊎ IsUndefinedSpread (parts_in document) b)
+    ⊎ IsOnCycle (parts_in document) b) ⊎ BreaksVariables
     (parts_in document) b
 from_breaks document b (executable_definitions so) = inl (inl (inl (inl (inl (inl (inl (inl so)))))))
 from_breaks document b (operation_names so) = inl (inl (inl (inl (inl (inl (inl (inr so)))))))
@@ -175,10 +196,13 @@ from_breaks document b (no_cycles so) = inl (inr so)
 from_breaks document b (variables so) = inr so
 
 are_valid :
-    (document : Place) → EachOf (child_nodes document) IsExecutable → AreUnique (named_definitions Operation (defined document))
+    (document : Place) → EachOf (child_nodes document) IsExecutable
+    → AreUnique (named_definitions Operation (defined document))
     → AnonymousIsAlone (parts_in document)
-    → EachOf (nodes document) (UniqueIn Executable) → AreUnique (named_definitions Fragment (defined document)) → FragmentsAreUsed (parts_in document)
-    → SpreadsAreDefined (parts_in document) → HasNoCycles (parts_in document) → VariablesAreWell (parts_in document) → IsValid document
+    → EachOf (nodes document) (UniqueIn Executable) → AreUnique (named_definitions Fragment (defined document))
+    → FragmentsAreUsed (parts_in document)
+    → SpreadsAreDefined (parts_in document) → HasNoCycles (parts_in document)
+    → VariablesAreWell (parts_in document) → IsValid document
 are_valid document executable operation_unique alone unique fragment_unique used known acyclic well = record {
   executable_definitions = executable;
   operation_names = operation_unique;
@@ -239,8 +263,10 @@ record Staged (Breaks : Breach → Type 0) (IsWell : Type 0) (n : ℕ) (old new 
   pub stages : (b : Breach) → Breaks b → stage b.rule ≤ n
 
 staged_then :
-    (Breaks Others : Breach → Type 0) (IsWell AreWell : Type 0) (n : ℕ) (old mid new : Violations) → Staged Breaks IsWell n old mid
-    → ((b : Breach) → Others b → stage b.rule ≡ suc n) → Adds Others AreWell mid new → Staged (λ b. Breaks b ⊎ Others b) (IsWell × AreWell) (suc n) old new
+    (Breaks Others : Breach → Type 0) (IsWell AreWell : Type 0) (n : ℕ) (old mid new : Violations)
+    → Staged Breaks IsWell n old mid
+    → ((b : Breach) → Others b → stage b.rule ≡ suc n) → Adds Others AreWell mid new
+    → Staged (λ b. Breaks b ⊎ Others b) (IsWell × AreWell) (suc n) old new
 staged_then Breaks Others IsWell AreWell n old mid new so is adds = record {
   adds =
       adds_then Breaks Others IsWell AreWell old mid new
@@ -252,13 +278,18 @@ staged_then Breaks Others IsWell AreWell n old mid new so is adds = record {
 }
 
 pub adds_all :
-    (d : Place) (v0 v1 v2 v3 v4 v5 v6 v7 v8 v9 : Violations) → Adds (OneOf (child_nodes d) IsForeign) (EachOf (child_nodes d) IsExecutable) v0 v1
-    → Adds (Repeats UniqueOperationNames (named_definitions Operation (defined d))) (AreUnique (named_definitions Operation (defined d))) v1 v2
+    (d : Place) (v0 v1 v2 v3 v4 v5 v6 v7 v8 v9 : Violations)
+    → Adds (OneOf (child_nodes d) IsForeign) (EachOf (child_nodes d) IsExecutable) v0 v1
+    → Adds (Repeats UniqueOperationNames (named_definitions Operation (defined d)))
+    (AreUnique (named_definitions Operation (defined d))) v1 v2
     → Adds (IsNotAlone (parts_in d)) (AnonymousIsAlone (parts_in d)) v2 v3
     → Adds (OneOf (nodes d) (RepeatsIn Executable)) (EachOf (nodes d) (UniqueIn Executable)) v3 v4
-    → Adds (Repeats UniqueFragmentNames (named_definitions Fragment (defined d))) (AreUnique (named_definitions Fragment (defined d))) v4 v5
-    → Adds (IsUnusedFragment (parts_in d)) (FragmentsAreUsed (parts_in d)) v5 v6 → Adds (IsUndefinedSpread (parts_in d)) (SpreadsAreDefined (parts_in d)) v6 v7
-    → Adds (IsOnCycle (parts_in d)) (HasNoCycles (parts_in d)) v7 v8 → Adds (BreaksVariables (parts_in d)) (VariablesAreWell (parts_in d)) v8 v9
+    → Adds (Repeats UniqueFragmentNames (named_definitions Fragment (defined d)))
+    (AreUnique (named_definitions Fragment (defined d))) v4 v5
+    → Adds (IsUnusedFragment (parts_in d)) (FragmentsAreUsed (parts_in d)) v5 v6
+    → Adds (IsUndefinedSpread (parts_in d)) (SpreadsAreDefined (parts_in d)) v6 v7
+    → Adds (IsOnCycle (parts_in d)) (HasNoCycles (parts_in d)) v7 v8
+    → Adds (BreaksVariables (parts_in d)) (VariablesAreWell (parts_in d)) v8 v9
     → Adds (Breaks d) (IsValid d) v0 v9
 adds_all d v0 v1 v2 v3 v4 v5 v6 v7 v8 v9 a1 a2 a3 a4 a5 a6 a7 a8 a9 =
     let b1 : Staged (OneOf (child_nodes d) IsForeign) (EachOf (child_nodes d) IsExecutable) 1 v0 v1 =
@@ -277,13 +308,17 @@ adds_all d v0 v1 v2 v3 v4 v5 v6 v7 v8 v9 a1 a2 a3 a4 a5 a6 a7 a8 a9 =
 
 -- ---- what is found from an empty list on, in the order of the text
 pub exact :
-    (Breaks : Breach → Type 0) (IsWell : Type 0) (most : ℕ) (old new : Violations) (listed : List Breach) → old.list.items ≡ [] → old.most ≡ most
-    → Adds Breaks IsWell old new → IsPermutation (found new) listed → AreInTextOrder listed → AreBreaches most Breaks listed
+    (Breaks : Breach → Type 0) (IsWell : Type 0) (most : ℕ) (old new : Violations) (listed : List Breach)
+    → old.list.items ≡ [] → old.most ≡ most
+    → Adds Breaks IsWell old new → IsPermutation (found new) listed → AreInTextOrder listed
+    → AreBreaches most Breaks listed
 exact Breaks IsWell most old new listed none same adds permuted in_order = record {
   no_others = λ b there.
       ⊎_elim (λ (was : Contains (found old) b). absurd (nothing b was)) (λ (breaks : Breaks b). breaks)
-      (adds.no_others b (Contains-permutation listed (found new) b (IsPermutation-sym (found new) listed permuted) there));
-  all = λ less b breaks. Contains-permutation (found new) listed b permuted (adds.all (let l = long in omega arith) b breaks);
+      (adds.no_others b (Contains-permutation listed (found new) b
+      (IsPermutation-sym (found new) listed permuted) there));
+  all = λ less b breaks. Contains-permutation (found new) listed b permuted
+      (adds.all (let l = long in omega arith) b breaks);
   few = let l = long in let few = adds.few (let z = zero_long in omega arith) in omega arith;
   distinct =
       differ_permuted (found new) listed permuted
@@ -302,8 +337,10 @@ exact Breaks IsWell most old new listed none same adds permuted in_order = recor
     long = length_permutation (found new) listed permuted ∙ length-map new.list.items as_breach
 
 pub valid_if_none :
-    (Breaks : Breach → Type 0) (IsWell : Type 0) → (IsWell → (b : Breach) → ¬ Breaks b) → (most : ℕ) (old new : Violations) (listed : List Violation)
-    → old.list.items ≡ [] → old.most ≡ most → Adds Breaks IsWell old new → IsPermutation (found new) (map as_breach listed) → 0 < most
+    (Breaks : Breach → Type 0) (IsWell : Type 0) → (IsWell → (b : Breach) → ¬ Breaks b)
+    → (most : ℕ) (old new : Violations) (listed : List Violation)
+    → old.list.items ≡ [] → old.most ≡ most → Adds Breaks IsWell old new
+    → IsPermutation (found new) (map as_breach listed) → 0 < most
     → (listed ≡ []) ↔ IsWell
 valid_if_none Breaks IsWell keeps most old new listed none same adds permuted positive = (
   (λ e. let n : count new ≡ 0 = long ∙ ap length e in adds.well (omega arith) (omega arith)),
@@ -311,15 +348,18 @@ valid_if_none Breaks IsWell keeps most old new listed none same adds permuted po
 )
   where
     long : count new ≡ length listed
-    long = sym (length-map new.list.items as_breach) ∙ sym (length_permutation (found new) (map as_breach listed) permuted) ∙ length-map listed as_breach
+    long = sym (length-map new.list.items as_breach)
+        ∙ sym (length_permutation (found new) (map as_breach listed) permuted) ∙ length-map listed as_breach
 
     no_breach : IsWell → (b : Breach) → ¬ Contains (map as_breach listed) b
     no_breach well b there =
         ⊎_elim
-        (λ (was : Contains (found old) b). let (k, below, is) = was in let l = length-map old.list.items as_breach in let z = ap length none in omega arith)
+        (λ (was : Contains (found old) b). let (k, below, is) = was in let l = length-map old.list.items as_breach in
+        let z = ap length none in omega arith)
         (λ (breaks : Breaks b). keeps well b breaks)
         (adds.no_others b
-        (Contains-permutation (map as_breach listed) (found new) b (IsPermutation-sym (found new) (map as_breach listed) permuted) there))
+        (Contains-permutation (map as_breach listed) (found new) b
+        (IsPermutation-sym (found new) (map as_breach listed) permuted) there))
 
     no_items : (xs : List Violation) → ((b : Breach) → ¬ Contains (map as_breach xs) b) → xs ≡ []
     no_items [] empty = refl

@@ -1,24 +1,31 @@
 -- What breaks the rules that need no schema (GraphQL October 2021).
-use Rattle.std.specs.Prelude.{◌≡◌, ℕ, ◌<◌, ◌≤◌, List, length, Bool, true, false, not, Option, Some, None, option_and_then, if◌then◌else◌}
+use Rattle.std.specs.Prelude.{◌≡◌, ℕ, ◌<◌, ◌≤◌, List, length, Bool, true, false, not, Option, Some, None}
+use Rattle.std.specs.Prelude.{option_and_then, if◌then◌else◌}
 use Rattle.std.specs.List.{Contains}
 use Rattle.apollo_tree.specs.Order.{Place}
 use Rattle.apollo_tree.specs.Children.{child_nodes}
 use Rattle.validation_names.specs.declared.executables.DefinitionKind.TheVariants.{Operation, Fragment}
 use Rattle.validation_names.specs.Definitions.{defined, named_definitions}
 use Rattle.validation_rules.specs.declared.violations.Rule.{Rule}
-use Rattle.validation_rules.specs.declared.violations.Rule.TheVariants.{ExecutableDefinitions, UniqueArgumentNames, UniqueFragmentNames, UniqueInputFieldNames}
-use Rattle.validation_rules.specs.declared.violations.Rule.TheVariants.{UniqueFieldDefinitionNames, UniqueArgumentDefinitionNames, UniqueEnumValueNames}
-use Rattle.validation_rules.specs.declared.violations.Rule.TheVariants.{UniqueUnionMemberTypes, UniqueImplementedInterfaces}
+use Rattle.validation_rules.specs.declared.violations.Rule.TheVariants.{ExecutableDefinitions, UniqueArgumentNames}
+use Rattle.validation_rules.specs.declared.violations.Rule.TheVariants.{UniqueFragmentNames, UniqueInputFieldNames}
+use Rattle.validation_rules.specs.declared.violations.Rule.TheVariants.{UniqueFieldDefinitionNames}
+use Rattle.validation_rules.specs.declared.violations.Rule.TheVariants.{UniqueArgumentDefinitionNames}
+use Rattle.validation_rules.specs.declared.violations.Rule.TheVariants.{UniqueEnumValueNames, UniqueUnionMemberTypes}
+use Rattle.validation_rules.specs.declared.violations.Rule.TheVariants.{UniqueImplementedInterfaces}
 use Rattle.validation_rules.specs.declared.violations.Rule.TheVariants.{UniqueOperationNames, UniqueVariableNames}
 use Rattle.validation_rules.specs.Parts.{parts_in}
-use Rattle.validation_rules.specs.Broken.{BreaksVariables, IsNotAlone, IsOnCycle, IsUndefinedSpread, IsUnusedFragment, Repeats}
+use Rattle.validation_rules.specs.Broken.{BreaksVariables, IsNotAlone, IsOnCycle, IsUndefinedSpread, IsUnusedFragment}
+use Rattle.validation_rules.specs.Broken.{Repeats}
 use Rattle.validation_rules.specs.TextOrder.{AreInTextOrder}
 use Rattle.validation_rules.specs.Violations.{AreDistinct, Breach, breach}
 use Rattle.document_validation.specs.declared.lists.DocumentKind.{DocumentKind}
 use Rattle.document_validation.specs.declared.lists.DocumentKind.TheVariants.{Executable, TypeSystem}
 use Rattle.document_validation.specs.declared.lists.NamedList.{NamedList}
-use Rattle.document_validation.specs.declared.lists.NamedList.TheVariants.{Arguments, ObjectFields, Variables, FieldDefinitions}
-use Rattle.document_validation.specs.declared.lists.NamedList.TheVariants.{InputFieldDefinitions, ArgumentDefinitions, EnumValues, UnionMembers, Interfaces}
+use Rattle.document_validation.specs.declared.lists.NamedList.TheVariants.{Arguments, ObjectFields, Variables}
+use Rattle.document_validation.specs.declared.lists.NamedList.TheVariants.{FieldDefinitions, InputFieldDefinitions}
+use Rattle.document_validation.specs.declared.lists.NamedList.TheVariants.{ArgumentDefinitions, EnumValues}
+use Rattle.document_validation.specs.declared.lists.NamedList.TheVariants.{UnionMembers, Interfaces}
 use Rattle.document_validation.specs.Lists.{is_executable, items_of, list_of, nodes}
 
 abbrev pub rule_of : NamedList → Rule
@@ -86,8 +93,8 @@ abbrev pub BreaksAs : DocumentKind → Place → Breach → Type 0
 BreaksAs Executable document b = Breaks document b
 BreaksAs TypeSystem document b = BreaksTypeSystem document b
 
--- All of these break a rule, none is there twice, and they are in the order of the text. Unless there are as many as the bound allows, they are all that
--- do.
+-- All of these break a rule, none is there twice, and they are in the order of the text. Unless there are as many as
+-- the bound allows, they are all that do.
 pub record AreBreaches (most : ℕ) (Breaks : Breach → Type 0) (found : List Breach) : Type 0 where
   pub no_others : (b : Breach) → Contains found b → Breaks b
   pub all : length found < most → (b : Breach) → Breaks b → Contains found b

@@ -1,15 +1,22 @@
 -- The message of a violation, in the words of graphql-js 16.
-use Rattle.std.specs.Prelude.{Bool, ◌||◌, if◌then◌else◌, List, ℕ, ◌++◌, [], codes, bytes_eq, Option, Some, None, option_and_then}
-use Rattle.document_grammar.specs.declared.kind.SyntaxKind.TheVariants.{DIRECTIVE_DEFINITION, SCHEMA_DEFINITION, SCHEMA_EXTENSION}
+use Rattle.std.specs.Prelude.{Bool, ◌||◌, if◌then◌else◌, List, ℕ, ◌++◌, [], codes, bytes_eq, Option, Some, None}
+use Rattle.std.specs.Prelude.{option_and_then}
+use Rattle.document_grammar.specs.declared.kind.SyntaxKind.TheVariants.{DIRECTIVE_DEFINITION, SCHEMA_DEFINITION}
+use Rattle.document_grammar.specs.declared.kind.SyntaxKind.TheVariants.{SCHEMA_EXTENSION}
 use Rattle.document_grammar.specs.Numbers.{is_kind}
 use Rattle.apollo_tree.specs.Order.{Place, kind_at, parent_place}
 use Rattle.validation_names.specs.Names.{Name}
 use Rattle.validation_rules.specs.declared.violations.Rule.{Rule}
-use Rattle.validation_rules.specs.declared.violations.Rule.TheVariants.{ExecutableDefinitions, UniqueOperationNames, LoneAnonymousOperation}
-use Rattle.validation_rules.specs.declared.violations.Rule.TheVariants.{UniqueArgumentNames, UniqueFragmentNames, NoUnusedFragments, KnownFragmentNames}
-use Rattle.validation_rules.specs.declared.violations.Rule.TheVariants.{NoFragmentCycles, UniqueInputFieldNames, UniqueVariableNames, NoUndefinedVariables}
-use Rattle.validation_rules.specs.declared.violations.Rule.TheVariants.{NoUnusedVariables, UniqueFieldDefinitionNames, UniqueArgumentDefinitionNames}
-use Rattle.validation_rules.specs.declared.violations.Rule.TheVariants.{UniqueEnumValueNames, UniqueUnionMemberTypes, UniqueImplementedInterfaces}
+use Rattle.validation_rules.specs.declared.violations.Rule.TheVariants.{ExecutableDefinitions, UniqueOperationNames}
+use Rattle.validation_rules.specs.declared.violations.Rule.TheVariants.{LoneAnonymousOperation, UniqueArgumentNames}
+use Rattle.validation_rules.specs.declared.violations.Rule.TheVariants.{UniqueFragmentNames, NoUnusedFragments}
+use Rattle.validation_rules.specs.declared.violations.Rule.TheVariants.{KnownFragmentNames, NoFragmentCycles}
+use Rattle.validation_rules.specs.declared.violations.Rule.TheVariants.{UniqueInputFieldNames, UniqueVariableNames}
+use Rattle.validation_rules.specs.declared.violations.Rule.TheVariants.{NoUndefinedVariables, NoUnusedVariables}
+use Rattle.validation_rules.specs.declared.violations.Rule.TheVariants.{UniqueFieldDefinitionNames}
+use Rattle.validation_rules.specs.declared.violations.Rule.TheVariants.{UniqueArgumentDefinitionNames}
+use Rattle.validation_rules.specs.declared.violations.Rule.TheVariants.{UniqueEnumValueNames, UniqueUnionMemberTypes}
+use Rattle.validation_rules.specs.declared.violations.Rule.TheVariants.{UniqueImplementedInterfaces}
 use Rattle.validation_rules.specs.Violations.{Breach}
 use Rattle.document_validation.specs.OwnNames.{name_at, or_nothing, own_name}
 
@@ -39,12 +46,14 @@ within_itself name other =
 
 -- 5.8.3: the variable, and the operation's name, if it has one
 abbrev pub not_defined : Name → Option Name → Text
-not_defined name (Some operation) = codes "Variable \"$" ++ name ++ codes "\" is not defined by operation \"" ++ operation ++ codes "\"."
+not_defined name (Some operation) =
+    codes "Variable \"$" ++ name ++ codes "\" is not defined by operation \"" ++ operation ++ codes "\"."
 not_defined name None = codes "Variable \"$" ++ name ++ codes "\" is not defined."
 
 -- 5.8.4
 abbrev pub never_used : Name → Option Name → Text
-never_used name (Some operation) = codes "Variable \"$" ++ name ++ codes "\" is never used in operation \"" ++ operation ++ codes "\"."
+never_used name (Some operation) =
+    codes "Variable \"$" ++ name ++ codes "\" is never used in operation \"" ++ operation ++ codes "\"."
 never_used name None = codes "Variable \"$" ++ name ++ codes "\" is never used."
 
 -- the definition in whose list an element is
@@ -77,7 +86,8 @@ only_once noun thing = noun ++ codes " \"" ++ thing ++ codes "\" can only be def
 
 -- a union that has a type twice, and a type that has an interface twice
 abbrev pub member_type : Name → Name → Text
-member_type definition name = codes "Union type " ++ definition ++ codes " can only include type " ++ name ++ codes " once."
+member_type definition name =
+    codes "Union type " ++ definition ++ codes " can only include type " ++ name ++ codes " once."
 
 abbrev pub interface : Name → Name → Text
 interface definition name = codes "Type " ++ definition ++ codes " can only implement " ++ name ++ codes " once."

@@ -1,7 +1,8 @@
 -- The names of elements.
 use Rattle.std.specs.Prelude.{Bool, ◌||◌, if◌then◌else◌, [], Option, Some, None}
 use Rattle.document_grammar.specs.declared.kind.SyntaxKind.{SyntaxKind}
-use Rattle.document_grammar.specs.declared.kind.SyntaxKind.TheVariants.{ENUM_VALUE, ENUM_VALUE_DEFINITION, FRAGMENT_DEFINITION, FRAGMENT_NAME}
+use Rattle.document_grammar.specs.declared.kind.SyntaxKind.TheVariants.{ENUM_VALUE, ENUM_VALUE_DEFINITION}
+use Rattle.document_grammar.specs.declared.kind.SyntaxKind.TheVariants.{FRAGMENT_DEFINITION, FRAGMENT_NAME}
 use Rattle.document_grammar.specs.declared.kind.SyntaxKind.TheVariants.{FRAGMENT_SPREAD, VARIABLE, VARIABLE_DEFINITION}
 use Rattle.document_grammar.specs.Numbers.{is_kind}
 use Rattle.apollo_tree.specs.Order.{Place, kind_at}

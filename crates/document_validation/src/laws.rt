@@ -7,6 +7,7 @@ ghost use Rattle.document_validation.specs.declared.lists.DocumentKind.{Document
 
 /// A validation is a function, where it finds fewer violations than its bound: they are one list.
 pub fn one_validation()
-    ensures { (kind : DocumentKind) (document : Place) (most : ℕ) (first second : List Breach) → AreBreaches most (BreaksAs kind document) first
+    ensures { (kind : DocumentKind) (document : Place) (most : ℕ) (first second : List Breach)
+        → AreBreaches most (BreaksAs kind document) first
         → AreBreaches most (BreaksAs kind document) second → length first < most → second ≡ first }
 {}

@@ -6,7 +6,8 @@ ghost use Rattle.apollo_tree.specs.References.{node_place};
 ghost use Rattle.validation_names.specs.Mentions.{as_named};
 ghost use Rattle.validation_rules.specs.Violations.{Adds};
 ghost use Rattle.document_validation.specs.Validity.{EachOf, IsExecutable};
-ghost use Rattle.document_validation.specs.Lists.{document_kind, has_item, is_executable, item_of, items_of, list_of, nodes};
+ghost use Rattle.document_validation.specs.Lists.{document_kind, has_item, is_executable, item_of, items_of, list_of};
+ghost use Rattle.document_validation.specs.Lists.{nodes};
 ghost use Rattle.document_validation.specs.Breaches.{IsForeign, OneOf, RepeatsIn, is_judged, judged_list, rule_of};
 ghost use Rattle.document_validation.specs.Unique.{UniqueIn};
 
@@ -146,7 +147,8 @@ fn add_list<'t>(
     node: &SyntaxNode<'t>,
     kind: DocumentKind,
 ) -> Result<(), AllocError>
-    ensures { OnOk result (Adds (RepeatsIn kind (node_place node.now)) (UniqueIn kind (node_place node.now)) violations.old violations.new) }
+    ensures { OnOk result (Adds (RepeatsIn kind (node_place node.now)) (UniqueIn kind (node_place node.now))
+        violations.old violations.new) }
 {
     if let Some(list) = judged_list(node, kind) {
         let items = items_of(alloc, node)?;
@@ -155,14 +157,16 @@ fn add_list<'t>(
     Ok(())
 }
 
-// Adds the items with the name of an earlier one, in all lists at or below a node by which documents of a kind are judged.
+// Adds the items with the name of an earlier one, in all lists at or below a node by which documents of a kind are
+// judged.
 pub(crate) fn add_lists<'t>(
     alloc: Global,
     violations: &mut Violations<'t>,
     root: &SyntaxNode<'t>,
     kind: DocumentKind,
 ) -> Result<(), AllocError>
-    ensures { OnOk result (Adds (OneOf (nodes (node_place root.now)) (RepeatsIn kind)) (EachOf (nodes (node_place root.now)) (UniqueIn kind)) violations.old violations.new) }
+    ensures { OnOk result (Adds (OneOf (nodes (node_place root.now)) (RepeatsIn kind))
+        (EachOf (nodes (node_place root.now)) (UniqueIn kind)) violations.old violations.new) }
 {
     for node in root.descendants() {
         add_list(alloc, violations, &node, kind)?;
@@ -182,7 +186,8 @@ fn add_if_foreign<'t>(
     violations: &mut Violations<'t>,
     node: &SyntaxNode<'t>,
 ) -> Result<(), AllocError>
-    ensures { OnOk result (Adds (IsForeign (node_place node.now)) (IsExecutable (node_place node.now)) violations.old violations.new) }
+    ensures { OnOk result (Adds (IsForeign (node_place node.now)) (IsExecutable (node_place node.now))
+        violations.old violations.new) }
 {
     if !is_executable(node) {
         violations.add(Rule::ExecutableDefinitions, *node, None)?;
@@ -195,7 +200,8 @@ pub(crate) fn add_foreign<'t>(
     violations: &mut Violations<'t>,
     document: &SyntaxNode<'t>,
 ) -> Result<(), AllocError>
-    ensures { OnOk result (Adds (OneOf (child_nodes (node_place document.now)) IsForeign) (EachOf (child_nodes (node_place document.now)) IsExecutable) violations.old violations.new) }
+    ensures { OnOk result (Adds (OneOf (child_nodes (node_place document.now)) IsForeign)
+        (EachOf (child_nodes (node_place document.now)) IsExecutable) violations.old violations.new) }
 {
     for node in document.children() {
         add_if_foreign(violations, &node)?;
@@ -220,7 +226,8 @@ fn has_definition(document: &SyntaxNode<'_>) -> bool
     document.children().next().is_some()
 }
 
-/// What a document is judged as: as one of the type system if it has definitions, and none of them is an operation or a fragment.
+/// What a document is judged as: as one of the type system if it has definitions, and none of them is an operation or a
+/// fragment.
 pub fn document_kind(document: &SyntaxNode<'_>) -> DocumentKind
     ensures { result ≡ document_kind (node_place document.now) }
 {

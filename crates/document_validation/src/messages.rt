@@ -3,7 +3,10 @@ ghost use Rattle.std.specs.Prelude.{◌≡◌, ◌++◌, IfOk, bytes_eq, codes, 
 ghost use Rattle.apollo_tree.specs.References.{node_place};
 ghost use Rattle.validation_rules.specs.Violations.{as_breach};
 ghost use Rattle.document_validation.specs.OwnNames.{own_name};
-ghost use Rattle.document_validation.specs.Messages.{argument, holder, interface, is_schema, member, member_type, message_of, name_of_other, never_used, not_defined, not_executable, only_once, only_one, owner, with_arguments, within_itself};
+ghost use Rattle.document_validation.specs.Messages.{argument, holder, interface, is_schema, member, member_type};
+ghost use Rattle.document_validation.specs.Messages.{message_of, name_of_other, never_used, not_defined};
+ghost use Rattle.document_validation.specs.Messages.{not_executable, only_once, only_one, owner, with_arguments};
+ghost use Rattle.document_validation.specs.Messages.{within_itself};
 
 use crate::names::{name_at, or_nothing, own_name};
 use apollo_tree::{SyntaxKind, SyntaxNode};
@@ -26,7 +29,8 @@ fn with_names<A: Allocator>(
     other: &str,
     after: &str,
 ) -> Result<String<A>, AllocError>
-    ensures { IfOk result (λ text. string_bytes text ≡ before.now ++ name.now ++ between.now ++ other.now ++ after.now) }
+    ensures { IfOk result (λ text. string_bytes text ≡ before.now ++ name.now ++ between.now
+        ++ other.now ++ after.now) }
 {
     let mut text = String::new(alloc);
     text.push_str(before)?;
@@ -261,8 +265,8 @@ fn interface<A: Allocator>(alloc: A, definition: &str, name: &str) -> Result<Str
     )
 }
 
-/// The message of a violation, in the words of graphql-js 16 with double quotes. For a fragment that is spread within itself, graphql-js names
-/// each fragment on the way; here it is the first.
+/// The message of a violation, in the words of graphql-js 16 with double quotes. For a fragment that is spread within
+/// itself, graphql-js names each fragment on the way; here it is the first.
 pub fn message<A: Allocator + Copy>(
     alloc: A,
     violation: &Violation<'_>,

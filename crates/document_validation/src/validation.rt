@@ -52,7 +52,8 @@ fn add_all<'t>(
     requires definitions { map as_defined definitions.now ≡ defined (node_place document.now) }
     requires parts { map as_parts parts.now ≡ parts_in (node_place document.now) }
     requires fragments { AreFirstNumbers fragments.now (fragment_names (definitions_of (map as_parts parts.now))) }
-    ensures { OnOk result (Adds (Breaks (node_place document.now)) (IsValid (node_place document.now)) violations.old violations.new) }
+    ensures { OnOk result (Adds (Breaks (node_place document.now)) (IsValid (node_place document.now))
+        violations.old violations.new) }
 {
     let numbers = operations(alloc, parts)?;
     let graph = spread_graph(alloc, parts, fragments)?;
@@ -80,14 +81,16 @@ fn add_all<'t>(
     Ok(())
 }
 
-/// The places at which a document of operations and fragments breaks a rule, by the root of its tree: no more than `most` of them, each once, in the
-/// order of the text. If there are fewer than `most`, they are all; and there are none exactly if the document keeps all rules.
+/// The places at which a document of operations and fragments breaks a rule, by the root of its tree: no more than
+/// `most` of them, each once, in the order of the text. If there are fewer than `most`, they are all; and there are
+/// none exactly if the document keeps all rules.
 pub fn validate_executable<'t>(
     alloc: Global,
     document: &SyntaxNode<'t>,
     most: usize,
 ) -> Result<Vec<Violation<'t>>, AllocError>
-    ensures exact { IfOk result (λ found. AreBreaches most (Breaks (node_place document.now)) (map as_breach found.items)) }
+    ensures exact { IfOk result
+        (λ found. AreBreaches most (Breaks (node_place document.now)) (map as_breach found.items)) }
     ensures valid { IfOk result (λ found. 0 < most → ((found.items ≡ []) ↔ IsValid (node_place document.now))) }
 {
     let mut violations = Violations::new(alloc, most);
@@ -105,14 +108,17 @@ pub fn validate_executable<'t>(
     Ok(violations.into_text_order())
 }
 
-/// The same for a document of the type system: the names that are defined, mentioned or given twice in one list. Other rules of section 3 are not judged.
+/// The same for a document of the type system: the names that are defined, mentioned or given twice in one list. Other
+/// rules of section 3 are not judged.
 pub fn validate_type_system<'t>(
     alloc: Global,
     document: &SyntaxNode<'t>,
     most: usize,
 ) -> Result<Vec<Violation<'t>>, AllocError>
-    ensures exact { IfOk result (λ found. AreBreaches most (BreaksTypeSystem (node_place document.now)) (map as_breach found.items)) }
-    ensures valid { IfOk result (λ found. 0 < most → ((found.items ≡ []) ↔ IsValidTypeSystem (node_place document.now))) }
+    ensures exact { IfOk result
+        (λ found. AreBreaches most (BreaksTypeSystem (node_place document.now)) (map as_breach found.items)) }
+    ensures valid { IfOk result
+        (λ found. 0 < most → ((found.items ≡ []) ↔ IsValidTypeSystem (node_place document.now))) }
 {
     let mut violations = Violations::new(alloc, most);
     add_lists(alloc, &mut violations, document, DocumentKind::TypeSystem)?;
@@ -125,8 +131,12 @@ pub fn validate<'t>(
     document: &SyntaxNode<'t>,
     most: usize,
 ) -> Result<Vec<Violation<'t>>, AllocError>
-    ensures exact { IfOk result (λ found. AreBreaches most (BreaksAs (kind_of (node_place document.now)) (node_place document.now)) (map as_breach found.items)) }
-    ensures valid { IfOk result (λ found. 0 < most → ((found.items ≡ []) ↔ IsValidAs (kind_of (node_place document.now)) (node_place document.now))) }
+    ensures exact { IfOk result
+        (λ found. AreBreaches most (BreaksAs (kind_of (node_place document.now)) (node_place document.now))
+        (map as_breach found.items)) }
+    ensures valid { IfOk result
+        (λ found. 0 < most → ((found.items ≡ [])
+        ↔ IsValidAs (kind_of (node_place document.now)) (node_place document.now))) }
 {
     match document_kind(document) {
         DocumentKind::Executable => validate_executable(alloc, document, most),

@@ -1,9 +1,12 @@
 -- The names in a document, their meanings (GraphQL, October 2021), and where these are defined and used.
-use Rattle.std.specs.Prelude.{ℕ, List, [], ◌∷◌, Bool, true, false, not, if◌then◌else◌, ◌&&◌, ◌||◌, Option, Some, None, option_and_then, option_map, unwrap_or}
+use Rattle.std.specs.Prelude.{ℕ, List, [], ◌∷◌, Bool, true, false, not, if◌then◌else◌, ◌&&◌, ◌||◌, Option, Some, None}
+use Rattle.std.specs.Prelude.{option_and_then, option_map, unwrap_or}
 use Rattle.std.specs.List.{filter, find}
 use Rattle.std.specs.Str.{bytes_eq}
-use Rattle.document_grammar.specs.declared.kind.SyntaxKind.TheVariants.{DIRECTIVE, DIRECTIVE_DEFINITION, FRAGMENT_DEFINITION, FRAGMENT_NAME}
-use Rattle.document_grammar.specs.declared.kind.SyntaxKind.TheVariants.{IDENT, NAMED_TYPE, OPERATION_DEFINITION, VARIABLE, VARIABLE_DEFINITION}
+use Rattle.document_grammar.specs.declared.kind.SyntaxKind.TheVariants.{DIRECTIVE, DIRECTIVE_DEFINITION}
+use Rattle.document_grammar.specs.declared.kind.SyntaxKind.TheVariants.{FRAGMENT_DEFINITION, FRAGMENT_NAME, IDENT}
+use Rattle.document_grammar.specs.declared.kind.SyntaxKind.TheVariants.{NAMED_TYPE, OPERATION_DEFINITION, VARIABLE}
+use Rattle.document_grammar.specs.declared.kind.SyntaxKind.TheVariants.{VARIABLE_DEFINITION}
 use Rattle.apollo_tree.specs.Above.{at_or_above}
 use Rattle.apollo_tree.specs.AtOffset.{leaves_at}
 use Rattle.apollo_tree.specs.Below.{at_or_below, is_leaf_place}
@@ -11,7 +14,8 @@ use Rattle.apollo_tree.specs.Order.{Place, parent_place, text_at}
 use Rattle.apollo_cst_core.specs.Kinds.{is_of, is_of_one}
 use Rattle.editor_answers.specs.declared.names.Meaning.{Meaning}
 use Rattle.editor_answers.specs.declared.names.NameKind.{NameKind}
-use Rattle.editor_answers.specs.declared.names.NameKind.TheVariants.{Operation, Fragment, Variable, «Type» as of_type, Directive}
+use Rattle.editor_answers.specs.declared.names.NameKind.TheVariants.{Operation, Fragment, Variable, «Type» as of_type}
+use Rattle.editor_answers.specs.declared.names.NameKind.TheVariants.{Directive}
 use Rattle.editor_answers.specs.declared.names.TheConstants.{TYPE_DEFINITIONS, TYPE_EXTENSIONS}
 
 -- ---- the meaning of a name
@@ -45,11 +49,13 @@ kind_in node = find (λ kind. names kind node) (Operation ∷ Fragment ∷ Varia
 
 -- what a leaf that is an identifier means, where it is the name of something that a document defines
 abbrev pub meaning_at : Place → Option Meaning
-meaning_at leaf = option_map (λ kind. record { kind = kind; defines = holds (defines kind) (named_by leaf) }) (option_and_then kind_in (named_by leaf))
+meaning_at leaf = option_map (λ kind. record { kind = kind; defines = holds (defines kind) (named_by leaf) })
+    (option_and_then kind_in (named_by leaf))
 
 -- the leaf is a name, with this text, of such a thing
 abbrev pub is_name : NameKind → List ℕ → Place → Bool
-is_name kind text leaf = is_leaf_place leaf && (is_of IDENT leaf && (holds (names kind) (named_by leaf) && bytes_eq (text_at leaf) text))
+is_name kind text leaf =
+    is_leaf_place leaf && (is_of IDENT leaf && (holds (names kind) (named_by leaf) && bytes_eq (text_at leaf) text))
 
 -- the leaf is this name, in the definition of the thing
 abbrev pub is_definition : NameKind → List ℕ → Place → Bool
@@ -91,7 +97,8 @@ wanted kind text scope = record { kind = kind; text = text; scope = scope }
 
 -- the search for a name
 abbrev pub wanted_by : Place → Place → Option Wanted
-wanted_by root leaf = option_map (λ kind. wanted kind (text_at leaf) (scope_of root leaf kind)) (option_and_then kind_in (named_by leaf))
+wanted_by root leaf = option_map (λ kind. wanted kind (text_at leaf) (scope_of root leaf kind))
+    (option_and_then kind_in (named_by leaf))
 
 -- the search for the name at an offset
 abbrev pub wanted_at : Place → ℕ → Option Wanted
@@ -117,7 +124,8 @@ definition_elsewhere root offset other = definition_of (wanted_elsewhere root of
 
 -- a use of the name, or a definition where these count too
 abbrev pub is_reference : Bool → NameKind → List ℕ → Place → Bool
-is_reference with_definition kind text leaf = is_name kind text leaf && (with_definition || not (is_definition kind text leaf))
+is_reference with_definition kind text leaf =
+    is_name kind text leaf && (with_definition || not (is_definition kind text leaf))
 
 -- the uses that are looked for: all that are in its scope, in their order
 abbrev pub references_of : Bool → Option Wanted → List Place
@@ -129,4 +137,5 @@ references_in root offset with_definition = references_of with_definition (wante
 
 -- the uses in another document
 abbrev pub references_elsewhere : Place → ℕ → Place → Bool → List Place
-references_elsewhere root offset other with_definition = references_of with_definition (wanted_elsewhere root offset other)
+references_elsewhere root offset other with_definition =
+    references_of with_definition (wanted_elsewhere root offset other)

@@ -17,7 +17,8 @@ range_tokens encoding text name span = key name ∷ json_tokens (range_of encodi
 
 -- `Location`
 abbrev pub location_value : PositionEncoding → List ℕ → List ℕ → Span → Json
-location_value encoding text uri span = object (member (codes "uri") (string uri) (member (codes "range") (range_of encoding text span) no_members))
+location_value encoding text uri span =
+    object (member (codes "uri") (string uri) (member (codes "range") (range_of encoding text span) no_members))
 
 abbrev pub location_tokens : PositionEncoding → List ℕ → List ℕ → Span → List Token
 location_tokens encoding text uri span = json_tokens (location_value encoding text uri span)

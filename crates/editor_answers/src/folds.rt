@@ -18,8 +18,8 @@ const FOLDABLE: [SyntaxKind; 12] = [
     SyntaxKind::SCHEMA_EXTENSION,
 ];
 
-/// The part of a node that may be folded, brackets included: it begins at the node's opening brace, which in a schema comes after other words.
-/// `None` where the node may not be folded.
+/// The part of a node that may be folded, brackets included: it begins at the node's opening brace, which in a schema
+/// comes after other words. `None` where the node may not be folded.
 pub fn fold_of(node: SyntaxNode<'_>) -> Option<Span> {
     if !is_one_of(node.kind(), &FOLDABLE) {
         return None;

@@ -45,7 +45,8 @@ fn definition_of<'t>(root: SyntaxNode<'t>, offset: usize) -> Option<SyntaxNode<'
     }
 }
 
-// The definition that describes the name at an offset: of its fragment, variable, type or directive, or the field, argument or value that it names.
+// The definition that describes the name at an offset: of its fragment, variable, type or directive, or the field,
+// argument or value that it names.
 fn described_by<'t>(
     root: SyntaxNode<'t>,
     leaf: SyntaxToken<'t>,
@@ -86,8 +87,9 @@ pub fn description_of(alloc: Global, node: SyntaxNode<'_>) -> Result<String, All
     Ok(String::new(alloc))
 }
 
-/// What the document says of the name at an offset, or that ends there: of a fragment, a variable, a type or a directive by its definition, and of a
-/// field, an argument or a value where that is defined. `None` where it says nothing.
+/// What the document says of the name at an offset, or that ends there: of a fragment, a variable, a type or a
+/// directive by its definition, and of a field, an argument or a value where that is defined. `None` where it says
+/// nothing.
 pub fn hover_at<'t>(root: SyntaxNode<'t>, offset: usize) -> Option<Hover<'t>> {
     if let Some(leaf) = identifier_at(root, offset)
         && let Some(definition) = described_by(root, leaf, offset)

@@ -1,8 +1,9 @@
 //! What an editor asks of a tree of a GraphQL document: an outline, folds, the tokens for colours, the names in it.
 //!
 //! Each answer is made from a tree; a parser is not needed here. A `Span` has two byte offsets of the tree's text. The
-//! functions whose names begin with `answer` give the body of the answer to a request of the Language Server Protocol, with lines and columns; those
-//! whose names begin with `push` add the result of a request to the pieces of which its answer is made.
+//! functions whose names begin with `answer` give the body of the answer to a request of the Language Server Protocol,
+//! with lines and columns; those whose names begin with `push` add the result of a request to the pieces of which its
+//! answer is made.
 //!
 //! `gqlls_server`, the crate above, calls one function for each request.
 #![tactic(auto)]

@@ -28,8 +28,8 @@ fn leaf_over<'t>(root: SyntaxNode<'t>, offset: usize) -> Option<Innermost<'t>>
     }
 }
 
-/// The parts of the text that hold the byte at an offset, from a leaf out to the whole document, each once. It fails only where memory is
-/// refused.
+/// The parts of the text that hold the byte at an offset, from a leaf out to the whole document, each once. It fails
+/// only where memory is refused.
 pub fn selection(
     alloc: Global,
     root: SyntaxNode<'_>,

@@ -146,8 +146,9 @@ fn push_token(
     Ok(())
 }
 
-/// The tokens of the part of a text that `within` is, also those that are only partly in it, by the root of the text's tree. They are in the
-/// order of the text, and none goes over the end of a line. It fails only where memory is refused.
+/// The tokens of the part of a text that `within` is, also those that are only partly in it, by the root of the text's
+/// tree. They are in the order of the text, and none goes over the end of a line. It fails only where memory is
+/// refused.
 pub fn semantic_tokens(
     alloc: Global,
     source: &str,

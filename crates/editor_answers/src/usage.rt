@@ -8,7 +8,9 @@ ghost use Rattle.apollo_tree.specs.References.{node_place, token_place};
 ghost use Rattle.apollo_tree.specs.Yields.{element_place};
 ghost use Rattle.document_grammar.specs.declared.kind.SyntaxKind.TheVariants.{OPERATION_DEFINITION};
 ghost use Rattle.apollo_cst_core.specs.Kinds.{is_of};
-ghost use Rattle.editor_answers.specs.Names.{above, definition_elsewhere, definition_in, is_definition, is_name, is_reference, references_elsewhere, references_in, scope_of, wanted, wanted_at, wanted_elsewhere};
+ghost use Rattle.editor_answers.specs.Names.{above, definition_elsewhere, definition_in, is_definition, is_name};
+ghost use Rattle.editor_answers.specs.Names.{is_reference, references_elsewhere, references_in, scope_of, wanted};
+ghost use Rattle.editor_answers.specs.Names.{wanted_at, wanted_elsewhere};
 ghost use Rattle.editor_answers.specs.Parts.{bounds};
 
 use crate::labels::identifier_at;
@@ -39,7 +41,8 @@ fn operation_from<'t>(node: SyntaxNode<'t>) -> Option<SyntaxNode<'t>>
 
 // The operation that a leaf is in.
 fn operation_around<'t>(leaf: SyntaxToken<'t>) -> Option<SyntaxNode<'t>>
-    ensures { option_map node_place result ≡ find (is_of OPERATION_DEFINITION) (above (parent_place (token_place leaf.entry))) }
+    ensures { option_map node_place result
+        ≡ find (is_of OPERATION_DEFINITION) (above (parent_place (token_place leaf.entry))) }
 {
     operation_from(leaf.parent()?)
 }
@@ -59,7 +62,8 @@ fn scope_of<'t>(root: SyntaxNode<'t>, leaf: SyntaxToken<'t>, kind: NameKind) -> 
 
 // The name at an offset.
 fn target_at<'t>(root: SyntaxNode<'t>, offset: usize) -> Option<Target<'t>>
-    ensures { option_map (λ target. wanted target.kind target.text.now (node_place target.scope)) result ≡ wanted_at (node_place root.entry) offset }
+    ensures { option_map (λ target. wanted target.kind target.text.now (node_place target.scope)) result
+        ≡ wanted_at (node_place root.entry) offset }
 {
     let leaf = identifier_at(root, offset)?;
     let kind = kind_of(leaf)?;
@@ -96,14 +100,17 @@ fn is_definition(element: SyntaxElement<'_>, target: Target<'_>) -> bool
 
 // Whether it is a use of the name, or a definition where these are looked for too.
 fn is_reference(element: SyntaxElement<'_>, target: Target<'_>, with_definition: bool) -> bool
-    ensures { result ≡ is_reference with_definition target.entry.kind target.entry.text.now (element_place element.entry) }
+    ensures { result ≡ is_reference with_definition target.entry.kind target.entry.text.now
+        (element_place element.entry) }
 {
     is_name(element, target) && (with_definition || !is_definition(element, target))
 }
 
 // Where the name is defined that is looked for.
 fn first_definition(target: Target<'_>) -> Option<Span>
-    ensures { option_map bounds result ≡ option_map range_at (find (is_definition target.entry.kind target.entry.text.now) (at_or_below (node_place target.entry.scope))) }
+    ensures { option_map bounds result
+        ≡ option_map range_at (find (is_definition target.entry.kind target.entry.text.now)
+        (at_or_below (node_place target.entry.scope))) }
 {
     for element in target.scope.descendants_with_tokens() {
         if is_definition(element, target) {
@@ -113,9 +120,9 @@ fn first_definition(target: Target<'_>) -> Option<Span>
     None
 }
 
-/// Where the operation, fragment, variable, type or directive is defined whose name is at an offset of a text, or ends there, by the root of the text's tree:
-/// the part that the name takes in the definition. `None` where there is no such name or no definition. The first counts where there are
-/// several.
+/// Where the operation, fragment, variable, type or directive is defined whose name is at an offset of a text, or ends
+/// there, by the root of the text's tree: the part that the name takes in the definition. `None` where there is no such
+/// name or no definition. The first counts where there are several.
 pub fn definition(root: SyntaxNode<'_>, offset: usize) -> Option<Span>
     ensures { option_map bounds result ≡ option_map range_at (definition_in (node_place root.entry) offset) }
 {
@@ -128,7 +135,8 @@ fn target_elsewhere<'t>(
     offset: usize,
     other: SyntaxNode<'t>,
 ) -> Option<Target<'t>>
-    ensures { option_map (λ target. wanted target.kind target.text.now (node_place target.scope)) result ≡ wanted_elsewhere (node_place root.entry) offset (node_place other.entry) }
+    ensures { option_map (λ target. wanted target.kind target.text.now (node_place target.scope)) result
+        ≡ wanted_elsewhere (node_place root.entry) offset (node_place other.entry) }
 {
     let target = target_at(root, offset)?;
     match target.kind {
@@ -141,14 +149,15 @@ fn target_elsewhere<'t>(
     }
 }
 
-/// Where a document, by the root of its tree, defines the name at an offset of another; `None` where it doesn't, and for the name of an operation or a
-/// variable.
+/// Where a document, by the root of its tree, defines the name at an offset of another; `None` where it doesn't, and
+/// for the name of an operation or a variable.
 pub fn definition_elsewhere(
     root: SyntaxNode<'_>,
     offset: usize,
     other: SyntaxNode<'_>,
 ) -> Option<Span>
-    ensures { option_map bounds result ≡ option_map range_at (definition_elsewhere (node_place root.entry) offset (node_place other.entry)) }
+    ensures { option_map bounds result
+        ≡ option_map range_at (definition_elsewhere (node_place root.entry) offset (node_place other.entry)) }
 {
     first_definition(target_elsewhere(root, offset, other)?)
 }
@@ -160,7 +169,8 @@ fn all_references(
     with_definition: bool,
 ) -> Result<Vec<Span>, AllocError>
     ensures { IfOk result (λ found. map bounds found.items ≡ map range_at
-        (filter (is_reference with_definition target.entry.kind target.entry.text.now) (at_or_below (node_place target.entry.scope)))) }
+        (filter (is_reference with_definition target.entry.kind target.entry.text.now)
+        (at_or_below (node_place target.entry.scope)))) }
 {
     let mut found = Vec::new(alloc);
     for element in target.scope.descendants_with_tokens() {
@@ -171,15 +181,16 @@ fn all_references(
     Ok(found)
 }
 
-/// Where the name is used that is at an offset of a text, or ends there, in the order of the text; where it is defined too when `with_definition`
-/// says so. It fails only where memory is refused.
+/// Where the name is used that is at an offset of a text, or ends there, in the order of the text; where it is defined
+/// too when `with_definition` says so. It fails only where memory is refused.
 pub fn references(
     alloc: Global,
     root: SyntaxNode<'_>,
     offset: usize,
     with_definition: bool,
 ) -> Result<Vec<Span>, AllocError>
-    ensures { IfOk result (λ found. map bounds found.items ≡ map range_at (references_in (node_place root.entry) offset with_definition)) }
+    ensures { IfOk result (λ found. map bounds found.items
+        ≡ map range_at (references_in (node_place root.entry) offset with_definition)) }
 {
     match target_at(root, offset) {
         Some(target) => all_references(alloc, target, with_definition),
@@ -187,8 +198,9 @@ pub fn references(
     }
 }
 
-/// Where a document, by the root of its tree, uses the name at an offset of another, in the order of its text; where it defines it too when
-/// `with_definition` says so. The names of operations and variables are used in their own document alone. It fails only where memory is refused.
+/// Where a document, by the root of its tree, uses the name at an offset of another, in the order of its text; where it
+/// defines it too when `with_definition` says so. The names of operations and variables are used in their own document
+/// alone. It fails only where memory is refused.
 pub fn references_elsewhere(
     alloc: Global,
     root: SyntaxNode<'_>,

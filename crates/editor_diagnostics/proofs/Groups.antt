@@ -1,6 +1,6 @@
 -- The errors of the definitions, and the remarks on them.
-use Rattle.std.proofs.Common.{◌≡◌, ◌<◌, ◌+◌, ◌-◌, ℕ, suc, get_or, List, [], ◌∷◌, ◌++◌, Bool, true, false, cond, None, map, take, drop, length, min}
-use Rattle.std.proofs.Common.{ap, refl, sym, ◌∙◌, inl, inr, arith}
+use Rattle.std.proofs.Common.{◌≡◌, ◌<◌, ◌+◌, ◌-◌, ℕ, suc, get_or, List, [], ◌∷◌, ◌++◌, Bool, true, false, cond, None}
+use Rattle.std.proofs.Common.{map, take, drop, length, min, ap, refl, sym, ◌∙◌, inl, inr, arith}
 use Rattle.std.specs.Prelude.{take_while}
 use Rattle.std.proofs.lemmas.Bool.{cases_Bool}
 use Rattle.std.proofs.lemmas.List.{length-map, map-append, take-map, take_min}
@@ -21,9 +21,11 @@ abbrev remarks_on : List Group → List Remarked
 remarks_on gs = map syntax_remark (take 100 gs) ++ more_remarks (length gs - 100)
 
 -- the remarks on the first hundred groups, and how many more there are
-pub capped : (starts : List ℕ) (errors : List Diagnostic) (items slice : List ErrorGroup) (most : ℕ) (found now : List Remarked)
+pub capped : (starts : List ℕ) (errors : List Diagnostic) (items slice : List ErrorGroup) (most : ℕ)
+    (found now : List Remarked)
     → map as_group items ≡ groups starts errors → slice ≡ items → most ≡ min 100 (length slice)
-    → found ≡ map syntax_remark (map as_group (take most slice)) → now ≡ found ++ more_remarks (length slice - most) → now ≡ syntax_remarks starts errors
+    → found ≡ map syntax_remark (map as_group (take most slice)) → now ≡ found ++ more_remarks (length slice - most)
+    → now ≡ syntax_remarks starts errors
 capped starts errors items slice most found now are view at_most first added =
     let all : List Group = map as_group slice in
     let size : length all ≡ length slice = length-map slice as_group in
@@ -36,15 +38,19 @@ capped starts errors items slice most found now are view at_most first added =
     ∙ ap remarks_on (ap (map as_group) view ∙ are)
 
 -- one more thing made of the next of some
-pub one_made : {A B C D : Type 0} (f : A → D) (g : C → D) (h : B → C) (made now : List A) (all : List B) (k : ℕ) (x : A) (b : B)
-    → map f made ≡ map g (map h (take k all)) → now ≡ made ++ x ∷ [] → f x ≡ g (h b) → b ≡ get_or all k b → k < length all
+pub one_made : {A B C D : Type 0} (f : A → D) (g : C → D) (h : B → C) (made now : List A) (all : List B) (k : ℕ)
+    (x : A) (b : B)
+    → map f made ≡ map g (map h (take k all)) → now ≡ made ++ x ∷ [] → f x ≡ g (h b)
+    → b ≡ get_or all k b → k < length all
     → map f now ≡ map g (map h (take (k + 1) all))
 one_made f g h made now all k x b so_far added is item within =
     let next : k + 1 ≡ suc k = omega arith in
     let taken : take (k + 1) all ≡ take k all ++ b ∷ [] =
     ap (λ (n : ℕ). take n all) next ∙ take-suc all k b within ∙ ap (λ y. take k all ++ y ∷ []) (sym item) in
-    ap (map f) added ∙ map-append f made (x ∷ []) ∙ ap (λ ys. ys ++ f x ∷ []) so_far ∙ ap (λ y. map g (map h (take k all)) ++ y ∷ []) is
-    ∙ sym (ap (λ bs. map g (map h bs)) taken ∙ ap (map g) (map-append h (take k all) (b ∷ [])) ∙ map-append g (map h (take k all)) (h b ∷ []))
+    ap (map f) added ∙ map-append f made (x ∷ []) ∙ ap (λ ys. ys ++ f x ∷ []) so_far
+    ∙ ap (λ y. map g (map h (take k all)) ++ y ∷ []) is
+    ∙ sym (ap (λ bs. map g (map h bs)) taken ∙ ap (map g) (map-append h (take k all) (b ∷ []))
+    ∙ map-append g (map h (take k all)) (h b ∷ []))
 
 -- whether the first error is in front of where a definition begins, or not
 in_first : (start : ℕ) (starts : List ℕ) (error : Diagnostic) (errors : List Diagnostic) → is_earlier start error ≡ true
@@ -53,19 +59,23 @@ in_first : (start : ℕ) (starts : List ℕ) (error : Diagnostic) (errors : List
     ∷ groups starts (drop (length (take_while (is_earlier start) errors)) errors)
 in_first start starts error errors before =
     let these : take_while (is_earlier start) (error ∷ errors) ≡ error ∷ take_while (is_earlier start) errors =
-    take_while-cons (is_earlier start) error errors ∙ ap (λ (b : Bool). cond b (error ∷ take_while (is_earlier start) errors) []) before in
+    take_while-cons (is_earlier start) error errors
+    ∙ ap (λ (b : Bool). cond b (error ∷ take_while (is_earlier start) errors) []) before in
     ap (λ (xs : List Diagnostic). group_of xs ++ groups starts (drop (length xs) (error ∷ errors))) these
 
-in_later : (start : ℕ) (starts : List ℕ) (error : Diagnostic) (errors : List Diagnostic) → is_earlier start error ≡ false
+in_later : (start : ℕ) (starts : List ℕ) (error : Diagnostic) (errors : List Diagnostic)
+    → is_earlier start error ≡ false
     → groups (start ∷ starts) (error ∷ errors) ≡ groups starts (error ∷ errors)
 in_later start starts error errors after =
     let these : take_while (is_earlier start) (error ∷ errors) ≡ [] =
-    take_while-cons (is_earlier start) error errors ∙ ap (λ (b : Bool). cond b (error ∷ take_while (is_earlier start) errors) []) after in
+    take_while-cons (is_earlier start) error errors
+    ∙ ap (λ (b : Bool). cond b (error ∷ take_while (is_earlier start) errors) []) after in
     ap (λ (xs : List Diagnostic). group_of xs ++ groups starts (drop (length xs) (error ∷ errors))) these
 
 -- the first group begins with the first error
 first_group : (starts : List ℕ) (error : Diagnostic) (errors : List Diagnostic)
-    → (others : ℕ) × (more : List Group) × (groups starts (error ∷ errors) ≡ record { first = error; others = others } ∷ more)
+    → (others : ℕ) × (more : List Group)
+    × (groups starts (error ∷ errors) ≡ record { first = error; others = others } ∷ more)
 first_group [] error errors = (length errors, [], refl)
 first_group (start ∷ starts) error errors = elim (cases_Bool (is_earlier start error)) [
   | inl before ↦ (_, _, in_first start starts error errors before)
@@ -82,4 +92,5 @@ no_groups (start ∷ starts) = no_groups starts
 pub about_first : (starts : List ℕ) (errors : List Diagnostic) → IsAboutFirst errors (syntax_remarks starts errors)
 about_first starts [] = ap remarks_on (no_groups starts)
 about_first starts (error ∷ errors) =
-    (let first = first_group starts error errors in (first.0, None, remarks_after first.0 error first.1, ap remarks_on first.2))
+    (let first = first_group starts error errors in
+    (first.0, None, remarks_after first.0 error first.1, ap remarks_on first.2))

@@ -12,16 +12,19 @@ use Rattle.editor_diagnostics.specs.Remarks.{Remarked, severity_number}
 
 -- a brace, which is one byte; no offset is greater than 2 ^ 64 - 1
 abbrev pub brace_range : PositionEncoding → List ℕ → ℕ → Json
-brace_range encoding text brace = range_value (position_of encoding text brace) (position_of encoding text (min (brace + 1) (2 ^ 64 - 1)))
+brace_range encoding text brace =
+    range_value (position_of encoding text brace) (position_of encoding text (min (brace + 1) (2 ^ 64 - 1)))
 
 -- `Location` (Language Server Protocol 3.17)
 abbrev pub brace_location : List ℕ → PositionEncoding → List ℕ → ℕ → Json
-brace_location uri encoding text brace = object (member (codes "uri") (string uri) (member (codes "range") (brace_range encoding text brace) no_members))
+brace_location uri encoding text brace =
+    object (member (codes "uri") (string uri) (member (codes "range") (brace_range encoding text brace) no_members))
 
 -- `DiagnosticRelatedInformation`
 abbrev pub brace_information : List ℕ → PositionEncoding → List ℕ → ℕ → Json
 brace_information uri encoding text brace =
-    object (member (codes "location") (brace_location uri encoding text brace) (member (codes "message") (string (codes "this { is never closed")) no_members))
+    object (member (codes "location") (brace_location uri encoding text brace)
+    (member (codes "message") (string (codes "this { is never closed")) no_members))
 
 -- a brace that is named
 abbrev pub related_members : List ℕ → PositionEncoding → List ℕ → Option ℕ → Members
@@ -51,7 +54,8 @@ abbrev pub publish_params : List ℕ → Option ℤ → List Json → Members
 publish_params uri (Some version) diagnostics =
     member (codes "uri") (string uri) (member (codes "version") (number (signed_decimal version))
     (member (codes "diagnostics") (array (items_of diagnostics)) no_members))
-publish_params uri None diagnostics = member (codes "uri") (string uri) (member (codes "diagnostics") (array (items_of diagnostics)) no_members)
+publish_params uri None diagnostics =
+    member (codes "uri") (string uri) (member (codes "diagnostics") (array (items_of diagnostics)) no_members)
 
 -- the body is the notice of these diagnostics of a document
 abbrev pub IsNoticeAbout : List ℕ → Option ℤ → List Json → List ℕ → Type 0
@@ -59,6 +63,7 @@ IsNoticeAbout uri version diagnostics body = IsNoticeOf method (publish_params u
 
 -- the body has these remarks on this text, at the positions where a client reads them
 pub record IsPublication
-    (uri : List ℕ) (version : Option ℤ) (encoding : PositionEncoding) (text : List ℕ) (remarks : List Remarked) (body : List ℕ) : Type 0 where
+    (uri : List ℕ) (version : Option ℤ) (encoding : PositionEncoding) (text : List ℕ) (remarks : List Remarked)
+    (body : List ℕ) : Type 0 where
   pub notice : IsNoticeAbout uri version (map (remark_diagnostic uri encoding text) remarks) body
   pub read : (offset : ℕ) → IsReadAt encoding text offset (position_of encoding text offset)

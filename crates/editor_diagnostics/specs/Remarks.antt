@@ -9,8 +9,8 @@ abbrev pub severity_number : Severity → ℕ
 severity_number Error = 1
 severity_number Warning = 2
 
--- the bytes from one offset up to another, the rule that it is about, how serious it is, the message, and where a brace opens that is never closed, if that
--- is what is wrong
+-- the bytes from one offset up to another, the rule that it is about, how serious it is, the message, and where a brace
+-- opens that is never closed, if that is what is wrong
 pub record Remarked : Type 0 where
   pub start : ℕ
   pub end : ℕ

@@ -1,6 +1,6 @@
 -- The syntax errors of a document as remarks: one for each definition that has some.
-use Rattle.std.specs.Prelude.{◌≡◌, ℕ, ◌+◌, ◌-◌, ◌^◌, ◌==◌, if◌then◌else◌, Bool, not, List, [], ◌∷◌, ◌++◌, length, map, take, min}
-use Rattle.std.specs.Prelude.{codes, decimal, take_while, Option, None}
+use Rattle.std.specs.Prelude.{◌≡◌, ℕ, ◌+◌, ◌-◌, ◌^◌, ◌==◌, if◌then◌else◌, Bool, not, List, [], ◌∷◌, ◌++◌, length, map}
+use Rattle.std.specs.Prelude.{take, min, codes, decimal, take_while, Option, None}
 use Rattle.std.specs.List.{starts_with}
 use Rattle.apollo_lexer.specs.Diagnostics.{Diagnostic, subject_text}
 use Rattle.lexical_grammar.specs.Characters.{is_line_terminator}
@@ -25,7 +25,8 @@ words_for message =
     else if begins message (codes "expected a StringValue") then codes "expected a definition"
     else if begins message (codes "expected definition") then codes "expected a definition"
     else if begins message (codes "Unexpected <EOF>") then codes "expected a definition"
-    else if begins message (codes "exptected an Implements") then codes "expected Implements Interfaces, Directives or a Fields Definition"
+    else if begins message (codes "exptected an Implements") then codes
+    "expected Implements Interfaces, Directives or a Fields Definition"
     else message
 
 abbrev pub noun_of : ℕ → List ℕ
@@ -33,7 +34,8 @@ noun_of n = if n == 1 then codes "error" else codes "errors"
 
 -- how many errors follow in the same definition
 abbrev pub others_words : ℕ → List ℕ
-others_words n = if n == 0 then [] else codes " (" ++ (decimal n ++ (codes " more " ++ (noun_of n ++ codes " before the next definition)")))
+others_words n = if n == 0 then [] else codes " ("
+    ++ (decimal n ++ (codes " more " ++ (noun_of n ++ codes " before the next definition)")))
 
 -- ---- the errors of each definition
 
@@ -44,7 +46,8 @@ as_group g = record { first = g.first.now; others = g.others }
 
 -- the end of the text that an error is about, or of that text's first line; no offset is greater than 2 ^ 64 - 1
 abbrev pub mark_end : Diagnostic → ℕ
-mark_end error = min (error.index + length (take_while (λ c. not (is_line_terminator c)) (subject_text error.subject))) (2 ^ 64 - 1)
+mark_end error = min (error.index + length (take_while (λ c. not (is_line_terminator c)) (subject_text error.subject)))
+    (2 ^ 64 - 1)
 
 -- an error is marked from where it begins
 abbrev pub syntax_remark : Group → Remarked
@@ -69,9 +72,11 @@ more_remarks n =
       open_brace = None;
     } ∷ []
 
--- one remark for each definition that has errors, about the first of them, and where there are more than a hundred their number
+-- one remark for each definition that has errors, about the first of them, and where there are more than a hundred
+-- their number
 abbrev pub syntax_remarks : List ℕ → List Diagnostic → List Remarked
-syntax_remarks starts errors = map syntax_remark (take 100 (groups starts errors)) ++ more_remarks (length (groups starts errors) - 100)
+syntax_remarks starts errors =
+    map syntax_remark (take 100 (groups starts errors)) ++ more_remarks (length (groups starts errors) - 100)
 
 -- where there are errors, the first remark is about the first of them, and may name a brace
 abbrev pub IsAboutFirst : List Diagnostic → List Remarked → Type 0

@@ -12,17 +12,20 @@ use Rattle.editor_diagnostics.specs.declared.remark.Remark.{Remark}
 -- the parameters, up to the diagnostics
 abbrev pub front_tokens : List ℕ → Option ℤ → List Token
 front_tokens uri (Some version) =
-    begin_object ∷ key (codes "uri") ∷ string uri ∷ key (codes "version") ∷ number (signed_decimal version) ∷ key (codes "diagnostics") ∷ begin_array ∷ []
+    begin_object ∷ key (codes "uri") ∷ string uri ∷ key (codes "version") ∷ number (signed_decimal version)
+    ∷ key (codes "diagnostics") ∷ begin_array ∷ []
 front_tokens uri None = begin_object ∷ key (codes "uri") ∷ string uri ∷ key (codes "diagnostics") ∷ begin_array ∷ []
 
 -- a brace that a diagnostic names, up to its range, and what follows that
 abbrev pub brace_front : List ℕ → List Token
 brace_front uri =
-    key (codes "relatedInformation") ∷ begin_array ∷ begin_object ∷ key (codes "location") ∷ begin_object ∷ key (codes "uri") ∷ string uri
+    key (codes "relatedInformation") ∷ begin_array ∷ begin_object ∷ key (codes "location") ∷ begin_object
+    ∷ key (codes "uri") ∷ string uri
     ∷ key (codes "range") ∷ []
 
 abbrev pub brace_end : List Token
-brace_end = end_object ∷ key (codes "message") ∷ string (codes "this { is never closed") ∷ end_object ∷ end_array ∷ end_object ∷ []
+brace_end = end_object ∷ key (codes "message") ∷ string (codes "this { is never closed") ∷ end_object
+    ∷ end_array ∷ end_object ∷ []
 
 abbrev pub remark_tokens : List ℕ → PositionEncoding → List ℕ → Remark → List Token
 remark_tokens uri encoding text remark = json_tokens (remark_diagnostic uri encoding text (as_remarked remark))

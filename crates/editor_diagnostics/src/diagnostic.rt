@@ -14,7 +14,9 @@ use std::alloc::AllocError;
 
 // What follows the range of a remark, up to its last members.
 fn remark_words<'p>(remark: &'p Remark) -> [Piece<'p>; 8]
-    ensures { (others : Members) → flat_map tokens_of result ++ members_tokens others ≡ members_tokens (words_of_remark (as_remarked remark.now) others) }
+    ensures { (others : Members)
+        → flat_map tokens_of result
+        ++ members_tokens others ≡ members_tokens (words_of_remark (as_remarked remark.now) others) }
 {
     [
         Piece::Key("code"),
@@ -94,7 +96,8 @@ pub(crate) fn push_remark<'p>(
     remark: &'p Remark,
 ) -> Result<(), AllocError>
     ensures { OnOk result (flat_map tokens_of pieces.new.items ≡ flat_map tokens_of pieces.old.items
-        ++ json_tokens (remark_diagnostic uri.now positions.now.encoding positions.now.text.now (as_remarked remark.now))) }
+        ++ json_tokens (remark_diagnostic uri.now positions.now.encoding positions.now.text.now
+        (as_remarked remark.now))) }
 {
     pieces.extend_from_slice(&[Piece::Object, Piece::Key("range")])?;
     pieces.extend_from_slice(&positions.range(remark.start, remark.end))?;

@@ -8,7 +8,8 @@ fn begins(message: &str, front: &str) -> bool
     message.as_bytes().starts_with(front.as_bytes())
 }
 
-/// The words for a message of the parser: with a punctuator in place of its name, and without the text that was found, which is marked.
+/// The words for a message of the parser: with a punctuator in place of its name, and without the text that was found,
+/// which is marked.
 pub(crate) fn words_for(message: &str) -> &str
     ensures { result.now ≡ words_for message.now }
 {

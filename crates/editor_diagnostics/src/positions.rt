@@ -54,8 +54,8 @@ impl<'t> Positions<'t> {
         offset
     }
 
-    /// The position of a byte offset, by which a client finds that byte. One after the text counts as its end, and one between the CR and
-    /// the LF of a CR LF, which no client can name, as in front of them.
+    /// The position of a byte offset, by which a client finds that byte. One after the text counts as its end, and one
+    /// between the CR and the LF of a CR LF, which no client can name, as in front of them.
     pub fn position(&self, offset: usize) -> Position
         ensures value { result ≡ position_of self.now.encoding self.now.text.now offset }
         ensures read { IsReadAt self.now.encoding self.now.text.now offset result }
@@ -64,17 +64,21 @@ impl<'t> Positions<'t> {
         self.lines.position(self.encoding, self.cursor(offset))
     }
 
-    /// The byte offset of a position, which is a boundary of characters: as many units are in front of it as the client means.
+    /// The byte offset of a position, which is a boundary of characters: as many units are in front of it as the client
+    /// means.
     pub fn offset(&self, position: Position) -> usize
         ensures boundary { IsCharBoundary self.now.text.now result }
-        ensures position { length (units self.now.encoding (take result self.now.text.now)) ≡ offset_of self.now.encoding (units self.now.encoding self.now.text.now) position }
+        ensures position { length (units self.now.encoding (take result self.now.text.now))
+            ≡ offset_of self.now.encoding (units self.now.encoding self.now.text.now) position }
     {
         self.lines.offset(self.encoding, position)
     }
 
     /// The pieces of JSON of the range between two byte offsets.
     pub fn range(&self, start: usize, end: usize) -> [Piece<'static>; 16]
-        ensures { flat_map tokens_of result ≡ json_tokens (range_value (position_of self.now.encoding self.now.text.now start) (position_of self.now.encoding self.now.text.now end)) }
+        ensures { flat_map tokens_of result
+            ≡ json_tokens (range_value (position_of self.now.encoding self.now.text.now start)
+            (position_of self.now.encoding self.now.text.now end)) }
     {
         let start = self.position(start);
         let end = self.position(end);

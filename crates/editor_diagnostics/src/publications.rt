@@ -66,7 +66,9 @@ fn push_remarks<'p>(
 // Ends the parameters, and gives the notice.
 fn end(alloc: Global, pieces: &mut Vec<Piece<'_>>) -> Result<Vec<u8>, AllocError>
     requires { AreOfObject (flat_map tokens_of pieces.old.items ++ end_array ∷ end_object ∷ []) }
-    ensures params { IfOk result (λ body. (members : Members) → flat_map tokens_of pieces.old.items ++ end_array ∷ end_object ∷ [] ≡ json_tokens (object members)
+    ensures params { IfOk result
+        (λ body. (members : Members)
+        → flat_map tokens_of pieces.old.items ++ end_array ∷ end_object ∷ [] ≡ json_tokens (object members)
         → IsNoticeOf method members body.items) }
     ensures notifies { IfOk result (λ body. IsNotice body.items) }
 {
@@ -83,7 +85,9 @@ pub fn publication(
     remarks: &[Remark],
 ) -> Result<Vec<u8>, AllocError>
     ensures notifies { IfOk result (λ body. IsNotice body.items) }
-    ensures published { IfOk result (λ body. IsPublication uri.now version positions.now.encoding positions.now.text.now (map as_remarked remarks.now)
+    ensures published { IfOk result
+        (λ body. IsPublication uri.now version positions.now.encoding positions.now.text.now
+        (map as_remarked remarks.now)
         body.items) }
 {
     let mut pieces = Vec::new(alloc);

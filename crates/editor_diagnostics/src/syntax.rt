@@ -3,7 +3,8 @@ ghost use Rattle.std.specs.Prelude.{◌≡◌, ◌++◌, IfOk, OnOk, length, map
 ghost use Rattle.lexical_grammar.specs.Characters.{is_line_terminator};
 ghost use Rattle.editor_diagnostics.specs.Remarks.{as_remarked};
 ghost use Rattle.first_errors.specs.Groups.{group_of, groups, is_earlier};
-ghost use Rattle.editor_diagnostics.specs.Syntax.{IsAboutFirst, as_group, mark_end, more_remarks, noun_of, others_words, syntax_remark, syntax_remarks, words_for};
+ghost use Rattle.editor_diagnostics.specs.Syntax.{IsAboutFirst, as_group, mark_end, more_remarks, noun_of};
+ghost use Rattle.editor_diagnostics.specs.Syntax.{others_words, syntax_remark, syntax_remarks, words_for};
 
 use crate::message_words::words_for;
 use crate::remark::{Remark, Severity};
@@ -106,7 +107,8 @@ fn push_others(message: &mut String, others: usize) -> Result<(), AllocError>
 
 // What is wrong, and how many errors follow in the same definition.
 fn message_of(alloc: Global, group: &ErrorGroup<'_>) -> Result<String, AllocError>
-    ensures { IfOk result (λ text. string_bytes text ≡ words_for group.now.first.now.message ++ others_words group.now.others) }
+    ensures { IfOk result (λ text. string_bytes text ≡ words_for group.now.first.now.message
+        ++ others_words group.now.others) }
 {
     let words = words_for(group.first.message());
     let mut text = String::from_str(alloc, words)?;
@@ -157,9 +159,9 @@ fn push_more(alloc: Global, found: &mut Vec<Remark>, more: usize) -> Result<(), 
     Ok(())
 }
 
-/// The remarks on syntax errors of a document, whose definitions begin at some byte offsets: one for each definition that has errors, about the first
-/// of them, with the number of the others; of a hundred definitions, and then one that says how many more have errors. It fails only where memory is
-/// refused.
+/// The remarks on syntax errors of a document, whose definitions begin at some byte offsets: one for each definition
+/// that has errors, about the first of them, with the number of the others; of a hundred definitions, and then one that
+/// says how many more have errors. It fails only where memory is refused.
 pub fn syntax_remarks(
     alloc: Global,
     starts: &[usize],

@@ -1,5 +1,6 @@
 -- A change of a text in bytes, and in its units.
-use Rattle.std.proofs.Common.{◌≡◌, ℕ, ◌+◌, ◌-◌, ◌≤◌, max, List, ◌++◌, length, take, drop, sym, ap, ◌∙◌, subst, inl, inr, arith, length-append}
+use Rattle.std.proofs.Common.{◌≡◌, ℕ, ◌+◌, ◌-◌, ◌≤◌, max, List, ◌++◌, length, take, drop, sym, ap, ◌∙◌, subst, inl, inr}
+use Rattle.std.proofs.Common.{arith, length-append}
 use Rattle.std.specs.Prelude.{Some}
 use Rattle.std.specs.List.{replace_range}
 use Rattle.std.specs.Str.{IsUtf8, IsCharBoundary}
@@ -14,18 +15,25 @@ use Rattle.editor_text.specs.declared.PositionRange.{PositionRange}
 use Rattle.editor_text.specs.Client.{AreOffsets, replaced}
 
 -- the units on both sides of an offset
-split : (e : PositionEncoding) (text : List ℕ) (k : ℕ) → IsUtf8 text → IsCharBoundary text k → units e text ≡ units e (take k text) ++ units e (drop k text)
-split e text k u b = ap (units e) (sym (take-append-drop k text)) ∙ units-append e (take k text) (drop k text) (IsUtf8-take text k u b) (IsUtf8-drop text k u b)
+split : (e : PositionEncoding) (text : List ℕ) (k : ℕ) → IsUtf8 text → IsCharBoundary text k
+    → units e text ≡ units e (take k text) ++ units e (drop k text)
+split e text k u b = ap (units e) (sym (take-append-drop k text))
+    ∙ units-append e (take k text) (drop k text) (IsUtf8-take text k u b) (IsUtf8-drop text k u b)
 
-pub front : (e : PositionEncoding) (text : List ℕ) (k i : ℕ) → IsUtf8 text → IsCharBoundary text k → length (units e (take k text)) ≡ i
+pub front : (e : PositionEncoding) (text : List ℕ) (k i : ℕ) → IsUtf8 text → IsCharBoundary text k
+    → length (units e (take k text)) ≡ i
     → take i (units e text) ≡ units e (take k text)
-front e text k i u b len = ap (λ (v : List ℕ). take i v) (split e text k u b) ∙ take_at (units e (take k text)) (units e (drop k text)) i len
+front e text k i u b len =
+    ap (λ (v : List ℕ). take i v) (split e text k u b) ∙ take_at (units e (take k text)) (units e (drop k text)) i len
 
-pub back : (e : PositionEncoding) (text : List ℕ) (k i : ℕ) → IsUtf8 text → IsCharBoundary text k → length (units e (take k text)) ≡ i
+pub back : (e : PositionEncoding) (text : List ℕ) (k i : ℕ) → IsUtf8 text → IsCharBoundary text k
+    → length (units e (take k text)) ≡ i
     → drop i (units e text) ≡ units e (drop k text)
-back e text k i u b len = ap (λ (v : List ℕ). drop i v) (split e text k u b) ∙ drop_at (units e (take k text)) (units e (drop k text)) i len
+back e text k i u b len =
+    ap (λ (v : List ℕ). drop i v) (split e text k u b) ∙ drop_at (units e (take k text)) (units e (drop k text)) i len
 
-pub replaced-units : (e : PositionEncoding) (text new : List ℕ) (range : PositionRange) (start end : ℕ) → IsUtf8 text → IsUtf8 new
+pub replaced-units : (e : PositionEncoding) (text new : List ℕ) (range : PositionRange) (start end : ℕ)
+    → IsUtf8 text → IsUtf8 new
     → AreOffsets e text range start end
     → units e (replace_range text start end new) ≡ replaced e (units e text) (Some range) (units e new)
 replaced-units e text new range start end u v h =
@@ -35,29 +43,38 @@ replaced-units e text new range start end u v h =
     let j : ℕ = max (offset_of e (units e text) range.start) (offset_of e (units e text) range.end) in
     units-append e (take start text ++ new) (drop end text) (IsUtf8-append (take start text) new left v) right
     ∙ ap (λ (w : List ℕ). w ++ units e (drop end text)) (units-append e (take start text) new left v)
-    ∙ ap (λ (w : List ℕ). (w ++ units e new) ++ units e (drop end text)) (sym (front e text start i u h.starts h.start_offset))
+    ∙ ap (λ (w : List ℕ). (w ++ units e new) ++ units e (drop end text))
+    (sym (front e text start i u h.starts h.start_offset))
     ∙ ap (λ (w : List ℕ). (take i (units e text) ++ units e new) ++ w) (sym (back e text end j u h.ends h.end_offset))
 
 -- the text in front of a change stays
-pub same-front : (text bytes new : List ℕ) (start end : ℕ) → start ≤ length text → bytes ≡ replace_range text start end new → take start bytes ≡ take start text
+pub same-front : (text bytes new : List ℕ) (start end : ℕ) → start ≤ length text
+    → bytes ≡ replace_range text start end new → take start bytes ≡ take start text
 same-front text bytes new start end within is =
     let len : length (take start text) ≡ start = length-take-le start text within in
     ap (take start) is
-    ∙ take-append-le start (take start text ++ new) (drop end text) (omega (arith, len, length-append (take start text) new))
+    ∙ take-append-le start (take start text ++ new) (drop end text)
+    (omega (arith, len, length-append (take start text) new))
     ∙ take_at (take start text) new start len
 
 -- a later offset has no fewer units before it
-pub mono : (e : PositionEncoding) (text : List ℕ) (a b : ℕ) → IsUtf8 text → a ≤ b → IsCharBoundary text a → IsCharBoundary text b
+pub mono : (e : PositionEncoding) (text : List ℕ) (a b : ℕ) → IsUtf8 text → a ≤ b → IsCharBoundary text a
+    → IsCharBoundary text b
     → length (units e (take a text)) ≤ length (units e (take b text))
 mono e text a b u le x y =
     let to : a + (b - a) ≡ b = omega arith in
-    let parts : take b text ≡ take a text ++ take (b - a) (drop a text) = ap (λ (n : ℕ). take n text) (sym to) ∙ take-add a (b - a) text in
-    let both = ap (units e) parts ∙ units-append e (take a text) (take (b - a) (drop a text)) (IsUtf8-take text a u x) (IsUtf8-between text a b u le x y) in
+    let parts : take b text ≡ take a text ++ take (b - a) (drop a text) =
+    ap (λ (n : ℕ). take n text) (sym to) ∙ take-add a (b - a) text in
+    let both = ap (units e) parts
+    ∙ units-append e (take a text) (take (b - a) (drop a text)) (IsUtf8-take text a u x)
+    (IsUtf8-between text a b u le x y) in
     omega (arith, ap length both, length-append (units e (take a text)) (units e (take (b - a) (drop a text))))
 
-pub are-offsets : (e : PositionEncoding) (text : List ℕ) (range : PositionRange) (start end later : ℕ) → IsUtf8 text → IsCharBoundary text start
+pub are-offsets : (e : PositionEncoding) (text : List ℕ) (range : PositionRange) (start end later : ℕ) → IsUtf8 text
+    → IsCharBoundary text start
     → IsCharBoundary text end
-    → length (units e (take start text)) ≡ offset_of e (units e text) range.start → length (units e (take end text)) ≡ offset_of e (units e text) range.end
+    → length (units e (take start text)) ≡ offset_of e (units e text) range.start
+    → length (units e (take end text)) ≡ offset_of e (units e text) range.end
     → later ≡ max end start
     → AreOffsets e text range start later
 are-offsets e text range start end later u x y at to is =
@@ -71,7 +88,8 @@ are-offsets e text range start end later u x y at to is =
             ends = subst (IsCharBoundary text) same x;
             start_offset = at;
             end_offset = ap (λ (n : ℕ). length (units e (take n text))) (sym same) ∙
-                (let m : length (units e (take start text)) ≡ max (offset_of e (units e text) range.start) (offset_of e (units e text) range.end) = omega (
+                (let m : length (units e (take start text))
+                ≡ max (offset_of e (units e text) range.start) (offset_of e (units e text) range.end) = omega (
                   arith,
                   at,
                   to,
@@ -87,7 +105,8 @@ are-offsets e text range start end later u x y at to is =
             ends = subst (IsCharBoundary text) same y;
             start_offset = at;
             end_offset = ap (λ (n : ℕ). length (units e (take n text))) (sym same) ∙
-                (let m : length (units e (take end text)) ≡ max (offset_of e (units e text) range.start) (offset_of e (units e text) range.end) = omega (
+                (let m : length (units e (take end text))
+                ≡ max (offset_of e (units e text) range.start) (offset_of e (units e text) range.end) = omega (
                   arith,
                   at,
                   to,

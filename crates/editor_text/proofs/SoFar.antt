@@ -1,5 +1,6 @@
 -- Edits up to two offsets.
-use Rattle.std.proofs.Common.{◌≡◌, ◌≤◌, ℕ, ◌+◌, ◌-◌, List, [], ◌∷◌, ◌++◌, append_assoc, arith, ap, drop, refl, subst, sym, take, ◌∙◌}
+use Rattle.std.proofs.Common.{◌≡◌, ◌≤◌, ℕ, ◌+◌, ◌-◌, List, [], ◌∷◌, ◌++◌, append_assoc, arith, ap, drop, refl, subst}
+use Rattle.std.proofs.Common.{sym, take, ◌∙◌}
 use Rattle.std.specs.Prelude.{slice_range}
 use Rattle.std.specs.Str.{IsCharBoundary, IsUtf8}
 use Rattle.std.proofs.lemmas.List.{append-nil, take-append-drop}
@@ -22,26 +23,32 @@ front_and : (text : List ℕ) (a b : ℕ) → a ≤ b → take a text ++ slice_r
 front_and text a b le =
     let to : a + (b - a) ≡ b = omega arith in sym (ap (λ (n : ℕ). take n text) (sym to) ∙ take-add a (b - a) text)
 
-made_of : (old new : List ℕ) (from to : ℕ) (step : Step) (edits more : List Edit) (edit : Edit) → IsStep old new from to step
+made_of : (old new : List ℕ) (from to : ℕ) (step : Step) (edits more : List Edit) (edit : Edit)
+    → IsStep old new from to step
     → edit.start ≡ step.start → edit.end ≡ step.end → edit.text.now ≡ slice_range new step.text_start step.text_end
     → spliced old 0 (edits ++ (edit ∷ more)) ≡ take to new ++ spliced old from (edit ∷ more)
     → spliced old 0 (edits ++ (edit ∷ more)) ≡ take step.text_end new ++ spliced old step.end more
 made_of old new from to step edits more edit is start end text so =
     let rest : List ℕ = spliced old step.end more in
-    let parts : spliced old from (edit ∷ more) ≡ slice_range new to step.text_start ++ (slice_range new step.text_start step.text_end ++ rest) =
+    let parts : spliced old from (edit ∷ more) ≡ slice_range new to step.text_start
+    ++ (slice_range new step.text_start step.text_end ++ rest) =
     ap (λ (k : ℕ). slice_range old from k ++ (edit.text.now ++ spliced old edit.end more)) start
     ∙ ap (λ (k : ℕ). slice_range old from step.start ++ (edit.text.now ++ spliced old k more)) end
     ∙ ap (λ (x : List ℕ). slice_range old from step.start ++ (x ++ rest)) text
     ∙ ap (λ (x : List ℕ). x ++ (slice_range new step.text_start step.text_end ++ rest)) is.same in
     so ∙ ap (λ (x : List ℕ). take to new ++ x) parts
-    ∙ sym (append_assoc (take to new) (slice_range new to step.text_start) (slice_range new step.text_start step.text_end ++ rest))
-    ∙ ap (λ (x : List ℕ). x ++ (slice_range new step.text_start step.text_end ++ rest)) (front_and new to step.text_start is.text_after)
+    ∙ sym (append_assoc (take to new) (slice_range new to step.text_start)
+    (slice_range new step.text_start step.text_end ++ rest))
+    ∙ ap (λ (x : List ℕ). x ++ (slice_range new step.text_start step.text_end ++ rest))
+    (front_and new to step.text_start is.text_after)
     ∙ sym (append_assoc (take step.text_start new) (slice_range new step.text_start step.text_end) rest)
     ∙ ap (λ (x : List ℕ). x ++ rest) (front_and new step.text_start step.text_end is.text_ordered)
 
 -- one more edit
-pub one_more : (old new : List ℕ) (from to : ℕ) (step : Step) (edits : List Edit) (edit : Edit) → AreSoFar old new from to edits → IsStep old new from to step
-    → edit.start ≡ step.start → edit.end ≡ step.end → edit.text.now ≡ slice_range new step.text_start step.text_end → IsUtf8 edit.text.now
+pub one_more : (old new : List ℕ) (from to : ℕ) (step : Step) (edits : List Edit) (edit : Edit)
+    → AreSoFar old new from to edits → IsStep old new from to step
+    → edit.start ≡ step.start → edit.end ≡ step.end → edit.text.now ≡ slice_range new step.text_start step.text_end
+    → IsUtf8 edit.text.now
     → AreSoFar old new step.end step.text_end (edits ++ edit ∷ [])
 one_more old new from to step edits edit so is start end text utf8 = record {
   cursor = is.ends;
@@ -50,7 +57,8 @@ one_more old new from to step edits edit so is start end text utf8 = record {
       (so.after (edit ∷ more) (
         record {
           after = subst (λ (k : ℕ). from ≤ k) (sym start) is.after;
-          ordered = subst (λ (k : ℕ). k ≤ edit.end) (sym start) (subst (λ (k : ℕ). step.start ≤ k) (sym end) is.ordered);
+          ordered = subst (λ (k : ℕ). k ≤ edit.end) (sym start)
+              (subst (λ (k : ℕ). step.start ≤ k) (sym end) is.ordered);
           starts = subst (IsCursor old) (sym start) is.starts;
           ends = subst (IsCursor old) (sym end) is.ends;
           utf8 = utf8;
@@ -62,7 +70,8 @@ one_more old new from to step edits edit so is start end text utf8 = record {
 }
 
 -- all of them, where the rest is the same
-pub finished : (old new : List ℕ) (from to : ℕ) (edits : List Edit) → AreSoFar old new from to edits → drop from old ≡ drop to new → AreEdits old new edits
+pub finished : (old new : List ℕ) (from to : ℕ) (edits : List Edit) → AreSoFar old new from to edits
+    → drop from old ≡ drop to new → AreEdits old new edits
 finished old new from to edits so same = record {
   after = subst (λ (x : List Edit). AreAfter old 0 x) (append-nil edits) (so.after [] tt);
   made = ap (λ (x : List Edit). spliced old 0 x) (sym (append-nil edits)) ∙ so.made []

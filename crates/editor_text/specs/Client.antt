@@ -1,4 +1,5 @@
--- What a client has. Its text is a list of units, in the encoding that it agreed on with the server, and its positions count lines and units.
+-- What a client has. Its text is a list of units, in the encoding that it agreed on with the server, and its positions
+-- count lines and units.
 use Rattle.std.specs.Prelude.{◌≡◌, ℕ, ◌≤◌, max, List, length, take, fold}
 use Rattle.std.specs.List.{replace_range}
 use Rattle.std.specs.Str.{IsCharBoundary}
@@ -14,8 +15,8 @@ pub record Opened : Type 0 where
   pub encoding : PositionEncoding
   pub text : List ℕ
 
--- The client's text after a change to its text: a range, from an offset up to another, is replaced. Without a range it is the whole text. A range
--- that ends before it starts is empty.
+-- The client's text after a change to its text: a range, from an offset up to another, is replaced. Without a range it
+-- is the whole text. A range that ends before it starts is empty.
 abbrev pub replaced : PositionEncoding → List ℕ → Option PositionRange → List ℕ → List ℕ
 replaced encoding text None new = new
 replaced encoding text (Some range) new =
@@ -31,7 +32,8 @@ abbrev pub changed_all : PositionEncoding → List ℕ → List Change → List 
 changed_all encoding text changes = fold (changed encoding) text changes
 
 -- two offsets of a text in bytes, which are those of a range
-pub record AreOffsets (encoding : PositionEncoding) (text : List ℕ) (range : PositionRange) (start end : ℕ) : Type 0 where
+pub record AreOffsets (encoding : PositionEncoding) (text : List ℕ) (range : PositionRange)
+    (start end : ℕ) : Type 0 where
   pub ordered : start ≤ end
   pub starts : IsCharBoundary text start
   pub ends : IsCharBoundary text end

@@ -18,7 +18,8 @@ pub(crate) struct Edit<'n> {
 // Clients make each edit on its own, so after this many the last one has all that is left.
 const MOST_EDITS: usize = 10_000;
 
-// For each edit in a line some clients write the whole line, so after this many the next one has all that is left of the line.
+// For each edit in a line some clients write the whole line, so after this many the next one has all that is left of
+// the line.
 const MOST_IN_A_LINE: usize = 100;
 
 // Whether a cursor may be at a byte offset: beside a character, and not inside a CR LF.
@@ -217,8 +218,8 @@ fn step_after(old: &str, new: &str, from: usize, to: usize, others: usize, line:
     joined(old, new, from, to, step, line.end)
 }
 
-/// The edits that make a text another one, in their order. Where both have the same words, the edits lie between them. It fails only where memory is
-/// refused.
+/// The edits that make a text another one, in their order. Where both have the same words, the edits lie between them.
+/// It fails only where memory is refused.
 pub(crate) fn edits<'n>(alloc: Global, old: &str, new: &'n str) -> Result<Vec<Edit<'n>>, AllocError>
     ensures { IfOk result (λ edits. AreEdits old.now new.now edits.items) }
 {

@@ -17,7 +17,8 @@ use std::alloc::{AllocError, Global};
 
 // The pieces of an edit.
 fn pieces_of<'n>(positions: &Positions<'_>, edit: &Edit<'n>) -> [Piece<'n>; 21]
-    ensures { flat_map tokens_of result ≡ json_tokens (edit_value (text_edit positions.now.encoding positions.now.text.now edit.now)) }
+    ensures { flat_map tokens_of result
+        ≡ json_tokens (edit_value (text_edit positions.now.encoding positions.now.text.now edit.now)) }
 {
     let start = positions.position(edit.start);
     let end = positions.position(edit.end);
@@ -52,7 +53,8 @@ fn put_edits(
     positions: &Positions<'_>,
     edits: &[Edit<'_>],
 ) -> Result<LongAnswer, AllocError>
-    ensures tokens { IfOk result (λ new. new ≡ answer ++ flat_map (edit_tokens positions.now.encoding positions.now.text.now) edits.now) }
+    ensures tokens { IfOk result
+        (λ new. new ≡ answer ++ flat_map (edit_tokens positions.now.encoding positions.now.text.now) edits.now) }
     ensures begun { IfOk result (λ new. (id : Json) → IsBegun id answer → IsBegun id new) }
 {
     let mut answer = answer;
@@ -71,7 +73,8 @@ pub fn answer_edits(
 ) -> Result<Vec<u8>, AllocError>
     requires { HasNumbers (value_view id.now) }
     ensures answers { IfOk result (λ body. IsAnswer (value_view id.now) body.items) }
-    ensures edits { IfOk result (λ body. IsEditedBy (value_view id.now) positions.now.encoding positions.now.text.now new.now body.items) }
+    ensures edits { IfOk result
+        (λ body. IsEditedBy (value_view id.now) positions.now.encoding positions.now.text.now new.now body.items) }
 {
     let edits = edits(alloc, positions.text, new)?;
     let answer = LongAnswer::new(alloc, id)?;

@@ -1,13 +1,13 @@
 //! A text that a client has open, and the changes that the client sends.
 //!
-//! A change replaces a range of positions, or the whole text. After it the document has the text that the client has: the contract says so for
-//! a client that counts lines and units of an encoding.
+//! A change replaces a range of positions, or the whole text. After it the document has the text that the client has:
+//! the contract says so for a client that counts lines and units of an encoding.
 //!
-//! `gqlls_server`, the crate above, keeps an `OpenDocument` for each file and calls its `change_all`. For its answers it parses a text whose
-//! quoted strings are `closed` where their lines leave them open.
+//! `gqlls_server`, the crate above, keeps an `OpenDocument` for each file and calls its `change_all`. For its answers
+//! it parses a text whose quoted strings are `closed` where their lines leave them open.
 //!
-//! The other way round, `answer_edits` answers a request by the edits that make a text another one. They are so small that a client keeps its marks, its
-//! folds and its cursor. `gqlls_server` calls it with a document and its layout.
+//! The other way round, `answer_edits` answers a request by the edits that make a text another one. They are so small
+//! that a client keeps its marks, its folds and its cursor. `gqlls_server` calls it with a document and its layout.
 #![tactic(auto)]
 
 ghost use Rattle.std.specs.Prelude.{◌≡◌, string_bytes, IfOk, OnOk, OnErr};
@@ -85,16 +85,21 @@ impl OpenDocument {
     /// Makes a change. Where memory is refused, the document stays as it was.
     pub fn change(&mut self, alloc: Global, change: &Change<'_>) -> Result<(), AllocError>
         ensures encoding { self.new.encoding ≡ self.old.encoding }
-        ensures client { OnOk result (units self.old.encoding self.new.text ≡ changed self.old.encoding (units self.old.encoding self.old.text) change.now) }
+        ensures client { OnOk result
+            (units self.old.encoding self.new.text
+            ≡ changed self.old.encoding (units self.old.encoding self.old.text) change.now) }
         ensures err { OnErr result (self.new ≡ self.old) }
     {
         self.change_all(alloc, &[*change])
     }
 
-    /// Makes some changes, each to the text that the one before it left. Where memory is refused, the document stays as it was before all of them.
+    /// Makes some changes, each to the text that the one before it left. Where memory is refused, the document stays as
+    /// it was before all of them.
     pub fn change_all(&mut self, alloc: Global, changes: &[Change<'_>]) -> Result<(), AllocError>
         ensures encoding { self.new.encoding ≡ self.old.encoding }
-        ensures client { OnOk result (units self.old.encoding self.new.text ≡ changed_all self.old.encoding (units self.old.encoding self.old.text) changes.now) }
+        ensures client { OnOk result
+            (units self.old.encoding self.new.text
+            ≡ changed_all self.old.encoding (units self.old.encoding self.old.text) changes.now) }
         ensures err { OnErr result (self.new ≡ self.old) }
     {
         let mut text = String::from_str(alloc, self.text.as_str())?;
@@ -115,7 +120,9 @@ fn replace(
 ) -> Result<(), AllocError>
     requires { AreFirstStarts (string_bytes text.old) lines.old }
     ensures known { OnOk result (AreFirstStarts (string_bytes text.new) lines.new) }
-    ensures changed { OnOk result (units encoding (string_bytes text.new) ≡ replaced encoding (units encoding (string_bytes text.old)) range (units encoding new.now)) }
+    ensures changed { OnOk result
+        (units encoding (string_bytes text.new)
+        ≡ replaced encoding (units encoding (string_bytes text.old)) range (units encoding new.now)) }
 {
     match range {
         None => {
@@ -138,7 +145,8 @@ fn replace_all(
     text: &mut String,
     changes: &[Change<'_>],
 ) -> Result<(), AllocError>
-    ensures { OnOk result (units encoding (string_bytes text.new) ≡ changed_all encoding (units encoding (string_bytes text.old)) changes.now) }
+    ensures { OnOk result (units encoding (string_bytes text.new)
+        ≡ changed_all encoding (units encoding (string_bytes text.old)) changes.now) }
 {
     let mut lines = FirstLines::new(alloc)?;
     for change in changes {

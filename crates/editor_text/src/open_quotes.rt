@@ -104,8 +104,8 @@ fn close_all(bytes: &mut [u8]) -> bool {
     has_any
 }
 
-/// The text with each quoted string closed that its line leaves open, at the line's end: its letters are blanks, and each byte offset stays. `None` where
-/// there is no such string. It fails only where memory is refused.
+/// The text with each quoted string closed that its line leaves open, at the line's end: its letters are blanks, and
+/// each byte offset stays. `None` where there is no such string. It fails only where memory is refused.
 pub fn closed(alloc: Global, text: &str) -> Result<Option<String>, AllocError>
     ensures { IfOk result (λ r. IfSome r (λ closed. length (string_bytes closed) ≡ length text.now)) }
 {

@@ -1,5 +1,6 @@
 -- Remarks depend on which fragments other documents have, and not on the order of the documents.
-use Rattle.std.proofs.Common.{◌≡◌, zero, suc, Bool, true, false, not, List, [], ◌∷◌, map, take, arith, refl, sym, ap, ◌∙◌}
+use Rattle.std.proofs.Common.{◌≡◌, zero, suc, Bool, true, false, not, List, [], ◌∷◌, map, take, arith, refl, sym, ap}
+use Rattle.std.proofs.Common.{◌∙◌}
 use Rattle.std.specs.Prelude.{◌↔◌, ◌||◌}
 use Rattle.std.specs.List.{Contains, filter, list_any}
 use Rattle.document_grammar.specs.declared.kind.SyntaxKind.TheVariants.{FRAGMENT_NAME}
@@ -23,9 +24,15 @@ module _ {X : Type 0} (p : X → Bool) where
     passes : p one ≡ true
 
   behind : (x : X) (xs : List X) → Passes xs → Passes (x ∷ xs)
-  behind x xs so = record { one = so.one; there = let within = so.there.1 in (suc so.there.0, omega arith, so.there.2); passes = so.passes }
+  behind x xs so = record {
+    one = so.one;
+    there = let within = so.there.1 in
+        (suc so.there.0, omega arith, so.there.2);
+    passes = so.passes;
+  }
 
-  passed_at : (x : X) (xs : List X) (b : Bool) → p x ≡ b → (list_any p xs ≡ true → Passes xs) → (b || list_any p xs) ≡ true → Passes (x ∷ xs)
+  passed_at : (x : X) (xs : List X) (b : Bool) → p x ≡ b → (list_any p xs ≡ true → Passes xs)
+      → (b || list_any p xs) ≡ true → Passes (x ∷ xs)
   passed_at x xs true e rest any = record { one = x; there = (0, omega arith, refl); passes = e }
   passed_at x xs false e rest any = behind x xs (rest any)
 
@@ -65,20 +72,28 @@ module _ (others same : List Fragments) (alike : (f : Fragments) → Contains ot
       (λ name. same_any (λ (f : Fragments). has_name f.spread name) others same alike)
       b.rule (name_in FRAGMENT_NAME b.place)
 
-  rule_remarks : (document : Place) (first second : List Remarked) → BreaksFew document → AreRemarks others document first → AreRemarks same document second
+  rule_remarks : (document : Place) (first second : List Remarked) → BreaksFew document
+      → AreRemarks others document first → AreRemarks same document second
       → second ≡ first
   rule_remarks document first second few f s =
       let kind = document_kind document in
-      let of_first : f.breaches ≡ few.breaches = one-list kind document 10000 few.breaches f.breaches few.exact f.exact few.few in
-      let of_second : s.breaches ≡ few.breaches = one-list kind document 10000 few.breaches s.breaches few.exact s.exact few.few in
-      let stays : (λ (b : Breach). not (is_mended same b)) ≡ (λ (b : Breach). not (is_mended others b)) = sym (λ i b. not (same_mended b i)) in
+      let of_first : f.breaches ≡ few.breaches =
+      one-list kind document 10000 few.breaches f.breaches few.exact f.exact few.few in
+      let of_second : s.breaches ≡ few.breaches =
+      one-list kind document 10000 few.breaches s.breaches few.exact s.exact few.few in
+      let stays : (λ (b : Breach). not (is_mended same b)) ≡ (λ (b : Breach). not (is_mended others b)) =
+      sym (λ i b. not (same_mended b i)) in
       s.are
-      ∙ ap (λ (bs : List Breach). map remark_of (take 100 (filter (λ b. not (is_mended same b)) bs))) (of_second ∙ sym of_first)
+      ∙ ap (λ (bs : List Breach). map remark_of (take 100 (filter (λ b. not (is_mended same b)) bs)))
+      (of_second ∙ sym of_first)
       ∙ ap (λ (keeps : Breach → Bool). map remark_of (take 100 (filter keeps f.breaches))) stays
       ∙ sym f.are
 
-pub same-remarks : (names_braces : Bool) (others same : List Fragments) (document : Place) (errors : List Diagnostic) (first second : List Remarked)
+pub same-remarks : (names_braces : Bool) (others same : List Fragments) (document : Place) (errors : List Diagnostic)
+    (first second : List Remarked)
     → ((f : Fragments) → Contains others f ↔ Contains same f) → BreaksFew document
-    → AreRemarksOn names_braces others document errors first → AreRemarksOn names_braces same document errors second → second ≡ first
-same-remarks names_braces others same document [] first second alike few f s = rule_remarks others same alike document first second few f s
+    → AreRemarksOn names_braces others document errors first
+    → AreRemarksOn names_braces same document errors second → second ≡ first
+same-remarks names_braces others same document [] first second alike few f s =
+    rule_remarks others same alike document first second few f s
 same-remarks names_braces others same document (error ∷ errors) first second alike few f s = s.0 ∙ sym f.0

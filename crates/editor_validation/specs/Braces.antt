@@ -1,6 +1,6 @@
 -- Braces of a document that are never closed, although a definition begins behind them.
-use Rattle.std.specs.Prelude.{ℕ, ◌-◌, Bool, false, true, ◌&&◌, if◌then◌else◌, List, [], ◌∷◌, drop, find, fold, nat_lt, slice_index, Option, option_map}
-use Rattle.std.specs.Prelude.{bytes_eq, codes}
+use Rattle.std.specs.Prelude.{ℕ, ◌-◌, Bool, false, true, ◌&&◌, if◌then◌else◌, List, [], ◌∷◌, drop, find, fold, nat_lt}
+use Rattle.std.specs.Prelude.{slice_index, Option, option_map, bytes_eq, codes}
 use Rattle.std.specs.List.{filter, list_any}
 use Rattle.lexical_grammar.specs.Characters.{is_line_terminator}
 use Rattle.apollo_tree.specs.Below.{at_or_below, is_leaf_place}
@@ -10,7 +10,8 @@ use Rattle.editor_validation.specs.declared.braces.OpenBrace.{OpenBrace}
 -- the keywords with which definitions begin (GraphQL, October 2021, section 2.2)
 abbrev pub keywords : List (List ℕ)
 keywords =
-    codes "query" ∷ codes "mutation" ∷ codes "subscription" ∷ codes "fragment" ∷ codes "schema" ∷ codes "scalar" ∷ codes "type" ∷ codes "interface"
+    codes "query" ∷ codes "mutation" ∷ codes "subscription" ∷ codes "fragment" ∷ codes "schema" ∷ codes "scalar"
+    ∷ codes "type" ∷ codes "interface"
     ∷ codes "union" ∷ codes "enum" ∷ codes "input" ∷ codes "directive" ∷ codes "extend" ∷ []
 
 abbrev pub is_keyword : List ℕ → Bool
@@ -46,4 +47,5 @@ explains error brace = brace.has_definition && nat_lt brace.start error
 
 -- where the innermost of them begins that explains an error
 abbrev pub open_brace : Place → ℕ → Option ℕ
-open_brace document error = option_map (λ (brace : OpenBrace). brace.start) (find (explains error) (never_closed document))
+open_brace document error =
+    option_map (λ (brace : OpenBrace). brace.start) (find (explains error) (never_closed document))

@@ -15,7 +15,10 @@ pub record Fragments : Type 0 where
   pub spread : List Name
 
 abbrev pub as_fragments : FragmentNames → Fragments
-as_fragments names = record { defined = map string_bytes names.defined.items; spread = map string_bytes names.spread.items }
+as_fragments names = record {
+  defined = map string_bytes names.defined.items;
+  spread = map string_bytes names.spread.items;
+}
 
 abbrev pub names_of : List Named → List Name
 names_of mentions = map (λ (m : Named). m.name) mentions
@@ -24,4 +27,5 @@ abbrev pub spread_by : List Defined → List Name
 spread_by definitions = flat_map (λ (d : Defined). names_of (mentions Spread d.place)) definitions
 
 abbrev pub fragments_in : Place → Fragments
-fragments_in document = record { defined = names_of (named_definitions Fragment (defined document)); spread = spread_by (defined document) }
+fragments_in document =
+    record { defined = names_of (named_definitions Fragment (defined document)); spread = spread_by (defined document) }

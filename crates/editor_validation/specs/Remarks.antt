@@ -1,12 +1,14 @@
 -- Remarks on a document: its syntax errors, or the rules of validation that it breaks.
-use Rattle.std.specs.Prelude.{◌≡◌, ◌<◌, ℕ, Bool, not, ◌||◌, if◌then◌else◌, List, [], ◌∷◌, length, map, find, take, None, Option, unwrap_or}
+use Rattle.std.specs.Prelude.{◌≡◌, ◌<◌, ℕ, Bool, not, ◌||◌, if◌then◌else◌, List, [], ◌∷◌, length, map, find, take, None}
+use Rattle.std.specs.Prelude.{Option, unwrap_or}
 use Rattle.std.specs.List.{filter}
 use Rattle.document_grammar.specs.declared.kind.SyntaxKind.TheVariants.{ENUM_VALUE, FRAGMENT_NAME, NAME, VARIABLE}
 use Rattle.document_grammar.specs.Numbers.{is_kind}
 use Rattle.apollo_tree.specs.Order.{Place, kind_at, range_at}
 use Rattle.apollo_tree.specs.Children.{child_nodes}
 use Rattle.validation_rules.specs.declared.violations.Rule.{Rule}
-use Rattle.validation_rules.specs.declared.violations.Rule.TheVariants.{ExecutableDefinitions, KnownFragmentNames, NoUnusedFragments, NoUnusedVariables}
+use Rattle.validation_rules.specs.declared.violations.Rule.TheVariants.{ExecutableDefinitions, KnownFragmentNames}
+use Rattle.validation_rules.specs.declared.violations.Rule.TheVariants.{NoUnusedFragments, NoUnusedVariables}
 use Rattle.validation_rules.specs.RuleNames.{rule_name}
 use Rattle.validation_rules.specs.Violations.{Breach}
 use Rattle.document_validation.specs.Lists.{document_kind}
@@ -31,7 +33,8 @@ severity_of NoUnusedVariables = Warning
 severity_of _ = Error
 
 abbrev pub names : Place → Bool
-names p = is_kind NAME (kind_at p) || is_kind FRAGMENT_NAME (kind_at p) || is_kind VARIABLE (kind_at p) || is_kind ENUM_VALUE (kind_at p)
+names p = is_kind NAME (kind_at p) || is_kind FRAGMENT_NAME (kind_at p) || is_kind VARIABLE (kind_at p)
+    || is_kind ENUM_VALUE (kind_at p)
 
 -- the element that is marked for one: its name, if it has one, and else all of it
 abbrev pub marked : Place → Place
@@ -47,8 +50,8 @@ remark_of b = record {
   open_brace = None;
 }
 
--- There is a remark for each breach of a rule that no other document mends, up to a hundred of them; of more than ten thousand breaches some ten thousand
--- are looked at.
+-- There is a remark for each breach of a rule that no other document mends, up to a hundred of them; of more than ten
+-- thousand breaches some ten thousand are looked at.
 pub record AreRemarks (others : List Fragments) (document : Place) (remarks : List Remarked) : Type 0 where
   pub breaches : List Breach
   pub exact : AreBreaches 10000 (BreaksAs (document_kind document) document) breaches
@@ -66,10 +69,11 @@ pub record BreaksFew (document : Place) : Type 0 where
 abbrev pub brace_of : Bool → Place → Diagnostic → Option ℕ
 brace_of names_braces document error = if names_braces then open_brace document error.index else None
 
--- The remarks on a document with these syntax errors: on the errors, and the first of them is about the first and names the brace that is never closed.
--- Without errors, on broken rules.
+-- The remarks on a document with these syntax errors: on the errors, and the first of them is about the first and names
+-- the brace that is never closed. Without errors, on broken rules.
 abbrev pub AreRemarksOn : Bool → List Fragments → Place → List Diagnostic → List Remarked → Type 0
 AreRemarksOn names_braces others document [] remarks = AreRemarks others document remarks
 AreRemarksOn names_braces others document (error ∷ errors) remarks =
-    (remarks ≡ with_brace (brace_of names_braces document error) (syntax_remarks (definition_starts document) (error ∷ errors)))
+    (remarks ≡ with_brace (brace_of names_braces document error)
+    (syntax_remarks (definition_starts document) (error ∷ errors)))
     × IsAboutFirst (error ∷ errors) remarks

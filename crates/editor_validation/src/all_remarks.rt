@@ -39,7 +39,9 @@ fn error_remarks(
     errors: &[Error],
     brace: Option<usize>,
 ) -> Result<Vec<Remark>, AllocError>
-    ensures remarks { IfOk result (λ found. map as_remarked found.items ≡ with_brace brace (syntax_remarks (definition_starts (node_place document.now)) errors.now)) }
+    ensures remarks { IfOk result
+        (λ found. map as_remarked found.items
+        ≡ with_brace brace (syntax_remarks (definition_starts (node_place document.now)) errors.now)) }
     ensures first { IfOk result (λ found. IsAboutFirst errors.now (map as_remarked found.items)) }
 {
     let starts = definition_starts(alloc, document)?;
@@ -48,9 +50,10 @@ fn error_remarks(
     Ok(found)
 }
 
-/// The remarks on a document, by the root of its tree and the errors of its parse: on these, if there are any, and else on the rules of validation that
-/// it breaks and no other document mends, by the names of the fragments of the others; at most a hundred. If it may, the first one names a brace that is
-/// never closed. It fails only where memory is refused.
+/// The remarks on a document, by the root of its tree and the errors of its parse: on these, if there are any, and else
+/// on the rules of validation that it breaks and no other document mends, by the names of the fragments of the others;
+/// at most a hundred. If it may, the first one names a brace that is never closed. It fails only where memory is
+/// refused.
 pub fn remarks<'t>(
     alloc: Global,
     document: &SyntaxNode<'t>,
@@ -58,7 +61,8 @@ pub fn remarks<'t>(
     others: &[&'t FragmentNames],
     names_braces: bool,
 ) -> Result<Vec<Remark>, AllocError>
-    ensures { IfOk result (λ found. AreRemarksOn names_braces (map (λ f. as_fragments f.now) others.now) (node_place document.now) errors.now
+    ensures { IfOk result (λ found. AreRemarksOn names_braces (map (λ f. as_fragments f.now) others.now)
+        (node_place document.now) errors.now
         (map as_remarked found.items)) }
 {
     let Some(first) = errors.first() else {

@@ -1,8 +1,9 @@
-// Braces of a document that are never closed, although a definition begins behind them. They are found by the leaves: which message a missing `}` makes, and
-// where, depends on the definition.
+// Braces of a document that are never closed, although a definition begins behind them. They are found by the leaves:
+// which message a missing `}` makes, and where, depends on the definition.
 ghost use Rattle.std.specs.Prelude.{◌≡◌, IfOk, OnOk, find, option_map, reverse};
 ghost use Rattle.apollo_tree.specs.References.{node_place, token_place};
-ghost use Rattle.editor_validation.specs.Braces.{begins_definition, begins_line, explains, is_keyword, never_closed, open_after, open_brace, with_definition};
+ghost use Rattle.editor_validation.specs.Braces.{begins_definition, begins_line, explains, is_keyword, never_closed};
+ghost use Rattle.editor_validation.specs.Braces.{open_after, open_brace, with_definition};
 
 use apollo_tree::{SyntaxNode, SyntaxToken};
 use std::alloc::{AllocError, Global};
@@ -70,7 +71,8 @@ fn note_definition(braces: &mut Vec<OpenBrace>) -> Result<(), AllocError>
 
 // Opens or closes a brace, or notes a definition, by the next leaf of a text.
 fn take(braces: &mut Vec<OpenBrace>, text: &str, leaf: SyntaxToken<'_>) -> Result<(), AllocError>
-    ensures { OnOk result (reverse braces.new.items ≡ open_after text.now (reverse braces.old.items) (token_place leaf.entry)) }
+    ensures { OnOk result (reverse braces.new.items
+        ≡ open_after text.now (reverse braces.old.items) (token_place leaf.entry)) }
 {
     match leaf.text() {
         "{" => {
@@ -103,7 +105,8 @@ fn never_closed(alloc: Global, document: &SyntaxNode<'_>) -> Result<Vec<OpenBrac
     Ok(braces)
 }
 
-// Where the last of some braces begins that is in front of an error's byte offset, and has a definition right inside it.
+// Where the last of some braces begins that is in front of an error's byte offset, and has a definition right inside
+// it.
 fn last_that_explains(braces: &[OpenBrace], error: usize) -> Option<usize>
     ensures { result ≡ option_map (λ brace. brace.start) (find (explains error) (reverse braces.now)) }
 {
@@ -116,8 +119,9 @@ fn last_that_explains(braces: &[OpenBrace], error: usize) -> Option<usize>
     found
 }
 
-/// The byte offset of the innermost brace in front of an error that is never closed and in which a line begins with a definition's keyword, by the root of
-/// the document's tree and the error's byte offset. It fails only where memory is refused.
+/// The byte offset of the innermost brace in front of an error that is never closed and in which a line begins with a
+/// definition's keyword, by the root of the document's tree and the error's byte offset. It fails only where memory is
+/// refused.
 pub(crate) fn open_brace(
     alloc: Global,
     document: &SyntaxNode<'_>,

@@ -81,14 +81,15 @@ fn remarks_of(alloc: Global, violations: &[Violation<'_>]) -> Result<Vec<Remark>
     Ok(found)
 }
 
-/// One remark for each place at which a document breaks a rule of validation and no other document mends that, by the root of its tree and the fragments of
-/// the others; at most a hundred of them. It fails only where memory is refused.
+/// One remark for each place at which a document breaks a rule of validation and no other document mends that, by the
+/// root of its tree and the fragments of the others; at most a hundred of them. It fails only where memory is refused.
 pub(crate) fn rule_remarks<'t>(
     alloc: Global,
     document: &SyntaxNode<'t>,
     others: &[&'t FragmentNames],
 ) -> Result<Vec<Remark>, AllocError>
-    ensures { IfOk result (λ found. AreRemarks (map (λ f. as_fragments f.now) others.now) (node_place document.now) (map as_remarked found.items)) }
+    ensures { IfOk result (λ found. AreRemarks (map (λ f. as_fragments f.now) others.now) (node_place document.now)
+        (map as_remarked found.items)) }
 {
     let violations = validate(alloc, document, MOST_VIOLATIONS)?;
     let mut kept = unmended(alloc, violations.as_slice(), others)?;

@@ -25,7 +25,8 @@ fn push_names(
     names: &mut Vec<String>,
     mentions: &[Mention<'_>],
 ) -> Result<(), AllocError>
-    ensures { OnOk result (map string_bytes names.new.items ≡ map string_bytes names.old.items ++ names_of (map as_named mentions.now)) }
+    ensures { OnOk result (map string_bytes names.new.items ≡ map string_bytes names.old.items
+        ++ names_of (map as_named mentions.now)) }
 {
     for mention in mentions {
         names.push(String::from_str(alloc, mention.name)?)?;
@@ -48,7 +49,8 @@ fn spread_names(
     Ok(names)
 }
 
-/// The names of the fragments that a document defines and spreads, by the root of its tree. It fails only where memory is refused.
+/// The names of the fragments that a document defines and spreads, by the root of its tree. It fails only where memory
+/// is refused.
 pub fn fragment_names(alloc: Global, document: &SyntaxNode<'_>) -> Result<FragmentNames, AllocError>
     ensures { IfOk result (λ names. as_fragments names ≡ fragments_in (node_place document.now)) }
 {

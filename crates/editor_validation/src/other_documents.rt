@@ -28,7 +28,8 @@ fn defined_names<'n>(
     alloc: Global,
     documents: &[&'n FragmentNames],
 ) -> Result<BTreeMap<&'n str, ()>, AllocError>
-    ensures { IfOk result (λ entries. (name : Name) → is_some (entry_of entries name) ≡ define (map (λ f. as_fragments f.now) documents.now) name) }
+    ensures { IfOk result (λ entries. (name : Name)
+        → is_some (entry_of entries name) ≡ define (map (λ f. as_fragments f.now) documents.now) name) }
 {
     let mut entries: BTreeMap<&'n str, ()> = BTreeMap::new(alloc);
     for names in documents {
@@ -42,7 +43,8 @@ fn spread_names<'n>(
     alloc: Global,
     documents: &[&'n FragmentNames],
 ) -> Result<BTreeMap<&'n str, ()>, AllocError>
-    ensures { IfOk result (λ entries. (name : Name) → is_some (entry_of entries name) ≡ spread (map (λ f. as_fragments f.now) documents.now) name) }
+    ensures { IfOk result (λ entries. (name : Name)
+        → is_some (entry_of entries name) ≡ spread (map (λ f. as_fragments f.now) documents.now) name) }
 {
     let mut entries: BTreeMap<&'n str, ()> = BTreeMap::new(alloc);
     for names in documents {
@@ -57,7 +59,8 @@ fn is_mended<'t>(
     defined: &BTreeMap<&'t str, ()>,
     spread: &BTreeMap<&'t str, ()>,
 ) -> bool
-    ensures { result ≡ mends (λ name. is_some (entry_of defined.now name)) (λ name. is_some (entry_of spread.now name)) (as_breach violation.now) }
+    ensures { result ≡ mends (λ name. is_some (entry_of defined.now name)) (λ name. is_some (entry_of spread.now name))
+        (as_breach violation.now) }
 {
     let Some(name) = name_of_fragment(&violation.node) else {
         return false;

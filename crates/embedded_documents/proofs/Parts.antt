@@ -1,5 +1,6 @@
 -- Texts that are masked part by part.
-use Rattle.std.proofs.Common.{◌≡◌, ◌⊎◌, ℕ, ◌+◌, ◌-◌, ◌≤◌, Bool, true, false, List, [], ◌∷◌, ◌++◌, map, take, inl, inr, refl, sym, ap, ◌∙◌, subst, arith}
+use Rattle.std.proofs.Common.{◌≡◌, ◌⊎◌, ℕ, ◌+◌, ◌-◌, ◌≤◌, Bool, true, false, List, [], ◌∷◌, ◌++◌, map, take, inl, inr}
+use Rattle.std.proofs.Common.{refl, sym, ap, ◌∙◌, subst, arith}
 use Rattle.std.specs.Prelude.{slice_range}
 use Rattle.std.proofs.Math.Seq.{take-add}
 use Rattle.std.proofs.lemmas.Bool.{cases_Bool}
@@ -27,17 +28,21 @@ front_and text a b le =
 
 -- one more part
 pub masked_more : (text masked new : List ℕ) (a b : ℕ) → a ≤ b → AreMasked (take a text) masked
-    → (new ≡ masked ++ slice_range text a b) ⊎ (new ≡ masked ++ map blank (slice_range text a b)) → AreMasked (take b text) new
+    → (new ≡ masked ++ slice_range text a b) ⊎ (new ≡ masked ++ map blank (slice_range text a b))
+    → AreMasked (take b text) new
 masked_more text masked new a b le is made =
     let part : List ℕ = slice_range text a b in
     let to : (rest : List ℕ) → AreMasked part rest → new ≡ masked ++ rest → AreMasked (take b text) new =
     λ rest more so. subst (λ (x : List ℕ). AreMasked x new) (front_and text a b le)
-    (subst (λ (x : List ℕ). AreMasked (take a text ++ part) x) (sym so) (appended (take a text) part masked rest is more)) in
+    (subst (λ (x : List ℕ). AreMasked (take a text ++ part) x) (sym so)
+    (appended (take a text) part masked rest is more)) in
     elim made [ inl same ↦ to part (kept part) same | inr blanks ↦ to (map blank part) (blanked part) blanks ]
 
 -- one more part, which is blank in a text that has no document
-pub blank_more : {A : Type 0} (text masked new : List ℕ) (a b : ℕ) (is_document : Bool) → a ≤ b → (is_document ≡ true → A)
-    → ((¬ A) → masked ≡ map blank (take a text)) → (is_document ≡ false → new ≡ masked ++ map blank (slice_range text a b))
+pub blank_more : {A : Type 0} (text masked new : List ℕ) (a b : ℕ) (is_document : Bool) → a ≤ b
+    → (is_document ≡ true → A)
+    → ((¬ A) → masked ≡ map blank (take a text))
+    → (is_document ≡ false → new ≡ masked ++ map blank (slice_range text a b))
     → (¬ A) → new ≡ map blank (take b text)
 blank_more text masked new a b is_document le document is made none =
     let part : List ℕ = slice_range text a b in

@@ -70,8 +70,8 @@ fn last_before(bytes: &[u8], offset: usize) -> Option<u8>
     None
 }
 
-// Whether a slash at a byte begins a regular expression, by the byte in front: after a name, a number, a string or a closed bracket it divides, and `</`
-// is of JSX.
+// Whether a slash at a byte begins a regular expression, by the byte in front: after a name, a number, a string or a
+// closed bracket it divides, and `</` is of JSX.
 fn begins_pattern(bytes: &[u8], start: usize) -> bool
     requires { start < length bytes.now }
 {
@@ -85,11 +85,12 @@ fn begins_pattern(bytes: &[u8], start: usize) -> bool
     }
 }
 
-// How many bytes are looked at for the end of a regular expression: without such a bound, a line of slashes that begin none would take the square of its
-// length.
+// How many bytes are looked at for the end of a regular expression: without such a bound, a line of slashes that begin
+// none would take the square of its length.
 const LONGEST_PATTERN: usize = 1_000;
 
-// Where the regular expression ends that begins at a byte. Without an end on its line, or in that number of bytes, it is only that byte.
+// Where the regular expression ends that begins at a byte. Without an end on its line, or in that number of bytes, it
+// is only that byte.
 fn pattern_end(bytes: &[u8], start: usize) -> usize
     requires { start < length bytes.now }
     ensures from { start < result }

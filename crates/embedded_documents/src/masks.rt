@@ -1,5 +1,6 @@
 // Texts of which only the documents are left.
-ghost use Rattle.std.specs.Prelude.{◌≡◌, ℕ, ◌⊎◌, ◌++◌, ◌≤◌, ◌∷◌, List, [], All, IfOk, IfSome, OnOk, false, length, map, slice_range, string_bytes, true};
+ghost use Rattle.std.specs.Prelude.{◌≡◌, ℕ, ◌⊎◌, ◌++◌, ◌≤◌, ◌∷◌, List, [], All, IfOk, IfSome, OnOk, false, length, map};
+ghost use Rattle.std.specs.Prelude.{slice_range, string_bytes, true};
 ghost use Rattle.embedded_documents.specs.Masked.{HasTag, IsMasked, blank};
 ghost use Rattle.embedded_documents.specs.Steps.{IsMoveIn, IsContextIn, IsTagged};
 
@@ -39,7 +40,9 @@ fn push_part(
     requires within { end ≤ length text.now }
     ensures part { OnOk result ((string_bytes masked.new ≡ string_bytes masked.old ++ slice_range text.now start end)
         ⊎ (string_bytes masked.new ≡ string_bytes masked.old ++ map blank (slice_range text.now start end))) }
-    ensures untagged { OnOk result (is_document ≡ false → string_bytes masked.new ≡ string_bytes masked.old ++ map blank (slice_range text.now start end)) }
+    ensures untagged { OnOk result
+        (is_document ≡ false → string_bytes masked.new ≡ string_bytes masked.old
+        ++ map blank (slice_range text.now start end)) }
 {
     if is_document && let Some(part) = text.get(start..end) {
         return masked.push_str(part);
@@ -63,8 +66,8 @@ fn go(text: &str, contexts: &mut Vec<Context>, next: Move) -> Result<(), AllocEr
     Ok(())
 }
 
-/// The text of a file with blanks in place of all that is in no document. The number of bytes stays, and so do the ends of lines. It fails only where
-/// memory is refused.
+/// The text of a file with blanks in place of all that is in no document. The number of bytes stays, and so do the ends
+/// of lines. It fails only where memory is refused.
 pub fn masked(alloc: Global, text: &str, language: HostLanguage) -> Result<String, AllocError>
     ensures { IfOk result (λ masked. IsMasked text.now (string_bytes masked)) }
 {

@@ -1,4 +1,5 @@
-// The fields that `@key(fields: "..")` directives name, as Apollo Federation has them: each string is a selection set without its braces.
+// The fields that `@key(fields: "..")` directives name, as Apollo Federation has them: each string is a selection set
+// without its braces.
 ghost use Rattle.std.specs.Prelude.{◌≡◌};
 
 use apollo_parser::cst::{CstNode, Directive, Selection, StringValue, SyntaxNode, Value};
@@ -22,7 +23,8 @@ fn fields_of<'t>(node: SyntaxNode<'t>) -> Option<StringValue<'t>> {
     None
 }
 
-// Where a byte of a string's value is in the document. With escapes, or in a block string, it is where the string begins.
+// Where a byte of a string's value is in the document. With escapes, or in a block string, it is where the string
+// begins.
 fn offset_in(string: &SyntaxNode<'_>, index: usize) -> usize {
     let start = string.text_range().start();
     if string.text().starts_with("\"\"\"") || string.text().contains('\\') {

@@ -1,5 +1,6 @@
-//! Five small programs over the trees of `apollo_parser`, run one after the other on the document that standard input holds: its syntax
-//! errors, the rules that it breaks, a limit on the cost of its operations, the fields of its types, and the fields of their keys.
+//! Five small programs over the trees of `apollo_parser`, run one after the other on the document that standard input
+//! holds: its syntax errors, the rules that it breaks, a limit on the cost of its operations, the fields of its types,
+//! and the fields of their keys.
 #![tactic(auto)]
 
 mod fields;

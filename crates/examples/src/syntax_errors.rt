@@ -17,7 +17,8 @@ fn offset_of(source: &str, error: &Error) -> usize
     offset.min(source.len())
 }
 
-// Adds a line of the text, and below it marks under what the line has from a column on in common with `marked`: at least one mark.
+// Adds a line of the text, and below it marks under what the line has from a column on in common with `marked`: at
+// least one mark.
 fn underline(
     report: &mut String,
     line: &str,
@@ -32,8 +33,8 @@ fn underline(
     writeln!(report, "{:blanks$}{:^>marks$}", "", "")
 }
 
-/// The errors of a parse of the text: for each a line `line:column: message`, the line of the text, and marks below that. Lines and columns
-/// count from 1, columns in characters.
+/// The errors of a parse of the text: for each a line `line:column: message`, the line of the text, and marks below
+/// that. Lines and columns count from 1, columns in characters.
 pub(crate) fn report(
     alloc: Global,
     source: &str,

@@ -29,4 +29,5 @@ listing_of (Err error) = unlisted error
 
 -- in the bytewise order of the names
 abbrev pub AreInOrder : {A : Type 0} → List (declared.Entry A) → Type 0
-AreInOrder found = IsSortedBy (λ one other. is_lt (slice_cmp nat_cmp (string_bytes one.name) (string_bytes other.name))) found
+AreInOrder found = IsSortedBy (λ one other. is_lt (slice_cmp nat_cmp (string_bytes one.name) (string_bytes other.name)))
+    found

@@ -25,7 +25,8 @@ pub trait Files {
     // the outcome of a call of `replace` at a path with a text: whether it was done, and what is left
     ghost replaces: { Self → List ℕ → List ℕ → Bool → Self → Type 0 };
 
-    /// What the folder at a path has, in the bytewise order of the names, or nothing where no folder is there. A symbolic link at the path is followed.
+    /// What the folder at a path has, in the bytewise order of the names, or nothing where no folder is there. A
+    /// symbolic link at the path is followed.
     fn list<A: Allocator + Copy>(
         &mut self,
         alloc: A,
@@ -38,7 +39,8 @@ pub trait Files {
     fn read<A: Allocator>(&mut self, alloc: A, path: &str) -> io::Result<Vec<u8, A>>
         ensures { reads self.old path.now (bytes_of result) self.new };
 
-    /// The same of a file with at most `most` bytes. A longer one is not read, and the error is of the kind `FileTooLarge`.
+    /// The same of a file with at most `most` bytes. A longer one is not read, and the error is of the kind
+    /// `FileTooLarge`.
     fn read_up_to<A: Allocator>(
         &mut self,
         alloc: A,
@@ -55,11 +57,12 @@ pub trait Files {
     fn leaves_out<A: Allocator + Copy>(&mut self, alloc: A, path: &str) -> io::Result<bool>
         ensures { omits self.old path.now result self.new };
 
-    /// Gives the file at a path this text, or leaves its own as it is. Where an error keeps it from both, a copy has the file's own text.
+    /// Gives the file at a path this text, or leaves its own as it is. Where an error keeps it from both, a copy has
+    /// the file's own text.
     fn replace(&mut self, path: &str, text: &str) -> io::Result<()>
         ensures { replaces self.old path.now text.now (is_ok result) self.new };
 
-    /// The path of the copy that `replace` makes of the file at a path before it changes that, if the copy is there: while a call is at work, or after one
-    /// that was cut off or left it.
+    /// The path of the copy that `replace` makes of the file at a path before it changes that, if the copy is there:
+    /// while a call is at work, or after one that was cut off or left it.
     fn copy_path<A: Allocator>(&self, alloc: A, path: &str) -> io::Result<Option<String<A>>>;
 }

@@ -1,14 +1,15 @@
 //! Names of files as URIs (RFC 8089), as the Language Server Protocol has them, and the paths that they name.
 //!
-//! `path_of` gives the path of a URI, and `uri_of` the URI of a path. Clients spell URIs in different ways, so files are compared by their paths, or by the
-//! one URI of a path, which `normalized` gives.
+//! `path_of` gives the path of a URI, and `uri_of` the URI of a path. Clients spell URIs in different ways, so files
+//! are compared by their paths, or by the one URI of a path, which `normalized` gives.
 //!
 //! `gqlls_server` and `gqlls_program`, the crates above, call them.
 #![tactic(auto)]
 
 ghost use Rattle.std.specs.Prelude.{◌≡◌, ◌∷◌, ℕ, IfOk, MatchOption, None, Some, List, option_map, string_bytes};
 ghost use Rattle.std.specs.Str.{IsUtf8};
-ghost use Rattle.file_uris.specs.Uris.{absolute, after_word, authority_path, hierarchical_path, normalized, path_of, spelled_path, uri_of};
+ghost use Rattle.file_uris.specs.Uris.{absolute, after_word, authority_path, hierarchical_path, normalized, path_of};
+ghost use Rattle.file_uris.specs.Uris.{spelled_path, uri_of};
 
 use percent_encoding::{AsciiSet, NON_ALPHANUMERIC, ascii_set, percent_decode, percent_encode};
 use std::alloc::{AllocError, Global};
@@ -25,7 +26,8 @@ const ESCAPED: AsciiSet = ascii_set!(
 
 // What follows a word in lower case, which the text may spell in any case.
 fn after_word<'t>(text: &'t [u8], word: &[u8]) -> Option<&'t [u8]>
-    ensures { MatchOption result (after_word word.now text.now ≡ None) (λ rest. after_word word.now text.now ≡ Some rest.now) }
+    ensures { MatchOption result (after_word word.now text.now ≡ None)
+        (λ rest. after_word word.now text.now ≡ Some rest.now) }
 {
     let mut rest = text;
     for wanted in word {
@@ -62,7 +64,8 @@ fn authority_path(text: &[u8]) -> Option<&[u8]>
 
 // The path after the scheme.
 fn hierarchical_path(text: &[u8]) -> Option<&[u8]>
-    ensures { MatchOption result (hierarchical_path text.now ≡ None) (λ path. hierarchical_path text.now ≡ Some path.now) }
+    ensures { MatchOption result (hierarchical_path text.now ≡ None)
+        (λ path. hierarchical_path text.now ≡ Some path.now) }
 {
     match after_word(text, b"//") {
         Some(rest) => authority_path(rest),
@@ -82,7 +85,8 @@ fn spelled_path(uri: &[u8]) -> Option<&[u8]>
 
 // The bytes of the path that a URI names.
 fn bytes_of(alloc: Global, uri: &str) -> Result<Option<Vec<u8>>, AllocError>
-    ensures { IfOk result (λ path. MatchOption path (path_of uri.now ≡ None) (λ path. path_of uri.now ≡ Some path.items)) }
+    ensures { IfOk result (λ path. MatchOption path (path_of uri.now ≡ None)
+        (λ path. path_of uri.now ≡ Some path.items)) }
 {
     let Some(spelled) = spelled_path(uri.as_bytes()) else {
         return Ok(None);
@@ -92,8 +96,8 @@ fn bytes_of(alloc: Global, uri: &str) -> Result<Option<Vec<u8>>, AllocError>
     Ok(Some(bytes))
 }
 
-/// The path that a URI names, from the root on; `None` where it names no file of this machine, or none with a name in UTF-8. It fails only where memory is
-/// refused.
+/// The path that a URI names, from the root on; `None` where it names no file of this machine, or none with a name in
+/// UTF-8. It fails only where memory is refused.
 pub fn path_of(alloc: Global, uri: &str) -> Result<Option<String>, AllocError>
     ensures { IfOk result (λ path. MatchOption path ((named : List ℕ) → path_of uri.now ≡ Some named → IsUtf8 named → ⊥)
         (λ path. path_of uri.now ≡ Some (string_bytes path))) }
@@ -113,18 +117,20 @@ fn uri_of_bytes(alloc: Global, path: &[u8]) -> Result<String, AllocError>
     Ok(uri)
 }
 
-/// A URI of a path, with all but the unreserved bytes and slashes as escapes. It names the path if that begins with a slash. It fails only where memory is
-/// refused.
+/// A URI of a path, with all but the unreserved bytes and slashes as escapes. It names the path if that begins with a
+/// slash. It fails only where memory is refused.
 pub fn uri_of(alloc: Global, path: &str) -> Result<String, AllocError>
     ensures spelling { IfOk result (λ uri. string_bytes uri ≡ uri_of path.now) }
-    ensures names { (rest : List ℕ) → path.now ≡ 47 ∷ rest → IfOk result (λ uri. path_of (string_bytes uri) ≡ Some path.now) }
+    ensures names { (rest : List ℕ) → path.now ≡ 47 ∷ rest
+        → IfOk result (λ uri. path_of (string_bytes uri) ≡ Some path.now) }
 {
     // bound to a name, so that its clause on `Ok` is found
     let uri = uri_of_bytes(alloc, path.as_bytes())?;
     Ok(uri)
 }
 
-/// The URI that `uri_of` gives for the path that a URI names; `None` where it names no file of this machine. It fails only where memory is refused.
+/// The URI that `uri_of` gives for the path that a URI names; `None` where it names no file of this machine. It fails
+/// only where memory is refused.
 pub fn normalized(alloc: Global, uri: &str) -> Result<Option<String>, AllocError>
     ensures { IfOk result (λ found. option_map string_bytes found ≡ normalized uri.now) }
 {

@@ -13,8 +13,8 @@ definition_starts document = map (λ node. (range_at node).0) (child_nodes docum
 abbrev pub is_earlier : ℕ → Diagnostic → Bool
 is_earlier start error = not (nat_lt start error.index)
 
--- An error belongs to the last definition that begins before it, and where none does, to the front of the text. Errors are in the order of the text, so
--- those of the front come first, and then those of each definition.
+-- An error belongs to the last definition that begins before it, and where none does, to the front of the text. Errors
+-- are in the order of the text, so those of the front come first, and then those of each definition.
 abbrev pub by_definition : List ℕ → List Diagnostic → List (List Diagnostic)
 by_definition [] errors = errors ∷ []
 by_definition (start ∷ starts) errors =

@@ -6,7 +6,8 @@ use Rattle.apollo_parser.specs.Parsed.{Parsed}
 use Rattle.apollo_parser.specs.Promise.{Promise}
 use Rattle.apollo_parser.specs.declared.Limits.{Limits}
 
--- An error at the end of a text is shown after the last character that is no white space, and any other error where it is. None is beyond the text.
+-- An error at the end of a text is shown after the last character that is no white space, and any other error where it
+-- is. None is beyond the text.
 abbrev pub shown_at : List ℕ → Diagnostic → ℕ
 shown_at text error = min (if is_end_subject error.subject then length (trim_end text) else error.index) (length text)
 

@@ -16,7 +16,8 @@ pub struct FirstErrors<'i, A: Allocator> {
     pub more: usize,
 }
 
-/// Where the definitions of a document begin, as byte offsets, by the root of its tree. It fails only where memory is refused.
+/// Where the definitions of a document begin, as byte offsets, by the root of its tree. It fails only where memory is
+/// refused.
 pub fn definition_starts<A: Allocator>(
     alloc: A,
     document: &SyntaxNode<'_>,
@@ -48,7 +49,8 @@ fn push_first<'i, A: Allocator>(
     found: &mut Vec<BorrowedError<'i>, A>,
     errors: &[BorrowedError<'i>],
 ) -> Result<(), AllocError>
-    ensures { OnOk result (map error_of found.new.items ≡ map error_of found.old.items ++ firsts (group_of (map error_of errors.now))) }
+    ensures { OnOk result (map error_of found.new.items ≡ map error_of found.old.items
+        ++ firsts (group_of (map error_of errors.now))) }
 {
     if let Some(error) = errors.first() {
         found.push(*error)?;
@@ -75,14 +77,16 @@ fn first_of_each<'i, A: Allocator>(
     Ok(found)
 }
 
-/// The errors of a document that people see, by the root of its tree: the first of each definition, at most `most` in all; and how many more there are. It fails only where memory is refused.
+/// The errors of a document that people see, by the root of its tree: the first of each definition, at most `most` in
+/// all; and how many more there are. It fails only where memory is refused.
 pub fn first_errors<'i, A: Allocator + Copy>(
     alloc: A,
     document: &SyntaxNode<'_>,
     errors: &[BorrowedError<'i>],
     most: usize,
 ) -> Result<FirstErrors<'i, A>, AllocError>
-    ensures { IfOk result (λ first. IsFirst (node_place document.now) (map error_of errors.now) most (map error_of first.errors.items) first.more) }
+    ensures { IfOk result (λ first. IsFirst (node_place document.now) (map error_of errors.now) most
+        (map error_of first.errors.items) first.more) }
 {
     let starts = definition_starts(alloc, document)?;
     let mut found = first_of_each(alloc, starts.as_slice(), errors)?;

@@ -1,7 +1,8 @@
 //! Which errors of a text people see first, and in which words.
 //!
-//! One mistake makes many errors. Of each definition the first error is enough, since the later ones mostly follow from it: in `{ a(b: } { c(d: }` that is
-//! one for each of the two queries. `document_checks` and `formatter` call `first_errors` for the errors of a parse.
+//! One mistake makes many errors. Of each definition the first error is enough, since the later ones mostly follow from
+//! it: in `{ a(b: } { c(d: }` that is one for each of the two queries. `document_checks` and `formatter` call
+//! `first_errors` for the errors of a parse.
 #![tactic(auto)]
 
 mod definition_errors;

@@ -41,7 +41,8 @@ pub fn for_people(message: &str) -> (&'static str, &str)
     replaced(message, &WORDS)
 }
 
-/// The byte offset at which an error is shown. One at the end of the text is shown after its last character that is no white space.
+/// The byte offset at which an error is shown. One at the end of the text is shown after its last character that is no
+/// white space.
 pub fn shown_at(source: &str, error: &BorrowedError<'_>) -> usize
     ensures value { result ≡ shown_at source.now (error_of error.now) }
     ensures within { result ≤ length source.now }

@@ -11,7 +11,8 @@ use Rattle.apollo_cst_core.specs.StringValues.{IsStringValue}
 use Rattle.format_layout.specs.Respelled.{SameBlock}
 
 -- no character of a quoted string begins with a quote
-no-quote : (inside value : List ℕ) → StringCharacters inside value → (c : ℕ) (rest : List ℕ) → inside ≡ c ∷ rest → eqb c 34 ≡ false
+no-quote : (inside value : List ℕ) → StringCharacters inside value → (c : ℕ) (rest : List ℕ)
+    → inside ≡ c ∷ rest → eqb c 34 ≡ false
 no-quote _ _ none c rest e = absurd (cc)
 no-quote _ _ (one_more {text} {value} {texts} {values} s ss) c rest e =
     let r = character-reads text value texts s in
@@ -28,9 +29,12 @@ not-quoted text value h q = go q.inside q.spelled q.characters
         true≢false (sym (ap (λ (b : ℕ). eqb b 34) quote) ∙ no-quote (c ∷ rest) value s c rest refl)
 
 block-value : (text value : List ℕ) → begins triple_quote text ≡ true → IsStringValue text value → ∥ Block text value ∥₁
-block-value text value h s = ∥∥₁_elim s (hlevel props) (λ q. elim q [ inl a ↦ absurd (not-quoted text value h a) | inr b ↦ ∣ b ∣₁ ])
+block-value text value h s =
+    ∥∥₁_elim s (hlevel props) (λ q. elim q [ inl a ↦ absurd (not-quoted text value h a) | inr b ↦ ∣ b ∣₁ ])
 
 -- two of them with one value
-pub same-block : (text other value : List ℕ) → begins triple_quote text ≡ true → begins triple_quote other ≡ true → IsStringValue text value
+pub same-block : (text other value : List ℕ) → begins triple_quote text ≡ true → begins triple_quote other ≡ true
+    → IsStringValue text value
     → IsStringValue other value → SameBlock text other
-same-block text other value h g a b = record { value = value; first = block-value text value h a; second = block-value other value g b }
+same-block text other value h g a b =
+    record { value = value; first = block-value text value h a; second = block-value other value g b }

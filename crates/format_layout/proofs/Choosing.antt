@@ -18,7 +18,8 @@ allowed-along s e [] (w ∷ ws) a = a
 allowed-along s e (c ∷ cs) [] a = a
 allowed-along s e (c ∷ cs) (w ∷ ws) a = allowed-along (lead_after s w.kind w.text) e cs ws a.1
 
-allowed-more : (s e : Lead) (cs : List Choice) (ws : List Word) (c : Choice) (w : Word) → AreAllowed s cs ws e → IsAllowed e c w
+allowed-more : (s e : Lead) (cs : List Choice) (ws : List Word) (c : Choice) (w : Word)
+    → AreAllowed s cs ws e → IsAllowed e c w
     → AreAllowed s (cs ++ c ∷ []) (ws ++ w ∷ []) (lead_after e w.kind w.text)
 allowed-more s e [] [] c w a h = (subst (λ l. IsAllowed l c w) (sym a) h, ap (λ l. lead_after l w.kind w.text) a)
 allowed-more s e [] (v ∷ ws) c w a h = absurd a
@@ -28,41 +29,51 @@ allowed-more s e (d ∷ cs) (v ∷ ws) c w a h = (a.0, allowed-more (lead_after 
 -- one more token, by its choice
 one-more : (text more : List ℕ) (edge next : Edge) (most count : ℕ) (lead : Lead) (word : Word) (c : Choice)
     → is_kept_kind word.kind ≡ true → IsAllowed lead c word
-    → ((words : List Word) → LaidSame text edge most words → LaidSame more next count (words ++ chosen pipe_word (c ∷ []) (word ∷ [])))
+    → ((words : List Word) → LaidSame text edge most words
+    → LaidSame more next count (words ++ chosen pipe_word (c ∷ []) (word ∷ [])))
     → AddsChosen text edge most lead word more next count (lead_after lead word.kind word.text)
 one-more text more edge next most count lead word c k h a words l =
     let mid = chosen pipe_word l.choices words in
     let e : chosen pipe_word (l.choices ++ c ∷ []) (words ++ word ∷ []) ≡ mid ++ chosen pipe_word (c ∷ []) (word ∷ []) =
     chosen-append pipe_word l.choices (c ∷ []) words (word ∷ []) (allowed-along Other lead l.choices words l.allowed) in
-    subst (λ w. LaidChosen more next count (lead_after lead word.kind word.text) (words ++ w)) (sym (kept-alone word k)) (record {
+    subst (λ w. LaidChosen more next count (lead_after lead word.kind word.text) (words ++ w))
+    (sym (kept-alone word k)) (record {
       choices = l.choices ++ c ∷ [];
       allowed = allowed-more Other lead l.choices words c word l.allowed h;
       laid = subst (LaidSame more next count) (sym e) (a mid l.laid);
     })
 
-pub stays-there : (text more : List ℕ) (edge next : Edge) (most count : ℕ) (lead : Lead) (word : Word) → is_kept_kind word.kind ≡ true
-    → AddsSame text edge most word more next count → AddsChosen text edge most lead word more next count (lead_after lead word.kind word.text)
+pub stays-there : (text more : List ℕ) (edge next : Edge) (most count : ℕ) (lead : Lead) (word : Word)
+    → is_kept_kind word.kind ≡ true
+    → AddsSame text edge most word more next count
+    → AddsChosen text edge most lead word more next count (lead_after lead word.kind word.text)
 stays-there text more edge next most count lead word k a =
     one-more text more edge next most count lead word stays k tt
     (λ words l. subst (λ w. LaidSame more next count (words ++ w)) (kept-alone word k) (a words l))
 
-pub goes-away : (text : List ℕ) (edge : Edge) (most : ℕ) (lead : Lead) (word : Word) → is_kept_kind word.kind ≡ true → may_go lead word.kind ≡ true
+pub goes-away : (text : List ℕ) (edge : Edge) (most : ℕ) (lead : Lead) (word : Word) → is_kept_kind word.kind ≡ true
+    → may_go lead word.kind ≡ true
     → AddsChosen text edge most lead word text edge most (lead_after lead word.kind word.text)
 goes-away text edge most lead word k h =
-    one-more text text edge edge most most lead word goes k h (λ words l. subst (LaidSame text edge most) (sym (append-nil words)) l)
+    one-more text text edge edge most most lead word goes k h
+    (λ words l. subst (LaidSame text edge most) (sym (append-nil words)) l)
 
-pub comes-before : (text more : List ℕ) (edge next : Edge) (most count : ℕ) (lead : Lead) (word : Word) → is_kept_kind word.kind ≡ true
+pub comes-before : (text more : List ℕ) (edge next : Edge) (most count : ℕ) (lead : Lead) (word : Word)
+    → is_kept_kind word.kind ≡ true
     → may_come lead word.kind ≡ true → AddsSigned text edge most word more next count
     → AddsChosen text edge most lead word more next count (lead_after lead word.kind word.text)
-comes-before text more edge next most count lead word k h a = one-more text more edge next most count lead word signed k h a
+comes-before text more edge next most count lead word k h a =
+    one-more text more edge next most count lead word signed k h a
 
 -- a sign, and then a token
-pub sign-then : (text middle more : List ℕ) (edge between next : Edge) (most between_most count : ℕ) (word : Word) → is_kept_kind word.kind ≡ true
+pub sign-then : (text middle more : List ℕ) (edge between next : Edge) (most between_most count : ℕ) (word : Word)
+    → is_kept_kind word.kind ≡ true
     → AddsSame text edge most pipe_word middle between between_most
     → AddsSame middle between between_most word more next count → AddsSigned text edge most word more next count
 sign-then text middle more edge between next most between_most count word k a b words l =
     subst (LaidSame more next count) (append_assoc words (pipe_word ∷ []) (word ∷ []))
-    (subst (λ w. LaidSame more next count ((words ++ pipe_word ∷ []) ++ w)) (kept-alone word k) (b (words ++ pipe_word ∷ []) (a words l)))
+    (subst (λ w. LaidSame more next count ((words ++ pipe_word ∷ []) ++ w)) (kept-alone word k)
+    (b (words ++ pipe_word ∷ []) (a words l)))
 
 -- white space after a token
 pub then-keeps : (text middle more : List ℕ) (edge between next : Edge) (most between_most count : ℕ) (word : Word)

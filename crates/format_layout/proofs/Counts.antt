@@ -1,5 +1,6 @@
 -- How many items a text gets, token by token.
-use Rattle.std.proofs.Common.{◌≡◌, ℕ, zero, suc, ◌+◌, ◌*◌, ◌<◌, ◌≤◌, ◌⊎◌, inl, inr, List, [], ◌∷◌, length, refl, ap, ◌∙◌, subst, arith}
+use Rattle.std.proofs.Common.{◌≡◌, ℕ, zero, suc, ◌+◌, ◌*◌, ◌<◌, ◌≤◌, ◌⊎◌, inl, inr, List, [], ◌∷◌, length, refl, ap}
+use Rattle.std.proofs.Common.{◌∙◌, subst, arith}
 use Rattle.std.specs.Str.{IsUtf8}
 use Rattle.lexical_grammar.specs.declared.TokenKind.{TokenKind}
 use Rattle.lexical_grammar.specs.declared.TokenKind.TheVariants.{Eof}
@@ -24,7 +25,8 @@ pub laid-items : (text : List ℕ) (edge : Edge) (most : ℕ) (words : List Word
     → length (items_of text) ≤ 2 * most + 2
 laid-items text edge most words u l =
     let cut = subst (λ t. Cut t (items_at 0 l.all)) l.spelled (joined-cut l.all l.tokens l.apart) in
-    let same : items_at 0 l.all ≡ items_of text = one-cut text (items_at 0 l.all) (items_of text) cut (is-cut text u) (items-tokens l.all 0) in
+    let same : items_at 0 l.all ≡ items_of text =
+    one-cut text (items_at 0 l.all) (items_of text) cut (is-cut text u) (items-tokens l.all 0) in
     omega (arith, l.few, items-length l.all 0, ap (λ (items : List Item). length items) same)
 
 -- one, for a text that is not empty
@@ -48,13 +50,16 @@ some-small (b ∷ text) = omega arith
 cut-with-text : (offset : ℕ) (items : List Item) → CutFrom offset items → items_with_text items + 1 ≤ length items
 cut-with-text offset [] c = absurd c
 cut-with-text offset (item ∷ []) c = omega (arith, ap (λ (i : Item). some i.text) c)
-cut-with-text offset (item ∷ next ∷ items) c = omega (arith, some-small item.text, cut-with-text (offset + length item.text) (next ∷ items) c.2)
+cut-with-text offset (item ∷ next ∷ items) c =
+    omega (arith, some-small item.text, cut-with-text (offset + length item.text) (next ∷ items) c.2)
 
-limited-with-text : (allowed : ℕ) (items : List Item) → length items ≤ allowed → with_text (limited allowed items) ≡ items_with_text items
+limited-with-text : (allowed : ℕ) (items : List Item) → length items ≤ allowed
+    → with_text (limited allowed items) ≡ items_with_text items
 limited-with-text zero [] le = refl
 limited-with-text (suc allowed) [] le = refl
 limited-with-text zero (item ∷ items) le = absurd (omega arith)
-limited-with-text (suc allowed) (item ∷ items) le = ap (λ n. some item.text + n) (limited-with-text allowed items (omega arith))
+limited-with-text (suc allowed) (item ∷ items) le =
+    ap (λ n. some item.text + n) (limited-with-text allowed items (omega arith))
 
 -- nothing is written
 pub begun-count : (before : ℕ) (source : List ℕ) (answers : List Answer) (allowed : ℕ) → before ≡ 0 → IsUtf8 source
@@ -73,7 +78,8 @@ one [] h = absurd (omega arith)
 one (b ∷ text) h = refl
 
 -- a token is written, of which the end is nothing
-pub written-count : (before after all : ℕ) (kind : TokenKind) (answer : Answer) (old rest : List Answer) → old ≡ answer ∷ rest
+pub written-count : (before after all : ℕ) (kind : TokenKind) (answer : Answer) (old rest : List Answer)
+    → old ≡ answer ∷ rest
     → IsTokenText kind (answer_text answer) → (kind ≡ Eof → after ≡ before) → after ≤ before + 2
     → before + 2 * with_text old + 2 ≤ all → after + 2 * with_text rest + 2 ≤ all
 written-count before after all kind answer old rest e token end two left =
@@ -88,6 +94,7 @@ pub left-count : (before all : ℕ) (answer : Answer) (old rest : List Answer) �
 left-count before all answer old rest e left = omega (arith, ap with_text e, left)
 
 -- the last line is ended
-pub ended-count : (before after left items written : ℕ) → items ≤ 2 * after + 2 → after ≡ before → before + left + 2 ≤ 2 * written
+pub ended-count : (before after left items written : ℕ) → items ≤ 2 * after + 2 → after ≡ before
+    → before + left + 2 ≤ 2 * written
     → items ≤ most_items written
 ended-count before after left items written few same fits = omega arith

@@ -1,5 +1,6 @@
 -- A tree that is alike but for the spelling of block strings fits the rows too.
-use Rattle.std.proofs.Common.{◌≡◌, ◌≢◌, ℕ, ◌⊎◌, inl, inr, Bool, true, false, eqb, List, [], ◌∷◌, ◌++◌, refl, sym, ap, ◌∙◌, subst, arith}
+use Rattle.std.proofs.Common.{◌≡◌, ◌≢◌, ℕ, ◌⊎◌, inl, inr, Bool, true, false, eqb, List, [], ◌∷◌, ◌++◌, refl, sym, ap}
+use Rattle.std.proofs.Common.{◌∙◌, subst, arith}
 use Rattle.std.specs.Prelude.{◌||◌, IsTrue}
 use Rattle.std.proofs.lemmas.Bool.{or_left, or_right, cases_Bool}
 use Rattle.std.proofs.Math.Logic.{∥∥₁_elim}
@@ -8,8 +9,9 @@ use Rattle.document_grammar.specs.Kinds.{STRING}
 use Rattle.document_grammar.specs.Tree.{Text, Tree, leaf, node, Forest, none, ◌▸◌, root}
 use Rattle.document_grammar.specs.Pattern.{Pattern, Matches, member}
 use Rattle.document_grammar.specs.Rows.{Row}
-use Rattle.document_grammar.specs.Derivation.{kinds, text, texts, LeafRule, NameRule, on_text, true_text, false_text, null_text, NoVariable, NoVariables}
-use Rattle.document_grammar.specs.Derivation.{ConstantDirectives, Braced, NoBlock, LacksBlock, StartsWithSelections, IsQuery, NotBefore, BraceRule, FitsBy}
+use Rattle.document_grammar.specs.Derivation.{kinds, text, texts, LeafRule, NameRule, on_text, true_text, false_text}
+use Rattle.document_grammar.specs.Derivation.{null_text, NoVariable, NoVariables, ConstantDirectives, Braced, NoBlock}
+use Rattle.document_grammar.specs.Derivation.{LacksBlock, StartsWithSelections, IsQuery, NotBefore, BraceRule, FitsBy}
 use Rattle.document_grammar.specs.Derivation.{AllFitBy, Derivation, document}
 use Rattle.format_layout.specs.Respelled.{SameBlock, Alike, AllAlike}
 
@@ -73,7 +75,11 @@ not-text f g w a plain other e = elim (alike-texts f g a) [
 name-rule : (k : ℕ) (f g : Forest) → AllAlike f g → NameRule k f → NameRule k g
 name-rule k f g a h = (
   λ e. not-text f g on_text a refl (h.0 e),
-  λ e. (not-text f g true_text a refl (h.1 e).0, not-text f g false_text a refl (h.1 e).1, not-text f g null_text a refl (h.1 e).2),
+  λ e. (
+    not-text f g true_text a refl (h.1 e).0,
+    not-text f g false_text a refl (h.1 e).1,
+    not-text f g null_text a refl (h.1 e).2,
+  ),
 )
 
 -- ---- variables, directives and braces

@@ -16,7 +16,8 @@ for-both : (each : ℕ) (answer : Answer) (old rest : List Answer) → old ≡ a
     → each * length (answers_text old) ≡ each * length (answer_text answer) + each * length (answers_text rest)
 for-both each answer old rest e =
     ap (λ (answers : List Answer). each * length (answers_text answers)) e
-    ∙ ap (λ n. each * n) (length-append (answer_text answer) (answers_text rest)) ∙ mul-add each (length (answer_text answer)) (length (answers_text rest))
+    ∙ ap (λ n. each * n) (length-append (answer_text answer) (answers_text rest))
+    ∙ mul-add each (length (answer_text answer)) (length (answers_text rest))
 
 -- nothing is written
 pub begun-length : (each before : ℕ) (source : List ℕ) (left : List Answer) → before ≡ 0 → answers_text left ≡ source
@@ -39,6 +40,8 @@ text-length text Comment = omega arith
 text-length text _ = omega arith
 
 -- the last line is ended
-pub ended-length : (result text : List ℕ) (edge : Edge) (before left all : ℕ) → result ≡ text → ended_length text edge ≤ before + 1 → before + left ≤ all
+pub ended-length : (result text : List ℕ) (edge : Edge) (before left all : ℕ) → result ≡ text
+    → ended_length text edge ≤ before + 1 → before + left ≤ all
     → length result ≤ all + 1
-ended-length result text edge before left all same short fits = omega (arith, ap (λ (l : List ℕ). length l) same, text-length text edge)
+ended-length result text edge before left all same short fits =
+    omega (arith, ap (λ (l : List ℕ). length l) same, text-length text edge)

@@ -24,4 +24,5 @@ mutual
       ∙ ap (λ n. max (counts k (root t) + below t) n) (alike-belows k f g a.1)
 
 pub alike-nest : (t u : Tree) → Alike t u → nest u ≡ nest t
-alike-nest t u a = ap (λ n. counts DOCUMENT n + below u) (alike-root t u a) ∙ ap (λ n. counts DOCUMENT (root t) + n) (alike-below t u a)
+alike-nest t u a = ap (λ n. counts DOCUMENT n + below u) (alike-root t u a)
+    ∙ ap (λ n. counts DOCUMENT (root t) + n) (alike-below t u a)

@@ -33,7 +33,8 @@ pub stay-append : (cs ds : List Choice) → AllStay cs → AllStay ds → AllSta
 stay-append [] ds a b = b
 stay-append (c ∷ cs) ds a b = (a.0, stay-append cs ds a.1 b)
 
-pub chosen-stay : {A : Type 0} (sign : A) (cs : List Choice) (xs : List A) → AllStay cs → Along cs xs → chosen sign cs xs ≡ xs
+pub chosen-stay : {A : Type 0} (sign : A) (cs : List Choice) (xs : List A) → AllStay cs → Along cs xs
+    → chosen sign cs xs ≡ xs
 chosen-stay sign [] [] h l = refl
 chosen-stay sign [] (x ∷ xs) h l = absurd l
 chosen-stay sign (c ∷ cs) [] h l = absurd l
@@ -54,7 +55,8 @@ mutual
   pub marks-long : (before : Bool) (t : Tree) (cs : List Choice) → Along cs (Yield t) → Along cs (marks before t)
   marks-long before (leaf k x) cs l = elim (cases_Bool (is_ignored k)) [
     | inl e ↦ (let there : Along {A = Token} cs [] = rw e at l in rw e (no-tokens cs there))
-    | inr e ↦ (let there : Along cs (spelled k x ∷ []) = rw e at l in rw e (one-token cs (spelled k x) (before && is_sign k) there))
+    | inr e ↦ (let there : Along cs (spelled k x ∷ []) = rw e at l in
+        rw e (one-token cs (spelled k x) (before && is_sign k) there))
   ] where
     no-tokens : (cs : List Choice) → Along {A = Token} cs [] → Along {A = Bool} cs []
     no-tokens [] l = tt
@@ -65,15 +67,18 @@ mutual
     one-token (c ∷ cs) a m l = no-tokens cs l
   marks-long before (node k f) cs l = all-marks-long (has_members k) f cs l
 
-  pub all-marks-long : (before : Bool) (f : Forest) (cs : List Choice) → Along cs (Yields f) → Along cs (all_marks before f)
+  pub all-marks-long : (before : Bool) (f : Forest) (cs : List Choice) → Along cs (Yields f)
+      → Along cs (all_marks before f)
   all-marks-long before none [] l = tt
   all-marks-long before none (c ∷ cs) l = l
   all-marks-long before (t ▸ f) cs l =
       let p = parts cs (Yield t) (Yields f) l in
       subst (λ (r : List Choice). Along r (marks before t ++ all_marks (before && is_leaf t) f)) (sym p.2)
-      (along-append p.0 p.1 (marks before t) (all_marks (before && is_leaf t) f) (marks-long before t p.0 p.3) (all-marks-long (before && is_leaf t) f p.1 p.4))
+      (along-append p.0 p.1 (marks before t) (all_marks (before && is_leaf t) f) (marks-long before t p.0 p.3)
+      (all-marks-long (before && is_leaf t) f p.1 p.4))
     where
-      parts : (cs : List Choice) (xs ys : List Token) → Along cs (xs ++ ys) → (a : List Choice) × (b : List Choice) × (cs ≡ a ++ b) × Along a xs × Along b ys
+      parts : (cs : List Choice) (xs ys : List Token) → Along cs (xs ++ ys)
+          → (a : List Choice) × (b : List Choice) × (cs ≡ a ++ b) × Along a xs × Along b ys
       parts cs [] ys l = ([], cs, refl, tt, l)
       parts [] (x ∷ xs) ys l = absurd l
       parts (c ∷ cs) (x ∷ xs) ys l = let p = parts cs xs ys l in (c ∷ p.0, p.1, ap (λ r. c ∷ r) p.2, p.3, p.4)

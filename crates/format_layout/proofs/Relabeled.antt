@@ -1,5 +1,6 @@
 -- A tree with other spellings of its block strings.
-use Rattle.std.proofs.Common.{◌≡◌, ℕ, ◌⊎◌, inl, inr, true, false, List, [], ◌∷◌, ◌++◌, refl, sym, ap, ◌∙◌, subst, arith, append_assoc}
+use Rattle.std.proofs.Common.{◌≡◌, ℕ, ◌⊎◌, inl, inr, true, false, List, [], ◌∷◌, ◌++◌, refl, sym, ap, ◌∙◌, subst, arith}
+use Rattle.std.proofs.Common.{append_assoc}
 use Rattle.std.specs.Prelude.{cond}
 use Rattle.std.proofs.lemmas.Bool.{cases_Bool}
 use Rattle.document_grammar.specs.Kinds.{IDENT, STRING}
@@ -37,13 +38,22 @@ string-leaf k e = elim (cases_Bool (is_keyword k)) [
   | inr p ↦ rw p at e
 ]
 
-ignored-leaf : (k : ℕ) (x : Text) (rest ws : List Token) → is_ignored k ≡ true → AreSame rest ws → Relabeled (leaf k x) rest ws
-ignored-leaf k x rest ws p s = record { tree = leaf k x; left = ws; alike = (refl, inl refl); spells = rw p refl; same = s }
+ignored-leaf : (k : ℕ) (x : Text) (rest ws : List Token) → is_ignored k ≡ true → AreSame rest ws
+    → Relabeled (leaf k x) rest ws
+ignored-leaf k x rest ws p s =
+    record { tree = leaf k x; left = ws; alike = (refl, inl refl); spells = rw p refl; same = s }
 
-token-leaf : (k : ℕ) (x : Text) (rest ws : List Token) → is_ignored k ≡ false → AreSame (spelled k x ∷ rest) ws → Relabeled (leaf k x) rest ws
+token-leaf : (k : ℕ) (x : Text) (rest ws : List Token) → is_ignored k ≡ false → AreSame (spelled k x ∷ rest) ws
+    → Relabeled (leaf k x) rest ws
 token-leaf k x rest [] p s = absurd s
 token-leaf k x rest ((n, y) ∷ ws) p s = elim s.0 [
-  | inl e ↦ record { tree = leaf k x; left = ws; alike = (refl, inl refl); spells = rw p (ap (λ w. w ∷ ws) (sym e)); same = s.1 }
+  | inl e ↦ record {
+    tree = leaf k x;
+    left = ws;
+    alike = (refl, inl refl);
+    spells = rw p (ap (λ w. w ∷ ws) (sym e));
+    same = s.1;
+  }
   | inr d ↦ record {
     tree = leaf k y;
     left = ws;
@@ -53,7 +63,8 @@ token-leaf k x rest ((n, y) ∷ ws) p s = elim s.0 [
   }
 ]
 
-relabel-leaf : (k : ℕ) (x : Text) (rest ws : List Token) → AreSame (Yield (leaf k x) ++ rest) ws → Relabeled (leaf k x) rest ws
+relabel-leaf : (k : ℕ) (x : Text) (rest ws : List Token) → AreSame (Yield (leaf k x) ++ rest) ws
+    → Relabeled (leaf k x) rest ws
 relabel-leaf k x rest ws s = elim (cases_Bool (is_ignored k)) [
   | inl p ↦ ignored-leaf k x rest ws p (rw p at s)
   | inr p ↦ token-leaf k x rest ws p (rw p at s)
@@ -75,6 +86,7 @@ mutual
         forest = r.tree ▸ q.forest;
         left = q.left;
         alike = (r.alike, q.alike);
-        spells = r.spells ∙ ap (λ l. Yield r.tree ++ l) q.spells ∙ sym (append_assoc (Yield r.tree) (Yields q.forest) q.left);
+        spells = r.spells ∙ ap (λ l. Yield r.tree ++ l) q.spells
+            ∙ sym (append_assoc (Yield r.tree) (Yields q.forest) q.left);
         same = q.same;
       }

@@ -14,14 +14,16 @@ significant-append [] ys = refl
 significant-append (x ∷ xs) ys = ap (λ l. significant_word (Some x.kind) x.text ++ l) (significant-append xs ys)
     ∙ sym (append_assoc (significant_word (Some x.kind) x.text) (significant xs) (significant ys))
 
-significant-token : (kind : TokenKind) (text : List ℕ) → significant (kept_word (record { kind = kind; text = text })) ≡ significant_word (Some kind) text
+significant-token : (kind : TokenKind) (text : List ℕ)
+    → significant (kept_word (record { kind = kind; text = text })) ≡ significant_word (Some kind) text
 significant-token Whitespace text = refl
 significant-token Comment text = refl
 significant-token Comma text = refl
 significant-token Eof text = refl
 significant-token _ text = refl
 
-significant-item : (kind : Option TokenKind) (text : List ℕ) → significant (kept_item kind text) ≡ significant_word kind text
+significant-item : (kind : Option TokenKind) (text : List ℕ)
+    → significant (kept_item kind text) ≡ significant_word kind text
 significant-item None text = refl
 significant-item (Some kind) text = significant-token kind text
 

@@ -1,5 +1,6 @@
 -- Each token stays that is below no node with members.
-use Rattle.std.proofs.Common.{◌≡◌, ℕ, inl, inr, Bool, true, false, cond, eqb, List, [], ◌∷◌, ◌++◌, refl, sym, ap, ◌∙◌, subst, append_assoc, true≢false}
+use Rattle.std.proofs.Common.{◌≡◌, ℕ, inl, inr, Bool, true, false, cond, eqb, List, [], ◌∷◌, ◌++◌, refl, sym, ap, ◌∙◌}
+use Rattle.std.proofs.Common.{subst, append_assoc, true≢false}
 use Rattle.std.specs.Prelude.{◌||◌, bytes_eq}
 use Rattle.std.specs.List.{list_all}
 use Rattle.std.proofs.lemmas.Bool.{and_parts, cases_Bool, not-true, or_parts}
@@ -9,7 +10,8 @@ use Rattle.document_grammar.specs.Tree.{Text, Token, Tree, leaf, node, Forest, n
 use Rattle.document_grammar.specs.Derivation.{kinds, Yield, Yields, spelled, Fits, AllFit}
 use Rattle.format_layout.specs.declared.lead.Lead.{Lead}
 use Rattle.format_layout.specs.declared.lead.Lead.TheVariants.{Colon, Typed, Members, Amp, Implements, On, Other}
-use Rattle.format_layout.specs.Leads.{after_equals, after_interface, after_member, after_name, after_word, implements_text, on_text}
+use Rattle.format_layout.specs.Leads.{after_equals, after_interface, after_member, after_name, after_word}
+use Rattle.format_layout.specs.Leads.{implements_text, on_text}
 use Rattle.format_layout.specs.Chosen.{Choice, stays, goes, signed}
 use Rattle.format_layout.proofs.Steps.{step, goes_at, comes_at, Fit, Along, along-append}
 use Rattle.format_layout.proofs.Plain.{steps, steps-append, is_members, AllStay, stay-append}
@@ -25,10 +27,12 @@ pub record Stays (s : Lead) (cs : List Choice) (ts rest : List Token) : Type 0 w
   pub left : Fit (steps s ts) after rest
   pub ready : is_members (steps s ts) ≡ false
 
-pub no-tokens : (s : Lead) (cs : List Choice) (rest : List Token) → is_members s ≡ false → Fit s cs rest → Stays s cs [] rest
+pub no-tokens : (s : Lead) (cs : List Choice) (rest : List Token) → is_members s ≡ false
+    → Fit s cs rest → Stays s cs [] rest
 no-tokens s cs rest m fit = record { own = []; after = cs; split = refl; stay = tt; long = tt; left = fit; ready = m }
 
-pub more-tokens : (s : Lead) (cs : List Choice) (xs ys rest : List Token) → (a : Stays s cs xs (ys ++ rest)) → Stays (steps s xs) a.after ys rest
+pub more-tokens : (s : Lead) (cs : List Choice) (xs ys rest : List Token) → (a : Stays s cs xs (ys ++ rest))
+    → Stays (steps s xs) a.after ys rest
     → Stays s cs (xs ++ ys) rest
 more-tokens s cs xs ys rest a b = record {
   own = a.own ++ b.own;
@@ -84,7 +88,8 @@ step-ready s k x typed = elim (cases_Bool (eqb k IDENT)) [
         | inl d ↦ rw (a, b, c, d) (ap (λ r. is_members (after_equals r)) (typed d))
         | inr d ↦ elim (cases_Bool (eqb k PIPE)) [
           | inl e ↦ rw (a, b, c, d, e) refl
-          | inr e ↦ elim (cases_Bool (eqb k AMP)) [ inl f ↦ rw (a, b, c, d, e, f) refl | inr f ↦ rw (a, b, c, d, e, f) refl ]
+          | inr e ↦ elim (cases_Bool (eqb k AMP))
+              [ inl f ↦ rw (a, b, c, d, e, f) refl | inr f ↦ rw (a, b, c, d, e, f) refl ]
         ]
       ]
     ]
@@ -92,7 +97,8 @@ step-ready s k x typed = elim (cases_Bool (eqb k IDENT)) [
 ]
 
 -- it stays where it may neither go nor be signed
-pub one-stays : (s : Lead) (cs : List Choice) (a : Token) (rest : List Token) → goes_at s a.0 ≡ false → comes_at s a.0 ≡ false
+pub one-stays : (s : Lead) (cs : List Choice) (a : Token) (rest : List Token) → goes_at s a.0 ≡ false
+    → comes_at s a.0 ≡ false
     → is_members (step s a.0 a.1) ≡ false → Fit s cs (a ∷ rest) → Stays s cs (a ∷ []) rest
 one-stays s [] a rest g c m fit = absurd fit
 one-stays s (stays ∷ cs) a rest g c m fit =
@@ -112,36 +118,45 @@ spelled-plain : (k : ℕ) → is_plain k ≡ true → (eqb (spelled_as k) PIPE �
 spelled-plain k p = elim (cases_Bool (is_keyword k)) [ inl e ↦ rw e (refl, refl) | inr e ↦ rw e (not-sign k p) ]
 
 spelled-equals : (k : ℕ) → eqb (spelled_as k) EQ ≡ true → eqb k EQ ≡ true
-spelled-equals k h = elim (cases_Bool (is_keyword k)) [ inl e ↦ (let no : false ≡ true = rw e at h in absurd (cc)) | inr e ↦ rw e at h ]
+spelled-equals k h = elim (cases_Bool (is_keyword k))
+    [ inl e ↦ (let no : false ≡ true = rw e at h in absurd (cc)) | inr e ↦ rw e at h ]
 
 or-first : (a b : Bool) → a ≡ true → (a || b) ≡ true
 or-first true b h = refl
 or-first false b h = absurd (true≢false (sym h))
 
-leaf-stays : (k : ℕ) (x : Text) (rest : List Token) (s : Lead) (cs : List Choice) → is_plain k ≡ true → is_members s ≡ false → (needs_type k ≡ true → s ≡ Typed)
+leaf-stays : (k : ℕ) (x : Text) (rest : List Token) (s : Lead) (cs : List Choice) → is_plain k ≡ true
+    → is_members s ≡ false → (needs_type k ≡ true → s ≡ Typed)
     → Fit s cs (Yield (leaf k x) ++ rest) → Stays s cs (Yield (leaf k x)) rest
 leaf-stays k x rest s cs p m typed fit = elim (cases_Bool (is_ignored k)) [
   | inl e ↦ (let there : Fit s cs rest = rw e at fit in rw e (no-tokens s cs rest m there))
   | inr e ↦
       let there : Fit s cs (spelled k x ∷ rest) = rw e at fit in
       let signs = spelled-plain k p in
-      rw e (one-stays s cs (spelled k x) rest (goes-none s (spelled_as k) signs.0 signs.1) (comes-none s (spelled_as k) m)
-      (step-ready s (spelled_as k) x (λ h. typed (or-first (eqb k EQ) (eqb k DEFAULT_VALUE) (spelled-equals k h)))) there)
+      rw e (one-stays s cs (spelled k x) rest (goes-none s (spelled_as k) signs.0 signs.1)
+      (comes-none s (spelled_as k) m)
+      (step-ready s (spelled_as k) x (λ h. typed (or-first (eqb k EQ) (eqb k DEFAULT_VALUE) (spelled-equals k h))))
+      there)
 ]
 
 -- ---- trees
 
 mutual
-  pub tree-stays : (t : Tree) (rest : List Token) (s : Lead) (cs : List Choice) → Fits t → is_plain (root t) ≡ true → is_members s ≡ false
+  pub tree-stays : (t : Tree) (rest : List Token) (s : Lead) (cs : List Choice) → Fits t → is_plain (root t) ≡ true
+      → is_members s ≡ false
       → (needs_type (root t) ≡ true → s ≡ Typed) → Fit s cs (Yield t ++ rest) → Stays s cs (Yield t) rest
   tree-stays (leaf k x) rest s cs fits p m typed fit = leaf-stays k x rest s cs p m typed fit
   tree-stays (node k f) rest s cs fits p m typed fit =
-      forest-stays f rest s cs fits.4 (all-plain k (kinds f) p (plain-passes k (kinds f) fits.0)) m (guarded k s f p typed fits.0 fits.4) fit
+      forest-stays f rest s cs fits.4 (all-plain k (kinds f) p (plain-passes k (kinds f) fits.0)) m
+      (guarded k s f p typed fits.0 fits.4) fit
 
-  pub forest-stays : (f : Forest) (rest : List Token) (s : Lead) (cs : List Choice) → AllFit f → list_all is_plain (kinds f) ≡ true → is_members s ≡ false
+  pub forest-stays : (f : Forest) (rest : List Token) (s : Lead) (cs : List Choice) → AllFit f
+      → list_all is_plain (kinds f) ≡ true → is_members s ≡ false
       → Guarded s f → Fit s cs (Yields f ++ rest) → Stays s cs (Yields f) rest
   forest-stays none rest s cs fits p m g fit = no-tokens s cs rest m fit
   forest-stays (t ▸ f) rest s cs fits p m g fit =
       let q = and_parts (is_plain (root t)) (list_all is_plain (kinds f)) p in
-      let first = tree-stays t (Yields f ++ rest) s cs fits.0 q.0 m g.0 (subst (Fit s cs) (append_assoc (Yield t) (Yields f) rest) fit) in
-      more-tokens s cs (Yield t) (Yields f) rest first (forest-stays f rest (steps s (Yield t)) first.after fits.1 q.1 first.ready g.1 first.left)
+      let first = tree-stays t (Yields f ++ rest) s cs fits.0 q.0 m g.0
+      (subst (Fit s cs) (append_assoc (Yield t) (Yields f) rest) fit) in
+      more-tokens s cs (Yield t) (Yields f) rest first
+      (forest-stays f rest (steps s (Yield t)) first.after fits.1 q.1 first.ready g.1 first.left)

@@ -1,6 +1,6 @@
 -- Choices for the tokens of a text, said of the tokens that a derivation spells.
-use Rattle.std.proofs.Common.{◌≡◌, ℕ, inl, inr, Bool, true, false, cond, eqb, List, [], ◌∷◌, ◌++◌, refl, sym, ap, ◌∙◌, subst}
-use Rattle.std.proofs.Common.{true≢false}
+use Rattle.std.proofs.Common.{◌≡◌, ℕ, inl, inr, Bool, true, false, cond, eqb, List, [], ◌∷◌, ◌++◌, refl, sym, ap, ◌∙◌}
+use Rattle.std.proofs.Common.{subst, true≢false}
 use Rattle.std.specs.Prelude.{map, ◌||◌}
 use Rattle.std.proofs.lemmas.Bool.{cases_Bool}
 use Rattle.lexical_grammar.specs.declared.TokenKind.{TokenKind}
@@ -78,13 +78,15 @@ chosen-append sign (stays ∷ cs) ds (x ∷ xs) ys l = ap (λ r. x ∷ r) (chose
 chosen-append sign (goes ∷ cs) ds (x ∷ xs) ys l = chosen-append sign cs ds xs ys l
 chosen-append sign (signed ∷ cs) ds (x ∷ xs) ys l = ap (λ r. sign ∷ x ∷ r) (chosen-append sign cs ds xs ys l)
 
-pub along-append : {A : Type 0} (cs ds : List Choice) (xs ys : List A) → Along cs xs → Along ds ys → Along (cs ++ ds) (xs ++ ys)
+pub along-append : {A : Type 0} (cs ds : List Choice) (xs ys : List A) → Along cs xs → Along ds ys
+    → Along (cs ++ ds) (xs ++ ys)
 along-append [] ds [] ys l m = m
 along-append [] ds (x ∷ xs) ys l m = absurd l
 along-append (c ∷ cs) ds [] ys l m = absurd l
 along-append (c ∷ cs) ds (x ∷ xs) ys l m = along-append cs ds xs ys l m
 
-pub at-append : (cs ds : List Choice) (ms ns : List Bool) → AtMarks cs ms → AtMarks ds ns → AtMarks (cs ++ ds) (ms ++ ns)
+pub at-append : (cs ds : List Choice) (ms ns : List Bool) → AtMarks cs ms → AtMarks ds ns
+    → AtMarks (cs ++ ds) (ms ++ ns)
 at-append [] ds [] ns l m = m
 at-append [] ds (x ∷ xs) ns l m = absurd l
 at-append (c ∷ cs) ds [] ns l m = absurd l
@@ -102,7 +104,8 @@ at-along (signed ∷ cs) (m ∷ ms) l = at-along cs ms l
 
 -- ---- from words to tokens
 
-pub significant-goes : (lead : Lead) (kind : TokenKind) → may_go lead kind ≡ true → (is_significant_kind kind ≡ true) × (goes_at lead (leaf_number kind) ≡ true)
+pub significant-goes : (lead : Lead) (kind : TokenKind) → may_go lead kind ≡ true
+    → (is_significant_kind kind ≡ true) × (goes_at lead (leaf_number kind) ≡ true)
 significant-goes Members token.Pipe h = (refl, refl)
 significant-goes On token.Pipe h = (refl, refl)
 significant-goes Implements token.Amp h = (refl, refl)
@@ -113,14 +116,16 @@ pub significant-comes : (lead : Lead) (kind : TokenKind) → may_come lead kind 
 significant-comes Members token.Name h = (refl, refl)
 significant-comes _ _ h = absurd (cc)
 
-step-is : (lead : Lead) (kind : TokenKind) (text : Text) → is_significant_kind kind ≡ true → step lead (leaf_number kind) text ≡ lead_after lead kind text
+step-is : (lead : Lead) (kind : TokenKind) (text : Text) → is_significant_kind kind ≡ true
+    → step lead (leaf_number kind) text ≡ lead_after lead kind text
 step-is lead token.Whitespace text h = absurd (cc)
 step-is lead token.Comment text h = absurd (cc)
 step-is lead token.Comma text h = absurd (cc)
 step-is lead token.Eof text h = absurd (cc)
 step-is lead _ text h = refl
 
-ignored-lead : (lead : Lead) (kind : TokenKind) (text : Text) → is_significant_kind kind ≡ false → lead_after lead kind text ≡ lead
+ignored-lead : (lead : Lead) (kind : TokenKind) (text : Text) → is_significant_kind kind ≡ false
+    → lead_after lead kind text ≡ lead
 ignored-lead lead token.Whitespace text h = refl
 ignored-lead lead token.Comment text h = refl
 ignored-lead lead token.Comma text h = refl
@@ -135,12 +140,15 @@ pub record Tokens (lead : Lead) (cs : List Choice) (words : List Word) : Type 0 
   pub choices : List Choice
   pub fit : Fit lead choices (tokens words)
   pub same : tokens (chosen pipe_word cs words) ≡ chosen pipe_token choices (tokens words)
-  pub marks : (ms : List Bool) → AtMarks choices ms → without_marked ms words ≡ without_marked (chosen true choices ms) (chosen pipe_word cs words)
+  pub marks : (ms : List Bool) → AtMarks choices ms
+      → without_marked ms words ≡ without_marked (chosen true choices ms) (chosen pipe_word cs words)
 
-significant-one : (word : Word) (words : List Word) → is_significant_kind word.kind ≡ true → significant (word ∷ words) ≡ word ∷ significant words
+significant-one : (word : Word) (words : List Word) → is_significant_kind word.kind ≡ true
+    → significant (word ∷ words) ≡ word ∷ significant words
 significant-one word words h = rw h refl
 
-ignored-one : (word : Word) (words : List Word) → is_significant_kind word.kind ≡ false → significant (word ∷ words) ≡ significant words
+ignored-one : (word : Word) (words : List Word) → is_significant_kind word.kind ≡ false
+    → significant (word ∷ words) ≡ significant words
 ignored-one word words h = rw h refl
 
 kept-marks : (word : Word) (words : List Word) (m : Bool) (ms : List Bool) → is_significant_kind word.kind ≡ true
@@ -160,51 +168,67 @@ permitted lead signed word h = (significant-comes lead word.kind h).1
 same-one : (c : Choice) (cs ds : List Choice) (word : Word) (words : List Word) → is_significant_kind word.kind ≡ true
     → tokens (chosen pipe_word cs words) ≡ chosen pipe_token ds (tokens words)
     → tokens (chosen pipe_word (c ∷ cs) (word ∷ words)) ≡ chosen pipe_token (c ∷ ds) (token_of word ∷ tokens words)
-same-one stays cs ds word words h e = ap (map token_of) (significant-one word (chosen pipe_word cs words) h) ∙ ap (λ l. token_of word ∷ l) e
+same-one stays cs ds word words h e =
+    ap (map token_of) (significant-one word (chosen pipe_word cs words) h) ∙ ap (λ l. token_of word ∷ l) e
 same-one goes cs ds word words h e = e
 same-one signed cs ds word words h e =
-    ap (λ l. pipe_token ∷ map token_of l) (significant-one word (chosen pipe_word cs words) h) ∙ ap (λ l. pipe_token ∷ token_of word ∷ l) e
+    ap (λ l. pipe_token ∷ map token_of l) (significant-one word (chosen pipe_word cs words) h)
+    ∙ ap (λ l. pipe_token ∷ token_of word ∷ l) e
 
 marks-one : (c : Choice) (cs ds : List Choice) (word : Word) (words : List Word) → is_significant_kind word.kind ≡ true
-    → ((ms : List Bool) → AtMarks ds ms → without_marked ms words ≡ without_marked (chosen true ds ms) (chosen pipe_word cs words))
+    → ((ms : List Bool) → AtMarks ds ms
+    → without_marked ms words ≡ without_marked (chosen true ds ms) (chosen pipe_word cs words))
     → (ms : List Bool) → AtMarks (c ∷ ds) ms
-    → without_marked ms (word ∷ words) ≡ without_marked (chosen true (c ∷ ds) ms) (chosen pipe_word (c ∷ cs) (word ∷ words))
+    → without_marked ms (word ∷ words)
+    ≡ without_marked (chosen true (c ∷ ds) ms) (chosen pipe_word (c ∷ cs) (word ∷ words))
 marks-one c cs ds word words h r [] a = absurd a
 marks-one stays cs ds word words h r (m ∷ ms) a =
-    kept-marks word words m ms h ∙ ap (λ l. cond m l (word ∷ l)) (r ms a) ∙ sym (kept-marks word (chosen pipe_word cs words) m (chosen true ds ms) h)
+    kept-marks word words m ms h ∙ ap (λ l. cond m l (word ∷ l)) (r ms a)
+    ∙ sym (kept-marks word (chosen pipe_word cs words) m (chosen true ds ms) h)
 marks-one goes cs ds word words h r (m ∷ ms) a =
-    kept-marks word words m ms h ∙ ap (λ b. cond b (without_marked ms words) (word ∷ without_marked ms words)) a.0 ∙ r ms a.1
+    kept-marks word words m ms h ∙ ap (λ b. cond b (without_marked ms words) (word ∷ without_marked ms words)) a.0
+    ∙ r ms a.1
 marks-one signed cs ds word words h r (m ∷ ms) a =
-    kept-marks word words m ms h ∙ ap (λ l. cond m l (word ∷ l)) (r ms a) ∙ sym (kept-marks word (chosen pipe_word cs words) m (chosen true ds ms) h)
+    kept-marks word words m ms h ∙ ap (λ l. cond m l (word ∷ l)) (r ms a)
+    ∙ sym (kept-marks word (chosen pipe_word cs words) m (chosen true ds ms) h)
 
-one-significant : (lead : Lead) (c : Choice) (cs : List Choice) (word : Word) (words : List Word) → is_significant_kind word.kind ≡ true → IsAllowed lead c word
+one-significant : (lead : Lead) (c : Choice) (cs : List Choice) (word : Word) (words : List Word)
+    → is_significant_kind word.kind ≡ true → IsAllowed lead c word
     → Tokens (lead_after lead word.kind word.text) cs words → Tokens lead (c ∷ cs) (word ∷ words)
 one-significant lead c cs word words h allowed r =
     let e : tokens (word ∷ words) ≡ token_of word ∷ tokens words = ap (map token_of) (significant-one word words h) in
     record {
       choices = c ∷ r.choices;
-      fit = subst (λ l. Fit lead (c ∷ r.choices) l) (sym e)
-          (permitted lead c word allowed, subst (λ l. Fit l r.choices (tokens words)) (sym (step-is lead word.kind word.text h)) r.fit);
+      fit = subst (λ l. Fit lead (c ∷ r.choices) l) (sym e) (
+        permitted lead c word allowed,
+        subst (λ l. Fit l r.choices (tokens words)) (sym (step-is lead word.kind word.text h)) r.fit,
+      );
       same = same-one c cs r.choices word words h r.same ∙ ap (λ l. chosen pipe_token (c ∷ r.choices) l) (sym e);
       marks = marks-one c cs r.choices word words h r.marks;
     }
 
-one-ignored : (lead : Lead) (c : Choice) (cs : List Choice) (word : Word) (words : List Word) → is_significant_kind word.kind ≡ false → IsAllowed lead c word
+one-ignored : (lead : Lead) (c : Choice) (cs : List Choice) (word : Word) (words : List Word)
+    → is_significant_kind word.kind ≡ false → IsAllowed lead c word
     → Tokens (lead_after lead word.kind word.text) cs words → Tokens lead (c ∷ cs) (word ∷ words)
-one-ignored lead goes cs word words h allowed r = absurd (true≢false (sym (significant-goes lead word.kind allowed).0 ∙ h))
-one-ignored lead signed cs word words h allowed r = absurd (true≢false (sym (significant-comes lead word.kind allowed).0 ∙ h))
+one-ignored lead goes cs word words h allowed r =
+    absurd (true≢false (sym (significant-goes lead word.kind allowed).0 ∙ h))
+one-ignored lead signed cs word words h allowed r =
+    absurd (true≢false (sym (significant-comes lead word.kind allowed).0 ∙ h))
 one-ignored lead stays cs word words h allowed r =
     let e : tokens (word ∷ words) ≡ tokens words = ap (map token_of) (ignored-one word words h) in
     record {
       choices = r.choices;
-      fit = subst (λ l. Fit lead r.choices l) (sym e) (subst (λ l. Fit l r.choices (tokens words)) (ignored-lead lead word.kind word.text h) r.fit);
-      same = ap (map token_of) (ignored-one word (chosen pipe_word cs words) h) ∙ r.same ∙ ap (λ l. chosen pipe_token r.choices l) (sym e);
+      fit = subst (λ l. Fit lead r.choices l) (sym e)
+          (subst (λ l. Fit l r.choices (tokens words)) (ignored-lead lead word.kind word.text h) r.fit);
+      same = ap (map token_of) (ignored-one word (chosen pipe_word cs words) h) ∙ r.same
+          ∙ ap (λ l. chosen pipe_token r.choices l) (sym e);
       marks = λ ms a. ignored-marks word words ms h ∙ ap (λ l. word ∷ l) (r.marks ms a)
           ∙ sym (ignored-marks word (chosen pipe_word cs words) (chosen true r.choices ms) h);
     }
 
 -- the choices for the significant tokens of some words alone
-pub to-tokens : (lead last : Lead) (cs : List Choice) (words : List Word) → AreAllowed lead cs words last → Tokens lead cs words
+pub to-tokens : (lead last : Lead) (cs : List Choice) (words : List Word) → AreAllowed lead cs words last
+    → Tokens lead cs words
 to-tokens lead last [] [] h = record { choices = []; fit = tt; same = refl; marks = λ ms a. refl }
 to-tokens lead last [] (word ∷ words) h = absurd h
 to-tokens lead last (c ∷ cs) [] h = absurd h

@@ -1,5 +1,6 @@
 -- One more token at the end of the output.
-use Rattle.std.proofs.Common.{◌≡◌, ℕ, ◌+◌, ◌*◌, ◌≤◌, true, List, [], ◌∷◌, ◌++◌, refl, sym, ap, ◌∙◌, subst, arith, append_assoc, append-nil, length-append}
+use Rattle.std.proofs.Common.{◌≡◌, ℕ, ◌+◌, ◌*◌, ◌≤◌, true, List, [], ◌∷◌, ◌++◌, refl, sym, ap, ◌∙◌, subst, arith}
+use Rattle.std.proofs.Common.{append_assoc, append-nil, length-append}
 use Rattle.std.proofs.lemmas.Bool.{and_parts, and_from}
 use Rattle.lexical_grammar.specs.Tokens.{Tok}
 use Rattle.lexical_grammar.specs.Cut.{Word}
@@ -12,17 +13,20 @@ use Rattle.format_layout.specs.Laid.{Laid, blank_room}
 
 joined-append : (xs ys : List Word) → joined (xs ++ ys) ≡ joined xs ++ joined ys
 joined-append [] ys = refl
-joined-append (x ∷ xs) ys = ap (λ l. x.text ++ l) (joined-append xs ys) ∙ sym (append_assoc x.text (joined xs) (joined ys))
+joined-append (x ∷ xs) ys =
+    ap (λ l. x.text ++ l) (joined-append xs ys) ∙ sym (append_assoc x.text (joined xs) (joined ys))
 
 kept-append : (xs ys : List Word) → kept (xs ++ ys) ≡ kept xs ++ kept ys
 kept-append [] ys = refl
-kept-append (x ∷ xs) ys = ap (λ l. kept_word x ++ l) (kept-append xs ys) ∙ sym (append_assoc (kept_word x) (kept xs) (kept ys))
+kept-append (x ∷ xs) ys =
+    ap (λ l. kept_word x ++ l) (kept-append xs ys) ∙ sym (append_assoc (kept_word x) (kept xs) (kept ys))
 
 tokens-append : (xs : List Word) (y : Word) → AreTokens xs → Tok y.kind y.text → AreTokens (xs ++ y ∷ [])
 tokens-append [] y ts t = (t, tt)
 tokens-append (x ∷ xs) y ts t = (ts.0, tokens-append xs y ts.1 t)
 
-apart-append : (xs : List Word) (y : Word) → are_apart xs ≡ true → touches (last_edge xs) y ≡ true → are_apart (xs ++ y ∷ []) ≡ true
+apart-append : (xs : List Word) (y : Word) → are_apart xs ≡ true → touches (last_edge xs) y ≡ true
+    → are_apart (xs ++ y ∷ []) ≡ true
 apart-append [] y h t = refl
 apart-append (x ∷ []) y h t = and_from _ _ t refl
 apart-append (x ∷ next ∷ xs) y h t =
@@ -45,11 +49,13 @@ pub one-more : (text : List ℕ) (edge : Edge) (most count : ℕ) (words : List 
     → Laid (text ++ word.text) (edge_of word.kind word.text) count (words ++ kept_word word)
 one-more text edge most count words word more l tok h = record {
   all = l.all ++ word ∷ [];
-  spelled = joined-append l.all (word ∷ []) ∙ ap (λ r. joined l.all ++ r) (append-nil word.text) ∙ ap (λ r. r ++ word.text) l.spelled;
+  spelled = joined-append l.all (word ∷ []) ∙ ap (λ r. joined l.all ++ r) (append-nil word.text)
+      ∙ ap (λ r. r ++ word.text) l.spelled;
   tokens = tokens-append l.all word l.tokens tok;
   apart = apart-append l.all word l.apart (subst (λ e. touches e word ≡ true) (sym l.ends) h);
   ends = last-append l.all word;
-  same = kept-append l.all (word ∷ []) ∙ ap (λ r. kept l.all ++ r) (append-nil (kept_word word)) ∙ ap (λ r. r ++ kept_word word) l.same;
+  same = kept-append l.all (word ∷ []) ∙ ap (λ r. kept l.all ++ r) (append-nil (kept_word word))
+      ∙ ap (λ r. r ++ kept_word word) l.same;
   few = omega (arith, more, l.few, length-append l.all (word ∷ []));
 }
 
@@ -58,5 +64,7 @@ small-room ends.Whitespace = omega arith
 small-room _ = omega arith
 
 -- a text holds what was written
-pub laid-holds : (text : List ℕ) (edge : Edge) (most : ℕ) (words : List Word) → Laid text edge most words → Holds text words
-laid-holds text edge most words l = subst (λ t. Holds t words) l.spelled (subst (λ k. Holds (joined l.all) k) l.same (holds l.all l.tokens l.apart))
+pub laid-holds : (text : List ℕ) (edge : Edge) (most : ℕ) (words : List Word)
+    → Laid text edge most words → Holds text words
+laid-holds text edge most words l =
+    subst (λ t. Holds t words) l.spelled (subst (λ k. Holds (joined l.all) k) l.same (holds l.all l.tokens l.apart))

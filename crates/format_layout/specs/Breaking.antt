@@ -1,8 +1,9 @@
 -- Where a line ends in a group that breaks.
 use Rattle.std.specs.Prelude.{Bool, true, false}
 use Rattle.format_layout.specs.declared.slot.Separator.{Separator}
-use Rattle.format_layout.specs.declared.slot.Separator.TheVariants.{Nothing, Space, SoftNothing, SoftSpace, Comma, BlankComma, FirstSign, FirstMember, NoSign}
-use Rattle.format_layout.specs.declared.slot.Separator.TheVariants.{Line, BlankLine, Written}
+use Rattle.format_layout.specs.declared.slot.Separator.TheVariants.{Nothing, Space, SoftNothing, SoftSpace, Comma}
+use Rattle.format_layout.specs.declared.slot.Separator.TheVariants.{BlankComma, FirstSign, FirstMember, NoSign, Line}
+use Rattle.format_layout.specs.declared.slot.Separator.TheVariants.{BlankLine, Written}
 
 -- A line ends at each comma, at each soft place, and where a line always ends.
 abbrev pub ends_line : Separator → Bool

@@ -33,4 +33,5 @@ abbrev pub AreAllowed : Lead → List Choice → List Word → Lead → Type 0
 AreAllowed lead [] [] last = lead ≡ last
 AreAllowed lead [] (word ∷ words) last = ⊥
 AreAllowed lead (c ∷ cs) [] last = ⊥
-AreAllowed lead (c ∷ cs) (word ∷ words) last = IsAllowed lead c word × AreAllowed (lead_after lead word.kind word.text) cs words last
+AreAllowed lead (c ∷ cs) (word ∷ words) last =
+    IsAllowed lead c word × AreAllowed (lead_after lead word.kind word.text) cs words last

@@ -12,9 +12,9 @@ abbrev pub blank_room : Edge → ℕ
 blank_room Whitespace = 0
 blank_room edge = 1
 
--- Some tokens, each of which may directly follow the one before it, spell the text. They end with this edge, and those of them that are
--- significant or comments are these words. At most `most` of them are not white space, and there is white space at most once before each of these, and after
--- the last.
+-- Some tokens, each of which may directly follow the one before it, spell the text. They end with this edge, and those
+-- of them that are significant or comments are these words. At most `most` of them are not white space, and there is
+-- white space at most once before each of these, and after the last.
 pub record Laid (text : List ℕ) (edge : Edge) (most : ℕ) (words : List Word) : Type 0 where
   pub all : List Word
   pub spelled : joined all ≡ text
@@ -30,7 +30,8 @@ Keeps text edge most more next count = (words : List Word) → Laid text edge mo
 
 -- the word was written, if it is significant or a comment, and no other one
 abbrev pub Adds : List ℕ → Edge → ℕ → Word → List ℕ → Edge → ℕ → Type 0
-Adds text edge most word more next count = (words : List Word) → Laid text edge most words → Laid more next count (words ++ kept_word word)
+Adds text edge most word more next count =
+    (words : List Word) → Laid text edge most words → Laid more next count (words ++ kept_word word)
 
 -- a line feed or a space
 abbrev pub is_gap_byte : ℕ → Bool

@@ -3,7 +3,8 @@ use Rattle.std.specs.Prelude.{ℕ, Bool, true, false, List, bytes_eq, codes, if�
 use Rattle.lexical_grammar.specs.declared.TokenKind.{TokenKind}
 use Rattle.lexical_grammar.specs.declared.TokenKind.TheVariants as token
 use Rattle.format_layout.specs.declared.lead.Lead.{Lead}
-use Rattle.format_layout.specs.declared.lead.Lead.TheVariants.{Colon, Typed, Equals, Members, Pipe, Amp, Implements, On, Other}
+use Rattle.format_layout.specs.declared.lead.Lead.TheVariants.{Colon, Typed, Equals, Members, Pipe, Amp, Implements, On}
+use Rattle.format_layout.specs.declared.lead.Lead.TheVariants.{Other}
 
 abbrev pub implements_text : List ℕ
 implements_text = codes "implements"

@@ -1,5 +1,5 @@
--- The optional sign before the first of some members: `&` before an interface, `|` before a member of a union or a location of a directive (GraphQL
--- October 2021, sections 3.6, 3.8 and 3.13).
+-- The optional sign before the first of some members: `&` before an interface, `|` before a member of a union or a
+-- location of a directive (GraphQL October 2021, sections 3.6, 3.8 and 3.13).
 use Rattle.std.specs.Prelude.{ℕ, Bool, true, false, cond, eqb, ◌&&◌, ◌||◌, List, [], ◌∷◌, ◌++◌}
 use Rattle.lexical_grammar.specs.Cut.{Word, is_significant_kind}
 use Rattle.document_grammar.specs.Kinds.{AMP, PIPE, IMPLEMENTS_INTERFACES, UNION_MEMBER_TYPES, DIRECTIVE_LOCATIONS}
@@ -33,7 +33,8 @@ abbrev pub is_leaf : Tree → Bool
 is_leaf (leaf k x) = true
 is_leaf (node k f) = false
 
--- For each token that the tree spells, whether it is such a sign. The tree itself is one if it is a sign `before` the first member.
+-- For each token that the tree spells, whether it is such a sign. The tree itself is one if it is a sign `before` the
+-- first member.
 abbrev mutual
   pub marks : Bool → Tree → List Bool
   marks before (leaf k x) = cond (is_ignored k) [] ((before && is_sign k) ∷ [])

@@ -34,7 +34,8 @@ pub record LaidChosen (text : List ℕ) (edge : Edge) (most : ℕ) (lead : Lead)
 -- It has written the word so, if it is significant or a comment.
 abbrev pub AddsChosen : List ℕ → Edge → ℕ → Lead → Word → List ℕ → Edge → ℕ → Lead → Type 0
 AddsChosen text edge most lead word more next count then =
-    (words : List Word) → LaidChosen text edge most lead words → LaidChosen more next count then (words ++ kept_word word)
+    (words : List Word) → LaidChosen text edge most lead words
+    → LaidChosen more next count then (words ++ kept_word word)
 
 -- The text's significant tokens and comments are these words, or block strings with the same values.
 pub record HoldsSame (text : List ℕ) (words : List Word) : Type 0 where

@@ -45,8 +45,8 @@ fn is_block_of<A: Allocator + Copy>(alloc: A, text: &str, value: &str) -> Result
     Ok(own.as_str() == value)
 }
 
-/// The string spelled in a style, if it is a block string. `None` where it is to stay: a quoted string always, and a block string that is spelled
-/// so already. It fails where memory is refused, or the style fails.
+/// The string spelled in a style, if it is a block string. `None` where it is to stay: a quoted string always, and a
+/// block string that is spelled so already. It fails where memory is refused, or the style fails.
 pub fn spelled<A: Allocator + Copy, S: BlockStyle>(
     alloc: A,
     text: &str,

@@ -2,8 +2,9 @@
 use crate::style::{BlockStyle, WriteError};
 use std::alloc::{AllocError, Allocator};
 
-/// How block strings are spelled in a line that is indented by a number of spaces: with a line for the quotes before them, one for each line of the
-/// value, and one for the quotes after them. It stops after about as many bytes as are allowed.
+/// How block strings are spelled in a line that is indented by a number of spaces: with a line for the quotes before
+/// them, one for each line of the value, and one for the quotes after them. It stops after about as many bytes as are
+/// allowed.
 #[derive(Clone, Copy)]
 pub struct Indented {
     pub spaces: usize,
@@ -60,8 +61,8 @@ impl Indented {
         Ok(())
     }
 
-    // A value and the quotes after it, with each line below the quotes before it. Only a line that begins with white space and is the only one stays in
-    // the line of the quotes.
+    // A value and the quotes after it, with each line below the quotes before it. Only a line that begins with white
+    // space and is the only one stays in the line of the quotes.
     fn push_value<A: Allocator>(self, text: &mut String<A>, value: &str) -> Result<(), WriteError> {
         let is_beside = value.is_empty() || (!value.contains('\n') && begins_white(value));
         self.push_lines(text, value, !is_beside)?;

@@ -7,7 +7,8 @@ use document_grammar::SyntaxKind;
 /// What was met since the last token: white space, and comments.
 #[derive(Clone, Copy)]
 pub struct CommentState {
-    // where the last white space since the last token or comment begins, and how many line ends were in the white space before it, two at most
+    // where the last white space since the last token or comment begins, and how many line ends were in the white space
+    // before it, two at most
     blank: Option<usize>,
     seen_line_ends: u8,
     // whether the last token or comment was a comment
@@ -51,7 +52,8 @@ impl CommentState {
         ignores_next: false,
     };
 
-    /// How many line ends were met up to a place of the text since the last token or comment, two at most: the most that are not parted by commas.
+    /// How many line ends were met up to a place of the text since the last token or comment, two at most: the most
+    /// that are not parted by commas.
     pub fn line_ends(&self, source: &str, here: usize) -> u8 {
         let Some(start) = self.blank else {
             return 0;
@@ -105,7 +107,8 @@ impl CommentState {
         self.ignores_next
     }
 
-    /// The separator before a child that is no comment, with an empty line where the source has some and one of them stays.
+    /// The separator before a child that is no comment, with an empty line where the source has some and one of them
+    /// stays.
     #[inline(always)]
     pub fn with_blank(
         &self,
@@ -122,7 +125,8 @@ impl CommentState {
         }
     }
 
-    /// The slot before a child of a node that is no comment, after a comment: a line ends there, and a construct goes on in a line of its own.
+    /// The slot before a child of a node that is no comment, after a comment: a line ends there, and a construct goes
+    /// on in a line of its own.
     pub fn slot_after_comment(parent: &Frame, child: SyntaxKind, slot: Slot) -> Slot {
         if slot.separator.is_line()
             || slot.separator.is_soft()
@@ -145,7 +149,8 @@ impl CommentState {
         }
     }
 
-    // What separates a comment from the text before it: it stays in the line of the token before it, or has a line of its own.
+    // What separates a comment from the text before it: it stays in the line of the token before it, or has a line of
+    // its own.
     fn separator_of_comment(&self, parent: &Frame, is_first: bool, line_ends: u8) -> Separator {
         if is_first {
             return Separator::Nothing;
@@ -161,7 +166,8 @@ impl CommentState {
         }
     }
 
-    /// The slot before a comment that is a child of a node: in the line of the token before it, or in a line of its own.
+    /// The slot before a comment that is a child of a node: in the line of the token before it, or in a line of its
+    /// own.
     pub fn slot_of_comment(
         &self,
         parent: &Frame,

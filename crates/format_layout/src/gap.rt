@@ -1,7 +1,7 @@
 // What is to be between two tokens.
 
-/// What is to be between a token and the one before it: perhaps a comma, then line feeds, then spaces. It is advice: the writer adds the white space that
-/// keeps the tokens apart, and leaves a comma out after a comment.
+/// What is to be between a token and the one before it: perhaps a comma, then line feeds, then spaces. It is advice:
+/// the writer adds the white space that keeps the tokens apart, and leaves a comma out after a comment.
 #[derive(Clone, Copy)]
 pub struct Gap {
     /// Whether a comma comes first.

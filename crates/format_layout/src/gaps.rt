@@ -185,8 +185,8 @@ impl<A: Allocator + Copy> Gaps<A> {
         }
     }
 
-    /// The advice for the next token or comment, where the last one ends in a column; a space where there is none left. It fails only where memory is
-    /// refused.
+    /// The advice for the next token or comment, where the last one ends in a column; a space where there is none left.
+    /// It fails only where memory is refused.
     #[inline(always)]
     pub fn next_advice(&mut self, column: usize) -> Result<Advice, AllocError> {
         let Some(slot) = self.slots.get(self.next).copied() else {

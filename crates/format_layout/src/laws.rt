@@ -9,10 +9,11 @@ ghost use Rattle.document_grammar.specs.Sentence.{Sentence};
 ghost use Rattle.format_layout.specs.Respelled.{Alike, AreSameWords, Respelled};
 ghost use Rattle.format_layout.specs.Signs.{unsigned};
 
-/// A text that has the tokens and comments of a sentence, but that block strings may be others with the same values, is a sentence. Its
-/// derivation is the first one's but for these strings.
+/// A text that has the tokens and comments of a sentence, but that block strings may be others with the same values, is
+/// a sentence. Its derivation is the first one's but for these strings.
 pub fn respelled()
-    ensures { (source text : List ℕ) (items others : List Item) (t : Tree) → Cut source items → are_tokens items ≡ true → Cut text others → are_tokens others ≡ true
+    ensures { (source text : List ℕ) (items others : List Item) (t : Tree) → Cut source items → are_tokens items ≡ true
+        → Cut text others → are_tokens others ≡ true
         → AreSameWords (Kept items) (Kept others) → Sentence source t document → Respelled text t }
 {}
 

@@ -1,5 +1,7 @@
-// The writer of tokens and of the gaps between them. Functions called for each token are inlined: the whole program takes some 3 % less time.
-ghost use Rattle.std.specs.Prelude.{◌≡◌, ◌+◌, ◌*◌, ◌<◌, ◌≤◌, true, false, [], List, IfOk, OnOk, length, slice_index, string_bytes};
+// The writer of tokens and of the gaps between them. Functions called for each token are inlined: the whole program
+// takes some 3 % less time.
+ghost use Rattle.std.specs.Prelude.{◌≡◌, ◌+◌, ◌*◌, ◌<◌, ◌≤◌, true, false, [], List, IfOk, OnOk, length, slice_index};
+ghost use Rattle.std.specs.Prelude.{string_bytes};
 ghost use Rattle.std.specs.List.{list_all};
 ghost use Rattle.lexical_grammar.specs.Cut.{Word};
 ghost use Rattle.lexical_grammar.specs.Tokens.{Tok};
@@ -19,8 +21,8 @@ const SPACES: &str = "                                ";
 
 const LINE: &str = "\n                                ";
 
-/// Writes tokens, and commas and white space between them. At each moment its text has a cut without bad text, whose significant tokens and
-/// comments are those that were written.
+/// Writes tokens, and commas and white space between them. At each moment its text has a cut without bad text, whose
+/// significant tokens and comments are those that were written.
 #[derive(Drop)]
 pub struct Layout<A: Allocator> {
     text: String<A>,
@@ -65,9 +67,13 @@ impl<A: Allocator> Layout<A> {
         requires some { 0 < length run.now }
         requires blank { list_all is_gap_byte run.now ≡ true }
         requires apart { takes_blank self.old.edge (slice_index run.now 0) ≡ true }
-        ensures keeps { OnOk result (Keeps (string_bytes self.old.text) self.old.edge self.old.tokens.value (string_bytes self.new.text) self.new.edge self.new.tokens.value) }
+        ensures keeps { OnOk result
+            (Keeps (string_bytes self.old.text) self.old.edge self.old.tokens.value (string_bytes self.new.text)
+            self.new.edge self.new.tokens.value) }
         ensures edge { OnOk result (self.new.edge ≡ Whitespace) }
-        ensures short { OnOk result (ended_length (string_bytes self.new.text) self.new.edge ≤ length (string_bytes self.old.text) + length run.now) }
+        ensures short { OnOk result
+            (ended_length (string_bytes self.new.text) self.new.edge
+            ≤ length (string_bytes self.old.text) + length run.now) }
         ensures few { OnOk result (self.new.tokens.value ≡ self.old.tokens.value) }
     {
         self.text.push_str(run)?;
@@ -78,9 +84,12 @@ impl<A: Allocator> Layout<A> {
     /// Writes a line feed. It fails only where memory is refused.
     #[inline(always)]
     pub fn line(&mut self) -> Result<(), AllocError>
-        ensures keeps { OnOk result (Keeps (string_bytes self.old.text) self.old.edge self.old.tokens.value (string_bytes self.new.text) self.new.edge self.new.tokens.value) }
+        ensures keeps { OnOk result
+            (Keeps (string_bytes self.old.text) self.old.edge self.old.tokens.value (string_bytes self.new.text)
+            self.new.edge self.new.tokens.value) }
         ensures edge { OnOk result (self.new.edge ≡ Whitespace) }
-        ensures short { OnOk result (ended_length (string_bytes self.new.text) self.new.edge ≤ length (string_bytes self.old.text) + 1) }
+        ensures short { OnOk result
+            (ended_length (string_bytes self.new.text) self.new.edge ≤ length (string_bytes self.old.text) + 1) }
         ensures few { OnOk result (self.new.tokens.value ≡ self.old.tokens.value) }
     {
         self.push_blanks("\n")
@@ -90,9 +99,13 @@ impl<A: Allocator> Layout<A> {
     #[inline(always)]
     fn blanks(&mut self, run: &str) -> Result<(), AllocError>
         requires { list_all is_gap_byte run.now ≡ true }
-        ensures keeps { OnOk result (Keeps (string_bytes self.old.text) self.old.edge self.old.tokens.value (string_bytes self.new.text) self.new.edge self.new.tokens.value) }
+        ensures keeps { OnOk result
+            (Keeps (string_bytes self.old.text) self.old.edge self.old.tokens.value (string_bytes self.new.text)
+            self.new.edge self.new.tokens.value) }
         ensures edge { OnOk result (0 < length run.now → self.new.edge ≡ Whitespace) }
-        ensures short { OnOk result (ended_length (string_bytes self.new.text) self.new.edge ≤ ended_length (string_bytes self.old.text) self.old.edge + length run.now) }
+        ensures short { OnOk result
+            (ended_length (string_bytes self.new.text) self.new.edge
+            ≤ ended_length (string_bytes self.old.text) self.old.edge + length run.now) }
         ensures few { OnOk result (self.new.tokens.value ≡ self.old.tokens.value) }
     {
         let Some(first) = run.as_bytes().first() else {
@@ -107,8 +120,12 @@ impl<A: Allocator> Layout<A> {
 
     /// Writes a space. It fails only where memory is refused.
     pub fn space(&mut self) -> Result<(), AllocError>
-        ensures keeps { OnOk result (Keeps (string_bytes self.old.text) self.old.edge self.old.tokens.value (string_bytes self.new.text) self.new.edge self.new.tokens.value) }
-        ensures short { OnOk result (ended_length (string_bytes self.new.text) self.new.edge ≤ ended_length (string_bytes self.old.text) self.old.edge + 1) }
+        ensures keeps { OnOk result
+            (Keeps (string_bytes self.old.text) self.old.edge self.old.tokens.value (string_bytes self.new.text)
+            self.new.edge self.new.tokens.value) }
+        ensures short { OnOk result
+            (ended_length (string_bytes self.new.text) self.new.edge
+            ≤ ended_length (string_bytes self.old.text) self.old.edge + 1) }
         ensures few { OnOk result (self.new.tokens.value ≡ self.old.tokens.value) }
     {
         self.blanks(" ")
@@ -117,8 +134,12 @@ impl<A: Allocator> Layout<A> {
     // So many spaces.
     #[inline(always)]
     fn spaces(&mut self, count: usize) -> Result<(), AllocError>
-        ensures keeps { OnOk result (Keeps (string_bytes self.old.text) self.old.edge self.old.tokens.value (string_bytes self.new.text) self.new.edge self.new.tokens.value) }
-        ensures short { OnOk result (ended_length (string_bytes self.new.text) self.new.edge ≤ ended_length (string_bytes self.old.text) self.old.edge + count) }
+        ensures keeps { OnOk result
+            (Keeps (string_bytes self.old.text) self.old.edge self.old.tokens.value (string_bytes self.new.text)
+            self.new.edge self.new.tokens.value) }
+        ensures short { OnOk result
+            (ended_length (string_bytes self.new.text) self.new.edge
+            ≤ ended_length (string_bytes self.old.text) self.old.edge + count) }
         ensures few { OnOk result (self.new.tokens.value ≡ self.old.tokens.value) }
     {
         if count == 1 {
@@ -137,8 +158,12 @@ impl<A: Allocator> Layout<A> {
     // A comma, but nothing after a comment.
     #[inline(always)]
     fn comma(&mut self) -> Result<(), AllocError>
-        ensures keeps { OnOk result (Keeps (string_bytes self.old.text) self.old.edge self.old.tokens.value (string_bytes self.new.text) self.new.edge self.new.tokens.value) }
-        ensures short { OnOk result (ended_length (string_bytes self.new.text) self.new.edge ≤ ended_length (string_bytes self.old.text) self.old.edge + 1) }
+        ensures keeps { OnOk result
+            (Keeps (string_bytes self.old.text) self.old.edge self.old.tokens.value (string_bytes self.new.text)
+            self.new.edge self.new.tokens.value) }
+        ensures short { OnOk result
+            (ended_length (string_bytes self.new.text) self.new.edge
+            ≤ ended_length (string_bytes self.old.text) self.old.edge + 1) }
         ensures few { OnOk result (self.new.tokens.value ≤ self.old.tokens.value + 1) }
     {
         if !self.edge.may_touch(TokenKind::Comma, b',') {
@@ -153,8 +178,12 @@ impl<A: Allocator> Layout<A> {
     /// Writes what is to be before a token. It fails only where memory is refused.
     #[inline(always)]
     pub fn gap(&mut self, gap: Gap) -> Result<(), AllocError>
-        ensures keeps { OnOk result (Keeps (string_bytes self.old.text) self.old.edge self.old.tokens.value (string_bytes self.new.text) self.new.edge self.new.tokens.value) }
-        ensures short { OnOk result (ended_length (string_bytes self.new.text) self.new.edge ≤ ended_length (string_bytes self.old.text) self.old.edge + gap.lines + gap.spaces + 1) }
+        ensures keeps { OnOk result
+            (Keeps (string_bytes self.old.text) self.old.edge self.old.tokens.value (string_bytes self.new.text)
+            self.new.edge self.new.tokens.value) }
+        ensures short { OnOk result
+            (ended_length (string_bytes self.new.text) self.new.edge
+            ≤ ended_length (string_bytes self.old.text) self.old.edge + gap.lines + gap.spaces + 1) }
         ensures few { OnOk result (self.new.tokens.value ≤ self.old.tokens.value + 1) }
         ensures blank { OnOk result (gap.comma ≡ false → self.new.tokens.value ≡ self.old.tokens.value) }
     {
@@ -179,8 +208,13 @@ impl<A: Allocator> Layout<A> {
     fn put(&mut self, kind: TokenKind, text: &str) -> Result<(), AllocError>
         requires token { Tok kind text.now }
         requires apart { touches self.old.edge (record { kind = kind; text = text.now }) ≡ true }
-        ensures adds { OnOk result (Adds (string_bytes self.old.text) self.old.edge self.old.tokens.value (record { kind = kind; text = text.now }) (string_bytes self.new.text) self.new.edge self.new.tokens.value) }
-        ensures short { OnOk result (ended_length (string_bytes self.new.text) self.new.edge ≤ length (string_bytes self.old.text) + length text.now + 1) }
+        ensures adds { OnOk result
+            (Adds (string_bytes self.old.text) self.old.edge self.old.tokens.value
+            (record { kind = kind; text = text.now }) (string_bytes self.new.text) self.new.edge
+            self.new.tokens.value) }
+        ensures short { OnOk result
+            (ended_length (string_bytes self.new.text) self.new.edge
+            ≤ length (string_bytes self.old.text) + length text.now + 1) }
         ensures few { OnOk result (self.new.tokens.value ≤ self.old.tokens.value + 1) }
     {
         self.text.push_str(text)?;
@@ -189,14 +223,19 @@ impl<A: Allocator> Layout<A> {
         Ok(())
     }
 
-    /// Writes a significant token or a comment: after a space where it could not follow directly, and after a line feed where that is a
-    /// comment. It fails only where memory is refused.
+    /// Writes a significant token or a comment: after a space where it could not follow directly, and after a line feed
+    /// where that is a comment. It fails only where memory is refused.
     #[inline(always)]
     pub fn token(&mut self, kind: TokenKind, text: &str) -> Result<(), AllocError>
         requires token { Tok kind text.now }
         requires kept { is_kept_kind kind ≡ true }
-        ensures adds { OnOk result (Adds (string_bytes self.old.text) self.old.edge self.old.tokens.value (record { kind = kind; text = text.now }) (string_bytes self.new.text) self.new.edge self.new.tokens.value) }
-        ensures short { OnOk result (ended_length (string_bytes self.new.text) self.new.edge ≤ ended_length (string_bytes self.old.text) self.old.edge + length text.now + 2) }
+        ensures adds { OnOk result
+            (Adds (string_bytes self.old.text) self.old.edge self.old.tokens.value
+            (record { kind = kind; text = text.now }) (string_bytes self.new.text) self.new.edge
+            self.new.tokens.value) }
+        ensures short { OnOk result
+            (ended_length (string_bytes self.new.text) self.new.edge
+            ≤ ended_length (string_bytes self.old.text) self.old.edge + length text.now + 2) }
         ensures few { OnOk result (self.new.tokens.value ≤ self.old.tokens.value + 1) }
     {
         let first = text.as_bytes().first().copied().unwrap_or(0);
@@ -206,12 +245,17 @@ impl<A: Allocator> Layout<A> {
         self.put(kind, text)
     }
 
-    /// Writes white space or a comma of another text as it is, but nothing where it could not follow directly. It fails only where memory is refused.
+    /// Writes white space or a comma of another text as it is, but nothing where it could not follow directly. It fails
+    /// only where memory is refused.
     pub fn ignored(&mut self, kind: TokenKind, text: &str) -> Result<(), AllocError>
         requires token { Tok kind text.now }
         requires ignored { is_kept_kind kind ≡ false }
-        ensures keeps { OnOk result (Keeps (string_bytes self.old.text) self.old.edge self.old.tokens.value (string_bytes self.new.text) self.new.edge self.new.tokens.value) }
-        ensures short { OnOk result (ended_length (string_bytes self.new.text) self.new.edge ≤ ended_length (string_bytes self.old.text) self.old.edge + length text.now + 1) }
+        ensures keeps { OnOk result
+            (Keeps (string_bytes self.old.text) self.old.edge self.old.tokens.value (string_bytes self.new.text)
+            self.new.edge self.new.tokens.value) }
+        ensures short { OnOk result
+            (ended_length (string_bytes self.new.text) self.new.edge
+            ≤ ended_length (string_bytes self.old.text) self.old.edge + length text.now + 1) }
         ensures few { OnOk result (self.new.tokens.value ≤ self.old.tokens.value + 1) }
     {
         let first = text.as_bytes().first().copied().unwrap_or(0);
@@ -223,8 +267,10 @@ impl<A: Allocator> Layout<A> {
 
     /// The text: its significant tokens and comments are those that were written, in that order.
     pub fn finish(self) -> String<A>
-        ensures holds { (words : List Word) → Laid (string_bytes self.text) self.edge self.tokens.value words → Holds (string_bytes result) words }
-        ensures few { (words : List Word) → Laid (string_bytes self.text) self.edge self.tokens.value words → length (items_of (string_bytes result)) ≤ 2 * self.tokens.value + 2 }
+        ensures holds { (words : List Word) → Laid (string_bytes self.text) self.edge self.tokens.value words
+            → Holds (string_bytes result) words }
+        ensures few { (words : List Word) → Laid (string_bytes self.text) self.edge self.tokens.value words
+            → length (items_of (string_bytes result)) ≤ 2 * self.tokens.value + 2 }
         ensures text { string_bytes result ≡ string_bytes self.text }
     {
         self.text

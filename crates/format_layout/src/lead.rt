@@ -1,12 +1,14 @@
 // Which signs before a first member may come or go.
 ghost use Rattle.std.specs.Prelude.{◌≡◌};
-ghost use Rattle.format_layout.specs.Leads.{after_interface, after_member, after_name, after_word, lead_after, may_come, may_go};
+ghost use Rattle.format_layout.specs.Leads.{after_interface, after_member, after_name, after_word, lead_after};
+ghost use Rattle.format_layout.specs.Leads.{may_come, may_go};
 
 use lexical_grammar::TokenKind;
 
-/// What the last significant tokens say of a sign `|` or `&` after them: it is optional only before the first of some members. They tell the equals sign
-/// before the members of a union from the one before a default value, and the words `implements` and `on` from types of these names. Where that is open,
-/// as in `type implements implements & A`, the sign is taken for one that has to stay.
+/// What the last significant tokens say of a sign `|` or `&` after them: it is optional only before the first of some
+/// members. They tell the equals sign before the members of a union from the one before a default value, and the words
+/// `implements` and `on` from types of these names. Where that is open, as in `type implements implements & A`, the
+/// sign is taken for one that has to stay.
 #[derive(Clone, Copy)]
 pub enum Lead {
     /// A colon: a type follows.

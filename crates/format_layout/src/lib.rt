@@ -1,12 +1,14 @@
-//! A document with another layout: its significant tokens and comments, but for the optional sign before a first member, and block strings spelled for
-//! their lines.
+//! A document with another layout: its significant tokens and comments, but for the optional sign before a first
+//! member, and block strings spelled for their lines.
 //!
-//! `formatter` takes the `Gaps` of a tree, and lets the tree go before `format_document` writes the text. The layout has groups, which are in one
-//! line where they fit and broken where they don't, in the way of prettier (docs/FORMAT.md): one walk over the tree finds the place before each token
-//! and the width of each group, and the writer, which knows the column, takes a gap for each place. That is advice, and beside its safety one rule
-//! has a contract: where a group breaks, its commas become line ends (`Separator::broken`). Whatever the gaps, `Layout` writes the tokens
-//! so that they stay the tokens that they are. So is how block strings are spelled: `spelled` compares the values, and the laws say what a text keeps
-//! whose block strings are spelled anew. And so is which signs come or go: the writer knows by the tokens before them which ones are optional (`Lead`).
+//! `formatter` takes the `Gaps` of a tree, and lets the tree go before `format_document` writes the text. The layout
+//! has groups, which are in one line where they fit and broken where they don't, in the way of prettier
+//! (docs/FORMAT.md): one walk over the tree finds the place before each token and the width of each group, and the
+//! writer, which knows the column, takes a gap for each place. That is advice, and beside its safety one rule has a
+//! contract: where a group breaks, its commas become line ends (`Separator::broken`). Whatever the gaps, `Layout`
+//! writes the tokens so that they stay the tokens that they are. So is how block strings are spelled: `spelled`
+//! compares the values, and the laws say what a text keeps whose block strings are spelled anew. And so is which signs
+//! come or go: the writer knows by the tokens before them which ones are optional (`Lead`).
 #![tactic(auto)]
 
 mod block_strings;

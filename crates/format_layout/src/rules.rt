@@ -1,4 +1,5 @@
-// The layout of each construct, and all of it: what is between two neighbours below a node, where empty lines stay, and which lines are indented.
+// The layout of each construct, and all of it: what is between two neighbours below a node, where empty lines stay, and
+// which lines are indented.
 use crate::slot::Separator;
 use document_grammar::SyntaxKind;
 
@@ -7,7 +8,8 @@ use document_grammar::SyntaxKind;
 pub enum Inside {
     /// The definitions of a document.
     Document,
-    /// Arguments, variable definitions or the fields of an object value, in one line or with a line each, and empty lines between them.
+    /// Arguments, variable definitions or the fields of an object value, in one line or with a line each, and empty
+    /// lines between them.
     Entries,
     /// The values of a list, in one line or with a line each.
     Values,
@@ -100,7 +102,8 @@ pub fn closes(kind: SyntaxKind) -> bool {
     )
 }
 
-/// Whether what follows this child has a line of its own between braces: in a schema, what follows the opening brace or a root operation.
+/// Whether what follows this child has a line of its own between braces: in a schema, what follows the opening brace or
+/// a root operation.
 #[inline(always)]
 pub fn is_in_braces(inside: Inside, left: SyntaxKind) -> bool {
     match inside {
@@ -151,8 +154,8 @@ fn may_keep_blank(inside: Inside, left: Option<SyntaxKind>, is_after_comment: bo
         }
 }
 
-/// Whether empty lines between two neighbours become one, where the right one is no comment. Between the values of a list they go, and before a closing
-/// bracket.
+/// Whether empty lines between two neighbours become one, where the right one is no comment. Between the values of a
+/// list they go, and before a closing bracket.
 #[inline(always)]
 pub fn keeps_blank(
     inside: Inside,
@@ -190,8 +193,8 @@ pub fn goes_on(inside: Inside, right: SyntaxKind) -> bool {
         && right != SyntaxKind::L_CURLY
 }
 
-/// Whether a sign between members is left out that is the first child: `|` before the first location of a directive. Before the first member of a union and
-/// the first interface, `between` says it.
+/// Whether a sign between members is left out that is the first child: `|` before the first location of a directive.
+/// Before the first member of a union and the first interface, `between` says it.
 #[inline(always)]
 pub fn leaves_out_sign(parent: SyntaxKind, left: Option<SyntaxKind>) -> bool {
     parent == SyntaxKind::DIRECTIVE_LOCATIONS && left.is_none()

@@ -4,8 +4,8 @@ use unicode_width::UnicodeWidthStr;
 /// How many columns the quotes of a block string take.
 pub const QUOTES: usize = 3;
 
-// Whether the text of a block string has its quotes in one line, and text between them that begins with a space or a tab. Then it stays: its value
-// would change if the text had a line of its own.
+// Whether the text of a block string has its quotes in one line, and text between them that begins with a space or a
+// tab. Then it stays: its value would change if the text had a line of its own.
 fn is_inline(text: &str) -> bool {
     let Some(inner) = text.get(QUOTES..) else {
         return false;

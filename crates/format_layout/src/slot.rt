@@ -1,4 +1,5 @@
-// The place before a token, as the walk over the tree leaves it. Whether a group breaks that begins there is known only with its column.
+// The place before a token, as the walk over the tree leaves it. Whether a group breaks that begins there is known only
+// with its column.
 ghost use Rattle.std.specs.Prelude.{◌≡◌, ◌<◌, true, false};
 ghost use Rattle.format_layout.specs.Breaking.{ends_line};
 
@@ -22,9 +23,11 @@ pub enum Separator {
     Comma,
     /// A comma and a space, or the end of a line and an empty line where the group breaks.
     BlankComma,
-    /// A sign before the first member of a union, which is left out. Where the group breaks, it stays after the end of a line.
+    /// A sign before the first member of a union, which is left out. Where the group breaks, it stays after the end of
+    /// a line.
     FirstSign,
-    /// A space before the first member of a union, which has no sign. Where the group breaks, the end of a line and a sign.
+    /// A space before the first member of a union, which has no sign. Where the group breaks, the end of a line and a
+    /// sign.
     FirstMember,
     /// A sign before the first interface or location, which is left out.
     NoSign,
@@ -80,7 +83,8 @@ impl Separator {
         }
     }
 
-    /// What it is while the group around it does not break. A line that begins after it is indented by a number of levels.
+    /// What it is while the group around it does not break. A line that begins after it is indented by a number of
+    /// levels.
     #[inline(always)]
     pub fn flat(self, level: u16) -> Gap {
         match self {
@@ -99,7 +103,8 @@ impl Separator {
         }
     }
 
-    /// What it is in a group that breaks: the end of a line at each comma and at each place where a line may end, and no comma.
+    /// What it is in a group that breaks: the end of a line at each comma and at each place where a line may end, and
+    /// no comma.
     #[inline(always)]
     pub fn broken(self, level: u16) -> Gap
         ensures lines { ends_line self ≡ true → 0 < result.lines }
@@ -158,7 +163,8 @@ pub struct Slot {
     pub part: Part,
     /// Whether a group without brackets ends before it.
     pub is_after_group: bool,
-    /// How many columns the group that begins with the token takes in one line, with the tokens after it up to the next place where a line may end.
+    /// How many columns the group that begins with the token takes in one line, with the tokens after it up to the next
+    /// place where a line may end.
     pub width: u8,
     /// How many levels deep a line that begins there is indented, without the broken groups around it.
     pub level: u16,

@@ -1,5 +1,6 @@
-// The walk over the tree of a document, which finds the slots before its tokens. What is called for each of them is inlined: the whole program takes
-// some 6 % less time. The walk itself is not, since its loop and the writer's would have to share the processor's registers.
+// The walk over the tree of a document, which finds the slots before its tokens. What is called for each of them is
+// inlined: the whole program takes some 6 % less time. The walk itself is not, since its loop and the writer's would
+// have to share the processor's registers.
 use crate::comments::CommentState;
 use crate::elements::Elements;
 use crate::rules::{
@@ -114,7 +115,8 @@ struct Walk<'t, A: Allocator> {
     is_after_group: bool,
     // the number of the last slot in which a line ends, or of the last token in which one does
     last_line: usize,
-    // where the last token ends, in columns while nothing breaks; it is counted only while a group is open, or one that has ended waits
+    // where the last token ends, in columns while nothing breaks; it is counted only while a group is open, or one that
+    // has ended waits
     column: usize,
 }
 
@@ -480,7 +482,8 @@ impl<'t, A: Allocator + Copy> Walk<'t, A> {
         document.previous.is_some() && !self.comments.last_was_comment() && self.line_ends() == 0
     }
 
-    // An empty line before a definition in the line of the one before it, where the last token is the closing brace of one of the two.
+    // An empty line before a definition in the line of the one before it, where the last token is the closing brace of
+    // one of the two.
     fn part_definition(&mut self, first: usize) {
         if !self.after_brace {
             return;
@@ -562,7 +565,8 @@ impl<'t, A: Allocator + Copy> Walk<'t, A> {
     }
 }
 
-/// The slots before the significant tokens and the comments of a document, in their order. It fails only where memory is refused.
+/// The slots before the significant tokens and the comments of a document, in their order. It fails only where memory
+/// is refused.
 #[inline(never)]
 pub fn slots_of<E: Elements, A: Allocator + Copy>(
     alloc: A,

@@ -1,5 +1,6 @@
 // The tokens of a text, written with other gaps between them.
-ghost use Rattle.std.specs.Prelude.{◌≡◌, ◌+◌, ◌*◌, ◌<◌, ◌≤◌, true, false, IfErr, IfOk, IfSome, OnOk, length, string_bytes};
+ghost use Rattle.std.specs.Prelude.{◌≡◌, ◌+◌, ◌*◌, ◌<◌, ◌≤◌, true, false, IfErr, IfOk, IfSome, OnOk, length};
+ghost use Rattle.std.specs.Prelude.{string_bytes};
 ghost use Rattle.lexical_grammar.specs.Answers.{IsTokenText, usize_max};
 ghost use Rattle.lexical_grammar.specs.declared.TokenKind.TheVariants.{Eof};
 ghost use Rattle.lexical_grammar.specs.Tokens.{IsString, Tok};
@@ -30,8 +31,9 @@ use std::alloc::Allocator;
 // How many spaces a line is indented by for each level.
 const LEVEL: usize = 2;
 
-// How many levels a line is indented by at most that are not counted as nesting. The layout has six, where a comment is in the value of an argument of a
-// directive: the braces and parentheses around the directive, the directive, its parentheses, the value, and the comment.
+// How many levels a line is indented by at most that are not counted as nesting. The layout has six, where a comment is
+// in the value of an argument of a directive: the braces and parentheses around the directive, the directive, its
+// parentheses, the value, and the comment.
 const OTHER_LEVELS: usize = 16;
 
 // How many line feeds are between two tokens at most.
@@ -48,8 +50,9 @@ fn deepest_indent(nesting: usize) -> u16
     u16::try_from(spaces).unwrap_or(u16::MAX)
 }
 
-// What a formatted text keeps to. The gaps are advice, and so are other block strings: what they take beyond `deepest` is left out, so that a text is
-// refused only where `most` is small for it. The layout stays within `deepest`, so nothing of it is ever left out.
+// What a formatted text keeps to. The gaps are advice, and so are other block strings: what they take beyond `deepest`
+// is left out, so that a text is refused only where `most` is small for it. The layout stays within `deepest`, so
+// nothing of it is ever left out.
 #[derive(Clone, Copy)]
 struct Bounds {
     // how many bytes it has at most
@@ -59,7 +62,8 @@ struct Bounds {
 }
 
 impl Bounds {
-    // How many bytes there are for a token that has this text in the source, besides those for the gap before it, a sign, spaces and a line feed.
+    // How many bytes there are for a token that has this text in the source, besides those for the gap before it, a
+    // sign, spaces and a line feed.
     fn room(self, text: &str) -> usize
         requires { 0 < length text.now }
         ensures { result + self.deepest + 9 ≤ bytes_for_each self.deepest * length text.now }
@@ -99,14 +103,19 @@ struct Writer<A: Allocator> {
 }
 
 impl<A: Allocator + Copy> Writer<A> {
-    // The block string in other words with the same value, or `None` where it stays as it is. It does too where the other words take more bytes than there
-    // are for it, which never happens: a line of its value takes a byte of it and an indent.
+    // The block string in other words with the same value, or `None` where it stays as it is. It does too where the
+    // other words take more bytes than there are for it, which never happens: a line of its value takes a byte of it
+    // and an indent.
     fn other_words(&self, text: &str) -> Result<Option<String<A>>, WriteError>
         requires { IsString text.now }
         ensures string { IfOk result (λ o. IfSome o (λ other. IsString (string_bytes other))) }
         ensures same { IfOk result (λ o. IfSome o (λ other. SameBlock text.now (string_bytes other))) }
-        ensures short { IfOk result (λ o. IfSome o (λ other. length (string_bytes other) + self.now.bounds.deepest + 9 ≤ bytes_for_each self.now.bounds.deepest * length text.now)) }
-        ensures long { IfErr result (λ error. error ≡ TooLong → self.now.bounds.most < bytes_for_each self.now.bounds.deepest * length text.now) }
+        ensures short { IfOk result
+            (λ o. IfSome o (λ other. length (string_bytes other) + self.now.bounds.deepest + 9
+            ≤ bytes_for_each self.now.bounds.deepest * length text.now)) }
+        ensures long { IfErr result
+            (λ error. error ≡ TooLong
+            → self.now.bounds.most < bytes_for_each self.now.bounds.deepest * length text.now) }
     {
         let room = self.bounds.room(text);
         let style = Indented {
@@ -120,15 +129,23 @@ impl<A: Allocator + Copy> Writer<A> {
         }
     }
 
-    // Writes a significant token or a comment as it is, or, where it need not stay so, another block string with the same value.
+    // Writes a significant token or a comment as it is, or, where it need not stay so, another block string with the
+    // same value.
     fn spell(&mut self, kind: TokenKind, text: &str, stays: bool) -> Result<(), WriteError>
         requires token { Tok kind text.now }
         requires kept { is_kept_kind kind ≡ true }
-        ensures adds { OnOk result (AddsSame (string_bytes self.old.layout.text) self.old.layout.edge self.old.layout.tokens.value (record { kind = kind; text = text.now }) (string_bytes self.new.layout.text) self.new.layout.edge self.new.layout.tokens.value) }
-        ensures short { OnOk result (ended_length (string_bytes self.new.layout.text) self.new.layout.edge + self.old.bounds.deepest + 7
-            ≤ ended_length (string_bytes self.old.layout.text) self.old.layout.edge + bytes_for_each self.old.bounds.deepest * length text.now) }
+        ensures adds { OnOk result
+            (AddsSame (string_bytes self.old.layout.text) self.old.layout.edge self.old.layout.tokens.value
+            (record { kind = kind; text = text.now }) (string_bytes self.new.layout.text) self.new.layout.edge
+            self.new.layout.tokens.value) }
+        ensures short { OnOk result
+            (ended_length (string_bytes self.new.layout.text) self.new.layout.edge + self.old.bounds.deepest + 7
+            ≤ ended_length (string_bytes self.old.layout.text) self.old.layout.edge
+            + bytes_for_each self.old.bounds.deepest * length text.now) }
         ensures few { OnOk result (self.new.layout.tokens.value ≤ self.old.layout.tokens.value + 1) }
-        ensures long { IfErr result (λ error. error ≡ TooLong → self.old.bounds.most < bytes_for_each self.old.bounds.deepest * length text.now) }
+        ensures long { IfErr result
+            (λ error. error ≡ TooLong
+            → self.old.bounds.most < bytes_for_each self.old.bounds.deepest * length text.now) }
         ensures bounds { self.new.bounds ≡ self.old.bounds }
     {
         self.column = self.column_after_token(kind, text, self.column);
@@ -146,8 +163,12 @@ impl<A: Allocator + Copy> Writer<A> {
     fn write_ignored(&mut self, kind: TokenKind, text: &str) -> Result<(), WriteError>
         requires token { IsTokenText kind text.now }
         requires ignored { is_kept_kind kind ≡ false }
-        ensures keeps { OnOk result (Keeps (string_bytes self.old.layout.text) self.old.layout.edge self.old.layout.tokens.value (string_bytes self.new.layout.text) self.new.layout.edge self.new.layout.tokens.value) }
-        ensures short { OnOk result (ended_length (string_bytes self.new.layout.text) self.new.layout.edge ≤ ended_length (string_bytes self.old.layout.text) self.old.layout.edge + 2 * length text.now) }
+        ensures keeps { OnOk result
+            (Keeps (string_bytes self.old.layout.text) self.old.layout.edge self.old.layout.tokens.value
+            (string_bytes self.new.layout.text) self.new.layout.edge self.new.layout.tokens.value) }
+        ensures short { OnOk result
+            (ended_length (string_bytes self.new.layout.text) self.new.layout.edge
+            ≤ ended_length (string_bytes self.old.layout.text) self.old.layout.edge + 2 * length text.now) }
         ensures few { OnOk result (self.new.layout.tokens.value ≤ self.old.layout.tokens.value + 1) }
         ensures end { OnOk result (kind ≡ Eof → self.new.layout.tokens.value ≡ self.old.layout.tokens.value) }
         ensures memory { IfErr result (λ error. error ≡ Memory) }
@@ -176,8 +197,12 @@ impl<A: Allocator + Copy> Writer<A> {
     // Writes the gap before a token.
     #[inline(always)]
     fn write_gap(&mut self, gap: Gap) -> Result<(), WriteError>
-        ensures keeps { OnOk result (Keeps (string_bytes self.old.layout.text) self.old.layout.edge self.old.layout.tokens.value (string_bytes self.new.layout.text) self.new.layout.edge self.new.layout.tokens.value) }
-        ensures short { OnOk result (ended_length (string_bytes self.new.layout.text) self.new.layout.edge ≤ ended_length (string_bytes self.old.layout.text) self.old.layout.edge + self.old.bounds.deepest + 3) }
+        ensures keeps { OnOk result
+            (Keeps (string_bytes self.old.layout.text) self.old.layout.edge self.old.layout.tokens.value
+            (string_bytes self.new.layout.text) self.new.layout.edge self.new.layout.tokens.value) }
+        ensures short { OnOk result
+            (ended_length (string_bytes self.new.layout.text) self.new.layout.edge
+            ≤ ended_length (string_bytes self.old.layout.text) self.old.layout.edge + self.old.bounds.deepest + 3) }
         ensures few { OnOk result (self.new.layout.tokens.value ≤ self.old.layout.tokens.value + 1) }
         ensures blank { OnOk result (gap.comma ≡ false → self.new.layout.tokens.value ≡ self.old.layout.tokens.value) }
         ensures memory { IfErr result (λ error. error ≡ Memory) }
@@ -196,10 +221,18 @@ impl<A: Allocator + Copy> Writer<A> {
     fn write_token(&mut self, kind: TokenKind, text: &str, advice: Advice) -> Result<(), WriteError>
         requires token { Tok kind text.now }
         requires kept { is_kept_kind kind ≡ true }
-        ensures adds { OnOk result (AddsSame (string_bytes self.old.layout.text) self.old.layout.edge self.old.layout.tokens.value (record { kind = kind; text = text.now }) (string_bytes self.new.layout.text) self.new.layout.edge self.new.layout.tokens.value) }
-        ensures short { OnOk result (ended_length (string_bytes self.new.layout.text) self.new.layout.edge ≤ ended_length (string_bytes self.old.layout.text) self.old.layout.edge + bytes_for_each self.old.bounds.deepest * length text.now) }
+        ensures adds { OnOk result
+            (AddsSame (string_bytes self.old.layout.text) self.old.layout.edge self.old.layout.tokens.value
+            (record { kind = kind; text = text.now }) (string_bytes self.new.layout.text) self.new.layout.edge
+            self.new.layout.tokens.value) }
+        ensures short { OnOk result
+            (ended_length (string_bytes self.new.layout.text) self.new.layout.edge
+            ≤ ended_length (string_bytes self.old.layout.text) self.old.layout.edge
+            + bytes_for_each self.old.bounds.deepest * length text.now) }
         ensures few { OnOk result (self.new.layout.tokens.value ≤ self.old.layout.tokens.value + 2) }
-        ensures long { IfErr result (λ error. error ≡ TooLong → self.old.bounds.most < bytes_for_each self.old.bounds.deepest * length text.now) }
+        ensures long { IfErr result
+            (λ error. error ≡ TooLong
+            → self.old.bounds.most < bytes_for_each self.old.bounds.deepest * length text.now) }
         ensures bounds { self.new.bounds ≡ self.old.bounds }
     {
         self.write_gap(advice.gap)?;
@@ -209,8 +242,12 @@ impl<A: Allocator + Copy> Writer<A> {
 
     // Writes a sign with the gap before it, but no comma, and a space.
     fn write_sign(&mut self, gap: Gap) -> Result<(), WriteError>
-        ensures adds { OnOk result (AddsSame (string_bytes self.old.layout.text) self.old.layout.edge self.old.layout.tokens.value pipe_word (string_bytes self.new.layout.text) self.new.layout.edge self.new.layout.tokens.value) }
-        ensures short { OnOk result (ended_length (string_bytes self.new.layout.text) self.new.layout.edge ≤ ended_length (string_bytes self.old.layout.text) self.old.layout.edge + self.old.bounds.deepest + 7) }
+        ensures adds { OnOk result
+            (AddsSame (string_bytes self.old.layout.text) self.old.layout.edge self.old.layout.tokens.value pipe_word
+            (string_bytes self.new.layout.text) self.new.layout.edge self.new.layout.tokens.value) }
+        ensures short { OnOk result
+            (ended_length (string_bytes self.new.layout.text) self.new.layout.edge
+            ≤ ended_length (string_bytes self.old.layout.text) self.old.layout.edge + self.old.bounds.deepest + 7) }
         ensures few { OnOk result (self.new.layout.tokens.value ≤ self.old.layout.tokens.value + 1) }
         ensures memory { IfErr result (λ error. error ≡ Memory) }
         ensures bounds { self.new.bounds ≡ self.old.bounds }
@@ -234,10 +271,18 @@ impl<A: Allocator + Copy> Writer<A> {
     ) -> Result<(), WriteError>
         requires token { Tok kind text.now }
         requires kept { is_kept_kind kind ≡ true }
-        ensures adds { OnOk result (AddsSigned (string_bytes self.old.layout.text) self.old.layout.edge self.old.layout.tokens.value (record { kind = kind; text = text.now }) (string_bytes self.new.layout.text) self.new.layout.edge self.new.layout.tokens.value) }
-        ensures short { OnOk result (ended_length (string_bytes self.new.layout.text) self.new.layout.edge ≤ ended_length (string_bytes self.old.layout.text) self.old.layout.edge + bytes_for_each self.old.bounds.deepest * length text.now) }
+        ensures adds { OnOk result
+            (AddsSigned (string_bytes self.old.layout.text) self.old.layout.edge self.old.layout.tokens.value
+            (record { kind = kind; text = text.now }) (string_bytes self.new.layout.text) self.new.layout.edge
+            self.new.layout.tokens.value) }
+        ensures short { OnOk result
+            (ended_length (string_bytes self.new.layout.text) self.new.layout.edge
+            ≤ ended_length (string_bytes self.old.layout.text) self.old.layout.edge
+            + bytes_for_each self.old.bounds.deepest * length text.now) }
         ensures few { OnOk result (self.new.layout.tokens.value ≤ self.old.layout.tokens.value + 2) }
-        ensures long { IfErr result (λ error. error ≡ TooLong → self.old.bounds.most < bytes_for_each self.old.bounds.deepest * length text.now) }
+        ensures long { IfErr result
+            (λ error. error ≡ TooLong
+            → self.old.bounds.most < bytes_for_each self.old.bounds.deepest * length text.now) }
         ensures bounds { self.new.bounds ≡ self.old.bounds }
     {
         self.write_sign(advice.gap)?;
@@ -245,16 +290,24 @@ impl<A: Allocator + Copy> Writer<A> {
         Ok(())
     }
 
-    // Writes a significant token or a comment with the gap before it. An optional sign is left out, or put in before it, where that is advised and its
-    // lead allows it.
+    // Writes a significant token or a comment with the gap before it. An optional sign is left out, or put in before
+    // it, where that is advised and its lead allows it.
     fn put(&mut self, kind: TokenKind, text: &str) -> Result<(), WriteError>
         requires token { Tok kind text.now }
         requires kept { is_kept_kind kind ≡ true }
-        ensures adds { OnOk result (AddsChosen (string_bytes self.old.layout.text) self.old.layout.edge self.old.layout.tokens.value self.old.lead (record { kind = kind; text = text.now })
-            (string_bytes self.new.layout.text) self.new.layout.edge self.new.layout.tokens.value (lead_after self.old.lead kind text.now)) }
-        ensures short { OnOk result (ended_length (string_bytes self.new.layout.text) self.new.layout.edge ≤ ended_length (string_bytes self.old.layout.text) self.old.layout.edge + bytes_for_each self.old.bounds.deepest * length text.now) }
+        ensures adds { OnOk result
+            (AddsChosen (string_bytes self.old.layout.text) self.old.layout.edge self.old.layout.tokens.value
+            self.old.lead (record { kind = kind; text = text.now })
+            (string_bytes self.new.layout.text) self.new.layout.edge self.new.layout.tokens.value
+            (lead_after self.old.lead kind text.now)) }
+        ensures short { OnOk result
+            (ended_length (string_bytes self.new.layout.text) self.new.layout.edge
+            ≤ ended_length (string_bytes self.old.layout.text) self.old.layout.edge
+            + bytes_for_each self.old.bounds.deepest * length text.now) }
         ensures few { OnOk result (self.new.layout.tokens.value ≤ self.old.layout.tokens.value + 2) }
-        ensures long { IfErr result (λ error. error ≡ TooLong → self.old.bounds.most < bytes_for_each self.old.bounds.deepest * length text.now) }
+        ensures long { IfErr result
+            (λ error. error ≡ TooLong
+            → self.old.bounds.most < bytes_for_each self.old.bounds.deepest * length text.now) }
         ensures bounds { self.new.bounds ≡ self.old.bounds }
     {
         let advice = self.gaps.next_advice(self.column)?;
@@ -273,12 +326,20 @@ impl<A: Allocator + Copy> Writer<A> {
     // Writes a token with the gap before it, unless it is white space, a comma or the end.
     fn write(&mut self, token: Token<'_>) -> Result<(), WriteError>
         requires { IsTokenText token.kind token.text.now }
-        ensures adds { OnOk result (AddsChosen (string_bytes self.old.layout.text) self.old.layout.edge self.old.layout.tokens.value self.old.lead (record { kind = token.entry.kind; text = token.entry.text.now })
+        ensures adds { OnOk result
+            (AddsChosen (string_bytes self.old.layout.text) self.old.layout.edge self.old.layout.tokens.value
+            self.old.lead (record { kind = token.entry.kind; text = token.entry.text.now })
             (string_bytes self.new.layout.text) self.new.layout.edge self.new.layout.tokens.value self.new.lead) }
-        ensures short { OnOk result (ended_length (string_bytes self.new.layout.text) self.new.layout.edge ≤ ended_length (string_bytes self.old.layout.text) self.old.layout.edge + bytes_for_each self.old.bounds.deepest * length token.entry.text.now) }
+        ensures short { OnOk result
+            (ended_length (string_bytes self.new.layout.text) self.new.layout.edge
+            ≤ ended_length (string_bytes self.old.layout.text) self.old.layout.edge
+            + bytes_for_each self.old.bounds.deepest * length token.entry.text.now) }
         ensures few { OnOk result (self.new.layout.tokens.value ≤ self.old.layout.tokens.value + 2) }
-        ensures end { OnOk result (token.entry.kind ≡ Eof → self.new.layout.tokens.value ≡ self.old.layout.tokens.value) }
-        ensures long { IfErr result (λ error. error ≡ TooLong → self.old.bounds.most < bytes_for_each self.old.bounds.deepest * length token.entry.text.now) }
+        ensures end { OnOk result
+            (token.entry.kind ≡ Eof → self.new.layout.tokens.value ≡ self.old.layout.tokens.value) }
+        ensures long { IfErr result
+            (λ error. error ≡ TooLong
+            → self.old.bounds.most < bytes_for_each self.old.bounds.deepest * length token.entry.text.now) }
         ensures bounds { self.new.bounds ≡ self.old.bounds }
     {
         let kind = token.kind();
@@ -305,8 +366,12 @@ impl<A: Allocator + Copy> Writer<A> {
 
     // Ends the last line, if there is one.
     fn finish(&mut self) -> Result<(), WriteError>
-        ensures keeps { OnOk result (Keeps (string_bytes self.old.layout.text) self.old.layout.edge self.old.layout.tokens.value (string_bytes self.new.layout.text) self.new.layout.edge self.new.layout.tokens.value) }
-        ensures short { OnOk result (ended_length (string_bytes self.new.layout.text) self.new.layout.edge ≤ ended_length (string_bytes self.old.layout.text) self.old.layout.edge + 1) }
+        ensures keeps { OnOk result
+            (Keeps (string_bytes self.old.layout.text) self.old.layout.edge self.old.layout.tokens.value
+            (string_bytes self.new.layout.text) self.new.layout.edge self.new.layout.tokens.value) }
+        ensures short { OnOk result
+            (ended_length (string_bytes self.new.layout.text) self.new.layout.edge
+            ≤ ended_length (string_bytes self.old.layout.text) self.old.layout.edge + 1) }
         ensures few { OnOk result (self.new.layout.tokens.value ≡ self.old.layout.tokens.value) }
         ensures memory { IfErr result (λ error. error ≡ Memory) }
     {
@@ -318,8 +383,8 @@ impl<A: Allocator + Copy> Writer<A> {
     }
 }
 
-// Writes the tokens and the comments of a text with these gaps before them, whatever these are. It stops after the token with which there are too many
-// bytes.
+// Writes the tokens and the comments of a text with these gaps before them, whatever these are. It stops after the
+// token with which there are too many bytes.
 fn write<A: Allocator + Copy>(
     alloc: A,
     source: &str,
@@ -328,9 +393,12 @@ fn write<A: Allocator + Copy>(
 ) -> Result<String<A>, WriteError>
     requires { length (items_of source.now) ≤ usize_max }
     ensures same { IfOk result (λ text. HoldsChosen (string_bytes text) (Kept (items_of source.now))) }
-    ensures longest { IfOk result (λ text. length (string_bytes text) ≤ bytes_for_each bounds.deepest * length source.now + 1) }
-    ensures few { IfOk result (λ text. length (items_of (string_bytes text)) ≤ most_items (length (items_of source.now))) }
-    ensures small { IfErr result (λ error. error ≡ TooLong → bounds.most < bytes_for_each bounds.deepest * length source.now + 1) }
+    ensures longest { IfOk result
+        (λ text. length (string_bytes text) ≤ bytes_for_each bounds.deepest * length source.now + 1) }
+    ensures few { IfOk result
+        (λ text. length (items_of (string_bytes text)) ≤ most_items (length (items_of source.now))) }
+    ensures small { IfErr result
+        (λ error. error ≡ TooLong → bounds.most < bytes_for_each bounds.deepest * length source.now + 1) }
 {
     let mut writer = Writer {
         alloc,
@@ -351,8 +419,9 @@ fn write<A: Allocator + Copy>(
     Ok(writer.layout.finish())
 }
 
-/// The significant tokens and the comments of a text with another layout, which has these gaps, of at most `most` bytes. It fails where memory is
-/// refused, or the other layout has more bytes: then it has stopped after at most twice as many, a token and a gap.
+/// The significant tokens and the comments of a text with another layout, which has these gaps, of at most `most`
+/// bytes. It fails where memory is refused, or the other layout has more bytes: then it has stopped after at most twice
+/// as many, a token and a gap.
 ///
 /// A text that nests at most `nesting` deep has no layout of more bytes than `longest_layout` says.
 pub fn format_text<A: Allocator + Copy>(
@@ -366,7 +435,8 @@ pub fn format_text<A: Allocator + Copy>(
     ensures same { IfOk result (λ text. HoldsChosen (string_bytes text) (Kept (items_of source.now))) }
     ensures most { IfOk result (λ text. length (string_bytes text) ≤ most) }
     ensures longest { IfOk result (λ text. length (string_bytes text) ≤ longest_layout nesting (length source.now)) }
-    ensures few { IfOk result (λ text. length (items_of (string_bytes text)) ≤ most_items (length (items_of source.now))) }
+    ensures few { IfOk result
+        (λ text. length (items_of (string_bytes text)) ≤ most_items (length (items_of source.now))) }
     ensures small { IfErr result (λ error. error ≡ TooLong → most < longest_layout nesting (length source.now)) }
 {
     let deepest = deepest_indent(nesting);
@@ -389,7 +459,8 @@ pub fn format_document<A: Allocator + Copy>(
     ensures formatted { IfOk result (λ text. Formatted source.now (string_bytes text)) }
     ensures most { IfOk result (λ text. length (string_bytes text) ≤ most) }
     ensures longest { IfOk result (λ text. length (string_bytes text) ≤ longest_layout nesting (length source.now)) }
-    ensures few { IfOk result (λ text. length (items_of (string_bytes text)) ≤ most_items (length (items_of source.now))) }
+    ensures few { IfOk result
+        (λ text. length (items_of (string_bytes text)) ≤ most_items (length (items_of source.now))) }
     ensures small { IfErr result (λ error. error ≡ TooLong → most < longest_layout nesting (length source.now)) }
 {
     let text = format_text(alloc, source, gaps, nesting, most)?;

@@ -44,15 +44,19 @@ abbrev pub are_ignored_answers : List Answer → Bool
 are_ignored_answers answers = list_all is_ignored_answer answers
 
 -- where no limit is met
-pub ignored-limited : (allowed : ℕ) (items : List Item) → length items ≤ allowed → are_ignored_answers (limited allowed items) ≡ are_ignored items
+pub ignored-limited : (allowed : ℕ) (items : List Item) → length items ≤ allowed
+    → are_ignored_answers (limited allowed items) ≡ are_ignored items
 ignored-limited zero [] le = refl
 ignored-limited (suc allowed) [] le = refl
 ignored-limited zero (item ∷ items) le = absurd (omega arith)
-ignored-limited (suc allowed) (item ∷ items) le = ap (λ b. is_ignored_kind item.kind && b) (ignored-limited allowed items (omega arith))
+ignored-limited (suc allowed) (item ∷ items) le =
+    ap (λ b. is_ignored_kind item.kind && b) (ignored-limited allowed items (omega arith))
 
 -- a text has no more items than numbers count
-pub few : (lexer : Lexer) (text : List ℕ) → answers_left lexer ≡ limited usize_max (items_of text) → length (items_of text) ≤ usize_max
-few lexer text left = fits (length (items_of text)) (length (limited usize_max (items_of text))) (limited-length usize_max (items_of text))
+pub few : (lexer : Lexer) (text : List ℕ) → answers_left lexer ≡ limited usize_max (items_of text)
+    → length (items_of text) ≤ usize_max
+few lexer text left = fits (length (items_of text)) (length (limited usize_max (items_of text)))
+    (limited-length usize_max (items_of text))
     (omega (arith, answers-fit lexer, ap (λ (l : List Answer). length l) left))
   where
     fits : (m a : ℕ) → a ≡ min m (usize_max + 1) → a < 2 ^ 64 → m ≤ usize_max
@@ -64,21 +68,27 @@ pub begin : (lexer : Lexer) (text : List ℕ) → answers_left lexer ≡ limited
 begin lexer text left = ap are_ignored_answers left ∙ ignored-limited usize_max (items_of text) (few lexer text left)
 
 -- after one that is ignored
-pub passed : (answer : Answer) (old rest : List Answer) (all : Bool) → old ≡ answer ∷ rest → is_ignored_answer answer ≡ true
+pub passed : (answer : Answer) (old rest : List Answer) (all : Bool) → old ≡ answer ∷ rest
+    → is_ignored_answer answer ≡ true
     → are_ignored_answers old ≡ all → are_ignored_answers rest ≡ all
-passed answer old rest all e h before = sym (ap (λ b. b && are_ignored_answers rest) h) ∙ sym (ap are_ignored_answers e) ∙ before
+passed answer old rest all e h before =
+    sym (ap (λ b. b && are_ignored_answers rest) h) ∙ sym (ap are_ignored_answers e) ∙ before
 
 -- after one that is not
-pub stopped : (answer : Answer) (old rest : List Answer) (all : Bool) → old ≡ answer ∷ rest → is_ignored_answer answer ≡ false
+pub stopped : (answer : Answer) (old rest : List Answer) (all : Bool) → old ≡ answer ∷ rest
+    → is_ignored_answer answer ≡ false
     → are_ignored_answers old ≡ all → all ≡ false
-stopped answer old rest all e h before = sym before ∙ ap are_ignored_answers e ∙ ap (λ b. b && are_ignored_answers rest) h
+stopped answer old rest all e h before =
+    sym before ∙ ap are_ignored_answers e ∙ ap (λ b. b && are_ignored_answers rest) h
 
-error-answer : (is_limit : Bool) (text : List ℕ) (index : ℕ) → is_ignored_answer (error_answer is_limit text index) ≡ false
+error-answer : (is_limit : Bool) (text : List ℕ) (index : ℕ)
+    → is_ignored_answer (error_answer is_limit text index) ≡ false
 error-answer true text index = refl
 error-answer false text index = refl
 
 -- after an error
-pub error-stops : (error : LexError) (old rest : List Answer) (all : Bool) → old ≡ answer_of (Err error) ∷ rest → are_ignored_answers old ≡ all → all ≡ false
+pub error-stops : (error : LexError) (old rest : List Answer) (all : Bool) → old ≡ answer_of (Err error) ∷ rest
+    → are_ignored_answers old ≡ all → all ≡ false
 error-stops error old rest all e before =
     stopped (answer_of (Err error)) old rest all e (error-answer error.is_limit error.text.now error.index) before
 
@@ -119,7 +129,8 @@ both-empty : (xs ys : List Word) → xs ++ ys ≡ [] → (xs ≡ []) × (ys ≡ 
 both-empty [] ys e = (refl, e)
 both-empty (x ∷ xs) ys e = absurd (cons-nil x (xs ++ ys) e)
 
-ignored : (kind : Option TokenKind) (text : List ℕ) → is_some kind ≡ true → significant_word kind text ≡ [] → is_ignored_kind kind ≡ true
+ignored : (kind : Option TokenKind) (text : List ℕ) → is_some kind ≡ true → significant_word kind text ≡ []
+    → is_ignored_kind kind ≡ true
 ignored None text h e = h
 ignored (Some kind) text h e = insignificant (is_significant_kind kind) (record { kind = kind; text = text }) e
 
@@ -145,7 +156,8 @@ kept-comment Comma text h = refl
 kept-comment Eof text h = refl
 kept-comment _ text h = h
 
-comments-item : (kind : Option TokenKind) (text : List ℕ) → is_ignored_kind kind ≡ true → are_comments (kept_item kind text) ≡ true
+comments-item : (kind : Option TokenKind) (text : List ℕ) → is_ignored_kind kind ≡ true
+    → are_comments (kept_item kind text) ≡ true
 comments-item None text h = refl
 comments-item (Some kind) text h = kept-comment kind text h
 
@@ -169,9 +181,11 @@ same-words (a ∷ more) (b ∷ bs) h s =
     let q = and_parts _ _ h in
     ap (λ l. b ∷ l) (same-words more bs q.1 s.1) ∙ ap (λ w. w ∷ more) (same-word a b q.0 s.0)
 
-abbrev pub no-definitions : (source : List ℕ) → IsUtf8 source → are_tokens (items_of source) ≡ true → Significant (items_of source) ≡ []
+abbrev pub no-definitions : (source : List ℕ) → IsUtf8 source → are_tokens (items_of source) ≡ true
+    → Significant (items_of source) ≡ []
     → HasNoDefinitions source
-no-definitions source u tokens none = record { items = items_of source; cut = is-cut source u; tokens = tokens; none = none }
+no-definitions source u tokens none =
+    record { items = items_of source; cut = is-cut source u; tokens = tokens; none = none }
 
 pub decided : (source : List ℕ) → IsUtf8 source → (all : Bool) → (all ≡ true → are_tokens (items_of source) ≡ true)
     → (all ≡ true → Significant (items_of source) ≡ []) → (all ≡ false → ¬ HasNoDefinitions source)
@@ -184,7 +198,8 @@ no-comment Comment h e = let no : false ≡ true = e in (cc)
 no-comment _ h e = let no : false ≡ true = h in (cc)
 
 -- comments stay, and no sign comes before one
-chosen-comments : (lead last : Lead) (choices : List Choice) (words : List Word) → are_comments words ≡ true → AreAllowed lead choices words last
+chosen-comments : (lead last : Lead) (choices : List Choice) (words : List Word) → are_comments words ≡ true
+    → AreAllowed lead choices words last
     → chosen pipe_word choices words ≡ words
 chosen-comments lead last [] [] h a = refl
 chosen-comments lead last [] (word ∷ words) h a = absurd a
@@ -199,7 +214,8 @@ chosen-comments lead last (signed ∷ choices) (word ∷ words) h a =
     let q = and_parts _ _ h in
     absurd (no-comment word.kind q.0 (significant-comes lead word.kind a.0).0)
 
-pub laid-out : (source text : List ℕ) → IsUtf8 source → are_tokens (items_of source) ≡ true → Significant (items_of source) ≡ []
+pub laid-out : (source text : List ℕ) → IsUtf8 source → are_tokens (items_of source) ≡ true
+    → Significant (items_of source) ≡ []
     → HoldsChosen text (Kept (items_of source)) → HasSameComments source text
 laid-out source text u tokens none h =
     let comments = comments-kept (items_of source) (ignored-of (items_of source) tokens none) in

@@ -17,8 +17,11 @@ pub counted : (lexer : Lexer) (text : List ℕ) (n : ℕ) → answers_left lexer
     → ((xs : List (Result Token LexError)) × Drains Advances lexer xs × (n ≡ length xs)) → n ≡ length (items_of text)
 counted lexer text n left ran =
     let all : n ≡ length (answers_left lexer) =
-    count_from_yields_List lexer n ran (YieldsList-from_shown Advances answer_of answers_left (λ t u h. ap length h.answers.0) (λ t x u h. h.answers) lexer) in
-    fits n (length (items_of text)) (length (limited usize_max (items_of text))) (all ∙ ap length left) (limited-length usize_max (items_of text))
+    count_from_yields_List lexer n ran
+    (YieldsList-from_shown Advances answer_of answers_left (λ t u h. ap length h.answers.0)
+    (λ t x u h. h.answers) lexer) in
+    fits n (length (items_of text)) (length (limited usize_max (items_of text))) (all ∙ ap length left)
+    (limited-length usize_max (items_of text))
     (omega (arith, answers-fit lexer, all, ap length left))
   where
     fits : (n m a : ℕ) → n ≡ a → a ≡ min m (usize_max + 1) → a < 2 ^ 64 → n ≡ m

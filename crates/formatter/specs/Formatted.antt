@@ -20,13 +20,14 @@ pub record IsFormatted (source : List ℕ) (r k : ℕ) (text : List ℕ) : Type 
   pub document : IsDocument source r k
   pub formatted : Formatted source text
 
--- The source is such a document. As deep as its own tree nests, which is its only derivation, a formatted text can have more than `most` bytes.
+-- The source is such a document. As deep as its own tree nests, which is its only derivation, a formatted text can have
+-- more than `most` bytes.
 pub record MayExceed (source : List ℕ) (r k most : ℕ) : Type 0 where
   pub document : IsDocument source r k
   pub longer : most < longest_layout (nest document.tree) (length source)
 
--- The source is no document within both limits. These are the errors of its parse, with all that `Parser::parse` promises of them, and there is
--- at least one.
+-- The source is no document within both limits. These are the errors of its parse, with all that `Parser::parse`
+-- promises of them, and there is at least one.
 pub record IsRefused (source : List ℕ) (r k : ℕ) (errors : List Diagnostic) : Type 0 where
   pub no_document : ¬ IsDocument source r k
   pub parsed : Parsed

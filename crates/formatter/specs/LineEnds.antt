@@ -26,4 +26,5 @@ HasLineEnd end text = text ≡ with_line_end end text
 
 -- CR LF where the first line of the text ends so, or else LF
 abbrev pub first_line_end : List ℕ → LineEnd
-first_line_end text = if begins (13 ∷ 10 ∷ []) (drop (prefix_len (λ byte. not (is_line_terminator byte)) text) text) then Crlf else Lf
+first_line_end text = if begins (13 ∷ 10 ∷ [])
+    (drop (prefix_len (λ byte. not (is_line_terminator byte)) text) text) then Crlf else Lf

@@ -1,5 +1,6 @@
 // Texts without definitions.
-ghost use Rattle.std.specs.Prelude.{◌≡◌, ◌<◌, ◌≤◌, true, false, not, [], None, length, IfErr, IfOk, IfSome, MatchBool, string_bytes};
+ghost use Rattle.std.specs.Prelude.{◌≡◌, ◌<◌, ◌≤◌, true, false, not, [], None, length, IfErr, IfOk, IfSome, MatchBool};
+ghost use Rattle.std.specs.Prelude.{string_bytes};
 ghost use Rattle.lexical_grammar.specs.Answers.{usize_max};
 ghost use Rattle.lexical_grammar.specs.Cut.{Significant, are_tokens, is_significant_kind};
 ghost use Rattle.lexical_grammar.specs.Reads.{items_of};
@@ -55,10 +56,12 @@ fn gaps_of<A: Allocator + Copy>(alloc: A, source: &str) -> Result<Gaps<A>, Alloc
     Gaps::of(alloc, source, &TreeElements { tree: &tree })
 }
 
-/// A text without definitions with the layout of this crate, of at most `most` bytes: one that is empty, or has comments alone. `None` where the text has a
-/// significant token or bad text. It fails where memory is refused, or the formatted text has more bytes, as `format_within` does.
+/// A text without definitions with the layout of this crate, of at most `most` bytes: one that is empty, or has
+/// comments alone. `None` where the text has a significant token or bad text. It fails where memory is refused, or the
+/// formatted text has more bytes, as `format_within` does.
 ///
-/// Such a text is no document by the standard, so `format_or_errors` refuses it; but people have such files, and want them formatted too.
+/// Such a text is no document by the standard, so `format_or_errors` refuses it; but people have such files, and want
+/// them formatted too.
 pub fn format_comments<A: Allocator + Copy>(
     alloc: A,
     source: &str,
@@ -66,8 +69,10 @@ pub fn format_comments<A: Allocator + Copy>(
 ) -> Result<Option<String<A>>, WriteError>
     ensures same { IfOk result (λ o. IfSome o (λ text. HasSameComments source.now (string_bytes text))) }
     ensures short { IfOk result (λ o. IfSome o (λ text. length (string_bytes text) ≤ most)) }
-    ensures longest { IfOk result (λ o. IfSome o (λ text. length (string_bytes text) ≤ longest_layout 0 (length source.now))) }
-    ensures items { IfOk result (λ o. IfSome o (λ text. length (items_of (string_bytes text)) ≤ most_items (length (items_of source.now)))) }
+    ensures longest { IfOk result
+        (λ o. IfSome o (λ text. length (string_bytes text) ≤ longest_layout 0 (length source.now))) }
+    ensures items { IfOk result
+        (λ o. IfSome o (λ text. length (items_of (string_bytes text)) ≤ most_items (length (items_of source.now)))) }
     ensures other { IfOk result (λ o. o ≡ None → ¬ HasNoDefinitions source.now) }
     ensures long { IfErr result (λ error. error ≡ TooLong → HasNoDefinitions source.now) }
     ensures small { IfErr result (λ error. error ≡ TooLong → most < longest_layout 0 (length source.now)) }

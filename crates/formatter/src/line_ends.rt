@@ -1,7 +1,8 @@
 // The line ends of a formatted text.
 //
-// `with_line_end` writes a text with other line ends, and `keeps_document` says that it is the same formatted text otherwise. `first_line_end` says which
-// line end a source has first. Lines are those of the GraphQL specification: LF, CR LF and CR end one.
+// `with_line_end` writes a text with other line ends, and `keeps_document` says that it is the same formatted text
+// otherwise. `first_line_end` says which line end a source has first. Lines are those of the GraphQL specification: LF,
+// CR LF and CR end one.
 //
 // `gqlfmt_run` calls them for `--line-endings`.
 ghost use Rattle.std.specs.Prelude.{◌≡◌, ◌*◌, ◌≤◌, ℕ, true, List, IfOk, length, not, string_bytes};
@@ -93,16 +94,19 @@ fn has_line_feeds(text: &str) -> bool
     memchr(b'\r', text.as_bytes()).is_none()
 }
 
-/// The text with this end in place of each of its line ends, which has at most as many bytes for each of its own as the line end has. Where it has no bad text, the new one has as
-/// many items. It fails only where memory is refused.
+/// The text with this end in place of each of its line ends, which has at most as many bytes for each of its own as the
+/// line end has. Where it has no bad text, the new one has as many items. It fails only where memory is refused.
 pub fn with_line_end<A: Allocator>(
     alloc: A,
     text: String<A>,
     end: LineEnd,
 ) -> Result<String<A>, AllocError>
     ensures lines { IfOk result (λ other. string_bytes other ≡ with_line_end end (string_bytes text)) }
-    ensures short { IfOk result (λ other. length (string_bytes other) ≤ length (end_bytes end) * length (string_bytes text)) }
-    ensures items { IfOk result (λ other. (words : List Word) → Holds (string_bytes text) words → length (items_of (string_bytes other)) ≡ length (items_of (string_bytes text))) }
+    ensures short { IfOk result
+        (λ other. length (string_bytes other) ≤ length (end_bytes end) * length (string_bytes text)) }
+    ensures items { IfOk result
+        (λ other. (words : List Word) → Holds (string_bytes text) words
+        → length (items_of (string_bytes other)) ≡ length (items_of (string_bytes text))) }
 {
     if end == LineEnd::Lf && has_line_feeds(text.as_str()) {
         return Ok(text);
@@ -111,10 +115,12 @@ pub fn with_line_end<A: Allocator>(
     Ok(other)
 }
 
-/// A formatted text stays one when its lines end otherwise: no token comes or goes, and only block strings may be others, with the same values. Then its
-/// lines end so.
+/// A formatted text stays one when its lines end otherwise: no token comes or goes, and only block strings may be
+/// others, with the same values. Then its lines end so.
 pub fn keeps_document()
-    ensures document { (end : End) (source text : List ℕ) (r k : ℕ) → IsFormatted source r k text → IsFormatted source r k (with_line_end end text) }
-    ensures comments { (end : End) (source text : List ℕ) → HasSameComments source text → HasSameComments source (with_line_end end text) }
+    ensures document { (end : End) (source text : List ℕ) (r k : ℕ) → IsFormatted source r k text
+        → IsFormatted source r k (with_line_end end text) }
+    ensures comments { (end : End) (source text : List ℕ) → HasSameComments source text
+        → HasSameComments source (with_line_end end text) }
     ensures ends { (end : End) (text : List ℕ) → HasLineEnd end (with_line_end end text) }
 {}

@@ -1,4 +1,5 @@
-// What the values are that more than one crate needs. A kind has no values at run time: `Ghost` names it, and its model is the type of the values.
+// What the values are that more than one crate needs. A kind has no values at run time: `Ghost` names it, and its model
+// is the type of the values.
 ghost use Rattle.std.specs.Prelude.{◌≡◌, ℕ, ◌+◌, List, [], ◌++◌};
 
 use crate::value::Ghost;

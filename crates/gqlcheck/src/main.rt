@@ -1,6 +1,8 @@
-//! `gqlcheck` checks GraphQL documents before they run: that each is a document, valid by the rules of `validate`, and within limits.
+//! `gqlcheck` checks GraphQL documents before they run: that each is a document, valid by the rules of `validate`, and
+//! within limits.
 //!
-//! Here are only the words, the standard devices and the exit status. What is done between them is `run` of `gqlcheck_run`.
+//! Here are only the words, the standard devices and the exit status. What is done between them is `run` of
+//! `gqlcheck_run`.
 #![tactic(auto)]
 
 use byte_streams::{Patient, StdSink, StdSource, views, words};

@@ -1,5 +1,6 @@
 -- What is printed of a text that does not pass begins with its first finding.
-use Rattle.std.proofs.Common.{◌≡◌, ◌∙◌, ◌<◌, ◌≤◌, ◌+◌, ℕ, List, [], ◌∷◌, ◌++◌, length, take, get_or, sym, ap, subst, append_assoc, append-nil, min, arith}
+use Rattle.std.proofs.Common.{◌≡◌, ◌∙◌, ◌<◌, ◌≤◌, ◌+◌, ℕ, List, [], ◌∷◌, ◌++◌, length, take, get_or, sym, ap, subst}
+use Rattle.std.proofs.Common.{append_assoc, append-nil, min, arith}
 use Rattle.std.proofs.lemmas.List.{take_all}
 use Rattle.json.specs.Json.{Json}
 use Rattle.marked_lines.specs.Places.{BeginsWith, OfFirst}
@@ -18,44 +19,55 @@ begins_itself text = record { rest = []; is = sym (append-nil text) }
 
 -- ---- what an output begins with stays where more is added
 
-line_kept : (before : List ℕ) (value : Json) (old new : List ℕ) → BeginsWith new old → BeginsWithLine before value old → BeginsWithLine before value new
+line_kept : (before : List ℕ) (value : Json) (old new : List ℕ) → BeginsWith new old → BeginsWithLine before value old
+    → BeginsWithLine before value new
 line_kept before value old new grown first = record {
   line = first.line;
   is = first.is;
   rest = first.rest ++ grown.rest;
-  joined = grown.is ∙ ap (λ (t : List ℕ). t ++ grown.rest) first.joined ∙ append_assoc before (first.line ++ 10 ∷ first.rest) grown.rest
+  joined = grown.is ∙ ap (λ (t : List ℕ). t ++ grown.rest) first.joined
+      ∙ append_assoc before (first.line ++ 10 ∷ first.rest) grown.rest
       ∙ ap (λ (t : List ℕ). before ++ t) (append_assoc first.line (10 ∷ first.rest) grown.rest);
 }
 
-pub json_kept : (name source : List ℕ) (offset : ℕ) (old new : List ℕ) → BeginsWith new old → BeginsWithJson name source offset old
+pub json_kept : (name source : List ℕ) (offset : ℕ) (old new : List ℕ) → BeginsWith new old
+    → BeginsWithJson name source offset old
     → BeginsWithJson name source offset new
 json_kept name source offset old new grown first = (first.0, line_kept _ _ old new grown first.1)
 
-pub result_kept : (uri source : List ℕ) (offset : ℕ) (old new : List ℕ) → BeginsWith new old → BeginsWithResult uri source offset old
+pub result_kept : (uri source : List ℕ) (offset : ℕ) (old new : List ℕ) → BeginsWith new old
+    → BeginsWithResult uri source offset old
     → BeginsWithResult uri source offset new
 result_kept uri source offset old new grown first = (first.0, first.1, first.2, line_kept _ _ old new grown first.3)
 
 -- ---- an output for findings
 
 -- one finding more, whose text has a front of its own
-pub front_more : (front : Finding → List ℕ) (findings items : List Finding) (i : ℕ) (item : Finding) (old new : List ℕ) → items ≡ findings
-    → i < length items → item ≡ get_or items i item → (i ≡ 0 → old ≡ []) → OfFirst (λ f. BeginsWith old (front f)) (take i findings)
+pub front_more : (front : Finding → List ℕ) (findings items : List Finding) (i : ℕ) (item : Finding) (old new : List ℕ)
+    → items ≡ findings
+    → i < length items → item ≡ get_or items i item → (i ≡ 0 → old ≡ [])
+    → OfFirst (λ f. BeginsWith old (front f)) (take i findings)
     → BeginsWith new (old ++ front item) → OfFirst (λ f. BeginsWith new (front f)) (take (i + 1) findings)
 front_more front findings items i item old new same inside is none so_far added =
     let within : i < length findings = omega (arith, inside, ap length same) in
     let it : item ≡ get_or findings i item = is ∙ ap (λ (fs : List Finding). get_or fs i item) same in
-    of_first_front front findings i item old new within none so_far (subst (λ (f : Finding). BeginsWith new (old ++ front f)) it added)
+    of_first_front front findings i item old new within none so_far
+    (subst (λ (f : Finding). BeginsWith new (old ++ front f)) it added)
 
 -- what comes after all of them leaves the first where it is
-pub front_kept : (front : Finding → List ℕ) (findings items : List Finding) (i : ℕ) (old new : List ℕ) → items ≡ findings → length items ≤ i
-    → OfFirst (λ f. BeginsWith old (front f)) (take i findings) → BeginsWith new old → OfFirst (λ f. BeginsWith new (front f)) findings
+pub front_kept : (front : Finding → List ℕ) (findings items : List Finding) (i : ℕ) (old new : List ℕ)
+    → items ≡ findings → length items ≤ i
+    → OfFirst (λ f. BeginsWith old (front f)) (take i findings) → BeginsWith new old
+    → OfFirst (λ f. BeginsWith new (front f)) findings
 front_kept front findings items i old new same past so_far grown =
     let all : take i findings ≡ findings = take_all i findings (omega (arith, past, ap length same)) in
     of_first_kept (λ f output. BeginsWith output (front f)) findings old new
-    (subst (λ (fs : List Finding). OfFirst (λ f. BeginsWith old (front f)) fs) all so_far) (λ f. begins_through new old (front f) grown)
+    (subst (λ (fs : List Finding). OfFirst (λ f. BeginsWith old (front f)) fs) all so_far)
+    (λ f. begins_through new old (front f) grown)
 
 -- the same of results in a file with a URI
-pub results_kept : (name uri source : List ℕ) (findings items : List Finding) (old new : List ℕ) → uri ≡ artifact_uri name → items ≡ findings
+pub results_kept : (name uri source : List ℕ) (findings items : List Finding) (old new : List ℕ)
+    → uri ≡ artifact_uri name → items ≡ findings
     → OfFirst (λ f. BeginsWithResult uri source (min f.start (length source)) old) items → BeginsWith new old
     → BeginsAtFirst Sarif name source findings new
 results_kept name uri source findings items old new spelled same so_far grown =
@@ -71,7 +83,8 @@ within_again offset n = omega arith
 
 -- the first finding is where the first error is shown
 pub about_first : (asked : Asked) (format : Format) (name source : List ℕ) (findings : List Finding) (output : List ℕ)
-    → AreFindings asked.limits source findings → BeginsAtFirst format name source findings output → IsAboutFirst asked format name source output
+    → AreFindings asked.limits source findings → BeginsAtFirst format name source findings output
+    → IsAboutFirst asked format name source output
 about_first asked format name source [] output found begins = absurd found
 about_first asked format name source (f ∷ fs) output found begins = record {
   offset = min f.start (length source);

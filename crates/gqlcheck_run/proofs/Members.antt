@@ -8,17 +8,20 @@ use Rattle.json.specs.Written.{Written}
 use Rattle.gqlcheck_run.specs.JsonLines.{Adds, AddsMember, AddsMembers, flag_tokens, number_tokens, text_tokens}
 
 -- some tokens, and then others
-pub adds_both : (first second : List Token) (old middle new : Written) → Adds first old middle → Adds second middle new → Adds (first ++ second) old new
+pub adds_both : (first second : List Token) (old middle new : Written) → Adds first old middle → Adds second middle new
+    → Adds (first ++ second) old new
 adds_both first second old middle new a b = record {
   before = b.before ∙ a.before;
   tokens = b.tokens ∙ ap (λ (ts : List Token). ts ++ second) a.tokens ∙ append_assoc old.tokens first second;
 }
 
 -- two tokens, one after the other
-pub two_added : (t u : Token) (old middle new : Written) → middle.before ≡ old.before → middle.tokens ≡ old.tokens ++ t ∷ []
+pub two_added : (t u : Token) (old middle new : Written) → middle.before ≡ old.before
+    → middle.tokens ≡ old.tokens ++ t ∷ []
     → new.before ≡ middle.before → new.tokens ≡ middle.tokens ++ u ∷ [] → Adds (t ∷ u ∷ []) old new
 two_added t u old middle new before first before' second =
-    adds_both (t ∷ []) (u ∷ []) old middle new (record { before = before; tokens = first }) (record { before = before'; tokens = second })
+    adds_both (t ∷ []) (u ∷ []) old middle new (record { before = before; tokens = first })
+    (record { before = before'; tokens = second })
 
 -- ---- some members
 
@@ -35,7 +38,8 @@ of_text name text old new adds = of_member name (string text) old new adds
 pub of_number : (name : List ℕ) (n : ℕ) (old new : Written) → Adds (number_tokens name n) old new → AddsMembers old new
 of_number name n old new adds = of_member name (number (decimal n)) old new adds
 
-pub of_flag : (name : List ℕ) (flag : Bool) (old new : Written) → Adds (flag_tokens name flag) old new → AddsMembers old new
+pub of_flag : (name : List ℕ) (flag : Bool) (old new : Written)
+    → Adds (flag_tokens name flag) old new → AddsMembers old new
 of_flag name flag old new adds = of_member name (boolean flag) old new adds
 
 pub none : (w : Written) → AddsMembers w w
@@ -62,7 +66,8 @@ both old middle new a b = record {
 
 -- its first members are known, and others follow
 pub object_after : (name : List ℕ) (front : List Token) (first : Members → Members) (a b c d : Written)
-    → ((others : Members) → front ++ members_tokens others ≡ members_tokens (first others)) → Adds (key name ∷ begin_object ∷ front) a b
+    → ((others : Members) → front ++ members_tokens others ≡ members_tokens (first others))
+    → Adds (key name ∷ begin_object ∷ front) a b
     → AddsMembers b c → Adds (end_object ∷ []) c d → (others : Members) × AddsMember name (object (first others)) a d
 object_after name front first a b c d law opened inside closed =
     let others : Members = inside.are.before no_members in
@@ -74,20 +79,24 @@ object_after name front first a b c d law opened inside closed =
           (adds_both inside.added (end_object ∷ []) b c d inside.adds closed)),
     )
 
-pub in_object : (name : List ℕ) (a b c d : Written) → Adds (key name ∷ begin_object ∷ []) a b → AddsMembers b c → Adds (end_object ∷ []) c d
+pub in_object : (name : List ℕ) (a b c d : Written) → Adds (key name ∷ begin_object ∷ []) a b → AddsMembers b c
+    → Adds (end_object ∷ []) c d
     → AddsMembers a d
 in_object name a b c d opened inside closed =
-    let it : (others : Members) × AddsMember name (object others) a d = object_after name [] (λ others. others) a b c d (λ others. refl) opened inside closed in
+    let it : (others : Members) × AddsMember name (object others) a d =
+    object_after name [] (λ others. others) a b c d (λ others. refl) opened inside closed in
     of_member name (object it.0) a d it.1
 
 -- ---- one that is a list of an object
 
-pub in_list : (name : List ℕ) (a b c d : Written) → Adds (key name ∷ begin_array ∷ begin_object ∷ []) a b → AddsMembers b c
+pub in_list : (name : List ℕ) (a b c d : Written) → Adds (key name ∷ begin_array ∷ begin_object ∷ []) a b
+    → AddsMembers b c
     → Adds (end_object ∷ end_array ∷ []) c d → AddsMembers a d
 in_list name a b c d opened inside closed =
     let others : Members = inside.are.before no_members in
     let same : inside.added ++ (end_object ∷ end_array ∷ []) ≡ members_tokens others ++ end_array ∷ [] =
-    sym (append_assoc inside.added (end_object ∷ []) (end_array ∷ [])) ∙ ap (λ (ts : List Token). ts ++ end_array ∷ []) (inside.are.is no_members) in
+    sym (append_assoc inside.added (end_object ∷ []) (end_array ∷ []))
+    ∙ ap (λ (ts : List Token). ts ++ end_array ∷ []) (inside.are.is no_members) in
     of_member name (array (item (object others) no_items)) a d
     (subst (λ (ts : List Token). Adds (key name ∷ begin_array ∷ begin_object ∷ ts) a d) same
     (adds_both (key name ∷ begin_array ∷ begin_object ∷ []) (inside.added ++ (end_object ∷ end_array ∷ [])) a b d opened

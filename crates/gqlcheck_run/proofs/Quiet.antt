@@ -13,7 +13,8 @@ least : (a b : ℕ) → ord_max nat_cmp a b ≡ 0 → (a ≡ 0) × (b ≡ 0)
 least a b e = (grind (arith, nat_tests), grind (arith, nat_tests))
 
 -- one status more
-pub quiet_more : (status one worst first middle last : ℕ) → worst ≡ ord_max nat_cmp status one → (status ≡ 0 → middle ≡ first)
+pub quiet_more : (status one worst first middle last : ℕ) → worst ≡ ord_max nat_cmp status one
+    → (status ≡ 0 → middle ≡ first)
     → (one ≡ 0 → last ≡ middle) → worst ≡ 0 → last ≡ first
 quiet_more status one worst first middle last most so_far next none =
     let both : (status ≡ 0) × (one ≡ 0) = least status one (cc) in
@@ -22,7 +23,8 @@ quiet_more status one worst first middle last most so_far next none =
     cc
 
 -- by how checking a text ended
-pub quiet_of : {E : Type 0} (ended : Result Bool E) (status first last : ℕ) → status ≡ status_of ended → IfOk ended (λ passes. passes ≡ true → last ≡ first)
+pub quiet_of : {E : Type 0} (ended : Result Bool E) (status first last : ℕ) → status ≡ status_of ended
+    → IfOk ended (λ passes. passes ≡ true → last ≡ first)
     → status ≡ 0 → last ≡ first
 quiet_of (Ok true) status first last counted quiet none = quiet refl
 quiet_of (Ok false) status first last counted quiet none = absurd (omega (arith, counted, none))

@@ -27,9 +27,11 @@ has_figures Sarif = false
 abbrev pub prints_figures : Printing → Bool
 prints_figures printing = printing.figures && has_figures printing.format
 
--- What is written of a text of this name that is found to pass, or not to: of one that passes nothing, unless its figures are wanted, and of one that does
--- not, first the place of a finding. How more findings and figures are printed is not stated.
-pub record IsOutput (asked : Asked) (printing : Printing) (name source : List ℕ) (passes : Bool) (output : List ℕ) : Type 0 where
+-- What is written of a text of this name that is found to pass, or not to: of one that passes nothing, unless its
+-- figures are wanted, and of one that does not, first the place of a finding. How more findings and figures are printed
+-- is not stated.
+pub record IsOutput (asked : Asked) (printing : Printing) (name source : List ℕ) (passes : Bool)
+    (output : List ℕ) : Type 0 where
   pub judged : (passes ≡ true) ↔ Passes asked source
   pub quiet : passes ≡ true → prints_figures printing ≡ false → output ≡ []
   pub found : passes ≡ false → IsAboutFirst asked printing.format name source output

@@ -14,8 +14,8 @@ opening Json = []
 opening Github = []
 opening Sarif = HEAD.now
 
--- After them, by their status: the log ends, and says whether all texts were checked. For people there may be a line, but none where all of them pass. Its
--- words are not stated.
+-- After them, by their status: the log ends, and says whether all texts were checked. For people there may be a line,
+-- but none where all of them pass. Its words are not stated.
 abbrev pub IsClosing : Format → ℕ → List ℕ → Type 0
 IsClosing Text status closing = status ≡ 0 → closing ≡ []
 IsClosing Json status closing = closing ≡ []

@@ -1,10 +1,12 @@
--- Workflow commands of GitHub Actions, as its documentation has them ("Workflow commands for GitHub Actions", "Setting an error message").
+-- Workflow commands of GitHub Actions, as its documentation has them ("Workflow commands for GitHub Actions", "Setting
+-- an error message").
 use Rattle.std.specs.Prelude.{◌==◌, ℕ, List, [], ◌∷◌, ◌++◌, codes, decimal, if◌then◌else◌}
 use Rattle.std.specs.List.{flat_map}
 
 -- A byte of a message: `%`, CR and LF are escaped.
 abbrev pub data_byte : ℕ → List ℕ
-data_byte b = if b == 37 then codes "%25" else (if b == 13 then codes "%0D" else (if b == 10 then codes "%0A" else b ∷ []))
+data_byte b = if b == 37 then codes "%25" else
+    (if b == 13 then codes "%0D" else (if b == 10 then codes "%0A" else b ∷ []))
 
 -- one of a property's value: `:` and `,` are too
 abbrev pub property_byte : ℕ → List ℕ

@@ -27,16 +27,18 @@ json_place name source offset others =
 
 -- The output begins with a line that is such an object.
 abbrev pub BeginsWithJson : List ℕ → List ℕ → ℕ → List ℕ → Type 0
-BeginsWithJson name source offset output = (others : Members) × BeginsWithLine [] (json_place name source offset others) output
+BeginsWithJson name source offset output =
+    (others : Members) × BeginsWithLine [] (json_place name source offset others) output
 
--- The output begins with a line that is a result of a SARIF log, maybe after a comma. That the comma is there exactly if another result comes before is not
--- stated.
+-- The output begins with a line that is a result of a SARIF log, maybe after a comma. That the comma is there exactly
+-- if another result comes before is not stated.
 abbrev pub BeginsWithResult : List ℕ → List ℕ → ℕ → List ℕ → Type 0
 BeginsWithResult uri source offset output =
     (follows : Bool) × (region : Members) × (others : Members)
     × BeginsWithLine (separator follows) (result_at uri source offset region others) output
 
--- The output begins with the name and a place of a text: for people, as `a.graphql:3:7: `; in JSON; in a command of GitHub Actions; or in a SARIF log.
+-- The output begins with the name and a place of a text: for people, as `a.graphql:3:7: `; in JSON; in a command of
+-- GitHub Actions; or in a SARIF log.
 abbrev pub BeginsAt : Format → List ℕ → List ℕ → ℕ → List ℕ → Type 0
 BeginsAt Text name source offset output = BeginsWith output (place name source offset)
 BeginsAt JsonFormat name source offset output = BeginsWithJson name source offset output
@@ -44,7 +46,8 @@ BeginsAt Github name source offset output =
     BeginsWith output (error_at name (capped (line_number source offset)) (capped (column_number source offset)))
 BeginsAt Sarif name source offset output = BeginsWithResult (artifact_uri name) source offset output
 
--- The output begins with the name and a place of a text. If the text has errors, that is where the first of them is shown.
+-- The output begins with the name and a place of a text. If the text has errors, that is where the first of them is
+-- shown.
 pub record IsAboutFirst (asked : Asked) (format : Format) (name source output : List ℕ) : Type 0 where
   pub offset : ℕ
   pub inside : offset ≤ length source

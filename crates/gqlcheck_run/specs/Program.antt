@@ -46,10 +46,12 @@ pub record ChecksInput (asked : Asked) (printing : Printing) (status : ℕ) (old
   pub counted : status ≡ status_of ended
 
 -- the files, as a trait tells what reading one does
-module _ {S : Type 0} (reads : S → List ℕ → Result (List ℕ) Error → S → Type 0) (asked : Asked) (printing : Printing) where
+module _ {S : Type 0} (reads : S → List ℕ → Result (List ℕ) Error → S → Type 0) (asked : Asked)
+    (printing : Printing) where
   -- A file that was found is checked, and a path that could not be read is left alone.
   abbrev pub HandlesFound : FoundPath → Result Bool FileFault → S → Account → S → Account → Type 0
-  HandlesFound (file path) ended old output new output' = ReadsAndWrites (IsOutput asked printing path) reads path ended old output new output'
+  HandlesFound (file path) ended old output new output' =
+      ReadsAndWrites (IsOutput asked printing path) reads path ended old output new output'
   HandlesFound (unreadable path) (Err (NotRead error)) old output new output' = (new ≡ old) × (output' ≡ output)
   HandlesFound found_path ended old output new output' = ⊥
 
@@ -61,18 +63,23 @@ module _ {S : Type 0} (reads : S → List ℕ → Result (List ℕ) Error → S 
     pub counted : status ≡ status_of ended
 
 -- the same, as a trait tells what listing a folder does, too
-module _ {S : Type 0} (lists : S → List ℕ → Listing → S → Type 0) (reads : S → List ℕ → Result (List ℕ) Error → S → Type 0) where
+module _ {S : Type 0} (lists : S → List ℕ → Listing → S → Type 0)
+    (reads : S → List ℕ → Result (List ℕ) Error → S → Type 0) where
   -- the files that these paths name are checked, one path after the other
   abbrev pub ChecksPaths : Asked → Printing → List (List ℕ) → ℕ → Desk S → Desk S → Type 0
-  ChecksPaths asked printing paths status old new = InTurn (HandlesNamed lists PROGRAM.now (ChecksFound reads asked printing)) paths status old new
+  ChecksPaths asked printing paths status old new =
+      InTurn (HandlesNamed lists PROGRAM.now (ChecksFound reads asked printing)) paths status old new
 
   -- or standard input where there are none
   abbrev pub ChecksTexts : Asked → Printing → List (List ℕ) → ℕ → State S → State S → Type 0
-  ChecksTexts asked printing [] status old new = ChecksInput asked printing status (streams old) (streams new) × (new.files ≡ old.files)
-  ChecksTexts asked printing (path ∷ paths) status old new = ChecksPaths asked printing (path ∷ paths) status (desk old) (desk new) × (new.input ≡ old.input)
+  ChecksTexts asked printing [] status old new =
+      ChecksInput asked printing status (streams old) (streams new) × (new.files ≡ old.files)
+  ChecksTexts asked printing (path ∷ paths) status old new =
+      ChecksPaths asked printing (path ∷ paths) status (desk old) (desk new) × (new.input ≡ old.input)
 
   -- That is done, and what comes after the texts is printed.
-  pub record ChecksAndCloses (asked : Asked) (printing : Printing) (paths : List (List ℕ)) (status : ℕ) (old new : State S) : Type 0 where
+  pub record ChecksAndCloses (asked : Asked) (printing : Printing) (paths : List (List ℕ)) (status : ℕ)
+      (old new : State S) : Type 0 where
     pub checked : State S
     pub texts : ℕ
     pub checks : ChecksTexts asked printing paths texts old checked
@@ -86,7 +93,8 @@ module _ {S : Type 0} (lists : S → List ℕ → Listing → S → Type 0) (rea
   Continues asked printing paths (suc n) status old new = (status ≡ suc n) × (new ≡ old)
 
   -- What comes before the texts is printed, and then that is done.
-  pub record ChecksAll (asked : Asked) (printing : Printing) (paths : List (List ℕ)) (status : ℕ) (old new : State S) : Type 0 where
+  pub record ChecksAll (asked : Asked) (printing : Printing) (paths : List (List ℕ)) (status : ℕ)
+      (old new : State S) : Type 0 where
     pub opened : State S
     pub printed : ℕ
     pub opens : OnlyPrints PROGRAM.now (opening printing.format) printed (streams old) (streams opened)
@@ -95,11 +103,15 @@ module _ {S : Type 0} (lists : S → List ℕ → Listing → S → Type 0) (rea
 
   -- What a run does for the request in its words. Where there is none, a word is wrong.
   abbrev pub Does : List (List ℕ) → Option (Request Given) → ℕ → State S → State S → Type 0
-  Does words (Some (Print page)) status old new = OnlyPrints PROGRAM.now (information_text page) status (streams old) (streams new) × (new.files ≡ old.files)
-  Does words (Some (Process given)) status old new = ChecksAll (asked_by given) (printing_of given) given.files status old new
-  Does words None status old new = OnlyExplains PROGRAM.now USAGE.now (IsAmong words) status (streams old) (streams new) × (new.files ≡ old.files)
+  Does words (Some (Print page)) status old new =
+      OnlyPrints PROGRAM.now (information_text page) status (streams old) (streams new) × (new.files ≡ old.files)
+  Does words (Some (Process given)) status old new =
+      ChecksAll (asked_by given) (printing_of given) given.files status old new
+  Does words None status old new =
+      OnlyExplains PROGRAM.now USAGE.now (IsAmong words) status (streams old) (streams new) × (new.files ≡ old.files)
 
   -- What a run does: that, or it says that memory was refused before the last of its words was read, and nothing else.
   abbrev pub Runs : List (List ℕ) → ℕ → State S → State S → Type 0
   Runs words status old new =
-      Does words (request_of words) status old new ⊎ (OnlySays (no_memory PROGRAM.now) status (streams old) (streams new) × (new.files ≡ old.files))
+      Does words (request_of words) status old new
+      ⊎ (OnlySays (no_memory PROGRAM.now) status (streams old) (streams new) × (new.files ≡ old.files))

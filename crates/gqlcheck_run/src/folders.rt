@@ -25,7 +25,8 @@ impl<A: Allocator + Copy, C: DocumentChecker> Job<'_, '_, A, C> {
         tally: &mut Tally,
         path: &str,
     ) -> u8
-        ensures checks { HandlesNamed F.lists PROGRAM.now (ChecksFound F.reads (as_asked self.now.checks) self.now.printing) path.now result
+        ensures checks { HandlesNamed F.lists PROGRAM.now
+            (ChecksFound F.reads (as_asked self.now.checks) self.now.printing) path.now result
             (record { files = files.old; output = W.account writer.old; complaints = E.account complaints.old })
             (record { files = files.new; output = W.account writer.new; complaints = E.account complaints.new }) }
         ensures quiet { result ≡ 0 → tally.new.errors ≡ tally.old.errors }
@@ -39,7 +40,8 @@ impl<A: Allocator + Copy, C: DocumentChecker> Job<'_, '_, A, C> {
         }
     }
 
-    /// Checks the files that these paths name in order, also after one that is not read, and gives the greatest of their statuses.
+    /// Checks the files that these paths name in order, also after one that is not read, and gives the greatest of
+    /// their statuses.
     pub fn check_paths<F: Files, W: Sink, E: Sink>(
         &self,
         files: &mut F,
@@ -48,7 +50,8 @@ impl<A: Allocator + Copy, C: DocumentChecker> Job<'_, '_, A, C> {
         tally: &mut Tally,
         paths: &[&str],
     ) -> u8
-        ensures checks { ChecksPaths F.lists F.reads (as_asked self.now.checks) self.now.printing (texts paths.now) result
+        ensures checks { ChecksPaths F.lists F.reads (as_asked self.now.checks) self.now.printing
+            (texts paths.now) result
             (record { files = files.old; output = W.account writer.old; complaints = E.account complaints.old })
             (record { files = files.new; output = W.account writer.new; complaints = E.account complaints.new }) }
         ensures quiet { result ≡ 0 → tally.new.errors ≡ tally.old.errors }

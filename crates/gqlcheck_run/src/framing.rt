@@ -31,7 +31,8 @@ fn close_text<A: Allocator, W: Sink, E: Sink>(
     status: u8,
 ) -> u8
     requires { status ≡ 0 → tally.now.errors ≡ 0 }
-    ensures { Closes Text status result (W.account writer.old) (W.account writer.new) (E.account complaints.old) (E.account complaints.new) }
+    ensures { Closes Text status result (W.account writer.old) (W.account writer.new) (E.account complaints.old)
+        (E.account complaints.new) }
 {
     match tally.summary(alloc) {
         Ok(summary) => status.max(print(PROGRAM, writer, complaints, summary.as_str())),
@@ -53,7 +54,8 @@ pub fn close<A: Allocator, W: Sink, E: Sink>(
     status: u8,
 ) -> u8
     requires { status ≡ 0 → tally.now.errors ≡ 0 }
-    ensures { Closes format status result (W.account writer.old) (W.account writer.new) (E.account complaints.old) (E.account complaints.new) }
+    ensures { Closes format status result (W.account writer.old) (W.account writer.new) (E.account complaints.old)
+        (E.account complaints.new) }
 {
     let tail = match format {
         Format::Text => return close_text(alloc, writer, complaints, tally, status),

@@ -2,7 +2,8 @@
 ghost use Rattle.std.specs.Prelude.{◌≡◌, ◌≤◌, ◌++◌, IfOk, OnOk, length, min, string_bytes};
 ghost use Rattle.marked_lines.specs.Places.{BeginsWith, column_number, line_number};
 ghost use Rattle.command_lines.specs.declared.gqlcheck.Format.TheVariants.{Github};
-ghost use Rattle.gqlcheck_run.specs.GithubCommands.{data_byte, error_at, message_data, position, property, property_byte};
+ghost use Rattle.gqlcheck_run.specs.GithubCommands.{data_byte, error_at, message_data, position, property};
+ghost use Rattle.gqlcheck_run.specs.GithubCommands.{property_byte};
 ghost use Rattle.gqlcheck_run.specs.Numbers.{capped};
 ghost use Rattle.gqlcheck_run.specs.Rendering.{BeginsAtFirst};
 
@@ -147,7 +148,8 @@ fn push_finding<A: Allocator + Copy>(
     requires { index.now ≡ source.now }
     ensures { OnOk result (let start = min finding.now.start (length source.now) in
         BeginsWith lines.new.items
-        (lines.old.items ++ error_at name.now (capped (line_number source.now start)) (capped (column_number source.now start)))) }
+        (lines.old.items ++ error_at name.now (capped (line_number source.now start))
+        (capped (column_number source.now start)))) }
 {
     let part = part_between(source, finding.start, finding.end);
     let line = line_of(source, index, part.start);

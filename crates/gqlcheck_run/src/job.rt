@@ -58,7 +58,8 @@ impl<A: Allocator + Copy, C: DocumentChecker> Job<'_, '_, A, C> {
         source: &str,
         report: &Report,
     ) -> Result<Vec<u8, A>, AllocError>
-        ensures { IfOk result (λ output. BeginsAtFirst self.now.printing.format name.now source.now report.now.findings.items output.items) }
+        ensures { IfOk result (λ output. BeginsAtFirst self.now.printing.format name.now source.now
+            report.now.findings.items output.items) }
     {
         let Printing { figures, format } = self.printing;
         match format {
@@ -69,14 +70,16 @@ impl<A: Allocator + Copy, C: DocumentChecker> Job<'_, '_, A, C> {
         }
     }
 
-    // What is found of a text, and what is printed of it: what keeps it from passing, and its figures if they are wanted.
+    // What is found of a text, and what is printed of it: what keeps it from passing, and its figures if they are
+    // wanted.
     fn judge(
         &self,
         tally: &Tally,
         name: &str,
         source: &str,
     ) -> Result<(Report, Vec<u8, A>), AllocError>
-        ensures { IfOk result (λ it. IsOutput (as_asked self.now.checks) self.now.printing name.now source.now it.0.passes it.1.items) }
+        ensures { IfOk result (λ it. IsOutput (as_asked self.now.checks) self.now.printing name.now source.now
+            it.0.passes it.1.items) }
     {
         let report = self.checker.check(source, &self.checks)?;
         if report.passes && !prints_figures(self.printing) {
@@ -86,8 +89,8 @@ impl<A: Allocator + Copy, C: DocumentChecker> Job<'_, '_, A, C> {
         Ok((report, output))
     }
 
-    /// Checks the text that these bytes are, and prints what keeps it from passing, and its figures if they are wanted. What is found counts where it is
-    /// printed.
+    /// Checks the text that these bytes are, and prints what keeps it from passing, and its figures if they are wanted.
+    /// What is found counts where it is printed.
     pub fn check_bytes<W: Sink>(
         &self,
         writer: &mut W,
@@ -95,7 +98,8 @@ impl<A: Allocator + Copy, C: DocumentChecker> Job<'_, '_, A, C> {
         name: &str,
         bytes: &[u8],
     ) -> Result<bool, Fault>
-        ensures output { Writes (IsOutput (as_asked self.now.checks) self.now.printing name.now) result bytes.now (W.account writer.old) (W.account writer.new) }
+        ensures output { Writes (IsOutput (as_asked self.now.checks) self.now.printing name.now) result bytes.now
+            (W.account writer.old) (W.account writer.new) }
         ensures reads { IfErr result (λ fault. fault ≢ Read) }
         ensures quiet { IfOk result (λ passes. passes ≡ true → tally.new.errors ≡ tally.old.errors) }
     {

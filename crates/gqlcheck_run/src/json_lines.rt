@@ -147,7 +147,9 @@ fn finding_line<A: Allocator>(
 ) -> Result<Vec<u8, A>, AllocError>
     requires { index.now ≡ source.now }
     ensures grows { IfOk result (λ it. BeginsWith it.items lines.items) }
-    ensures first { IfOk result (λ it. lines.items ≡ [] → BeginsWithJson name.now source.now (min finding.now.start (length source.now)) it.items) }
+    ensures first { IfOk result
+        (λ it. lines.items ≡ []
+        → BeginsWithJson name.now source.now (min finding.now.start (length source.now)) it.items) }
 {
     let part = part_between(source, finding.start, finding.end);
     let mut out = begun(lines)?;
@@ -243,8 +245,8 @@ fn operation_lines<A: Allocator>(
     Ok(lines)
 }
 
-/// The report on a text of this name: a line for each finding, one with the number of those that are left out, if some are, and, if they are wanted, one
-/// for the figures of each operation.
+/// The report on a text of this name: a line for each finding, one with the number of those that are left out, if some
+/// are, and, if they are wanted, one for the figures of each operation.
 pub fn json_lines<A: Allocator + Copy>(
     alloc: A,
     name: &str,

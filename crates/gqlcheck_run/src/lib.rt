@@ -1,7 +1,8 @@
 //! What the program `gqlcheck` does between its words, its devices and the files that it checks.
 //!
-//! `gqlcheck` calls `run`, which checks standard input, files or the files below folders, and writes what keeps each text from passing. Devices and files
-//! are type parameters, so that contracts can name what is read; and so is the checker, since a caller of the parser is proved over all of its code.
+//! `gqlcheck` calls `run`, which checks standard input, files or the files below folders, and writes what keeps each
+//! text from passing. Devices and files are type parameters, so that contracts can name what is read; and so is the
+//! checker, since a caller of the parser is proved over all of its code.
 #![tactic(auto)]
 
 mod command;

@@ -68,9 +68,20 @@ impl<'c, 'w, A: Allocator + Copy, C: DocumentChecker> Job<'c, 'w, A, C> {
         tally: &mut Tally,
         paths: &[&str],
     ) -> u8
-        ensures checks { ChecksTexts F.lists F.reads (as_asked self.now.checks) self.now.printing (texts paths.now) result
-            (record { input = R.account reader.old; output = W.account writer.old; complaints = E.account complaints.old; files = files.old })
-            (record { input = R.account reader.new; output = W.account writer.new; complaints = E.account complaints.new; files = files.new }) }
+        ensures checks { ChecksTexts F.lists F.reads (as_asked self.now.checks) self.now.printing
+            (texts paths.now) result
+            (record {
+              input = R.account reader.old;
+              output = W.account writer.old;
+              complaints = E.account complaints.old;
+              files = files.old;
+            })
+            (record {
+              input = R.account reader.new;
+              output = W.account writer.new;
+              complaints = E.account complaints.new;
+              files = files.new;
+            }) }
         ensures quiet { result ≡ 0 → tally.new.errors ≡ tally.old.errors }
     {
         match paths {
@@ -89,8 +100,18 @@ impl<'c, 'w, A: Allocator + Copy, C: DocumentChecker> Job<'c, 'w, A, C> {
         paths: &[&str],
     ) -> u8
         ensures { ChecksAll F.lists F.reads (as_asked self.now.checks) self.now.printing (texts paths.now) result
-            (record { input = R.account reader.old; output = W.account writer.old; complaints = E.account complaints.old; files = files.old })
-            (record { input = R.account reader.new; output = W.account writer.new; complaints = E.account complaints.new; files = files.new }) }
+            (record {
+              input = R.account reader.old;
+              output = W.account writer.old;
+              complaints = E.account complaints.old;
+              files = files.old;
+            })
+            (record {
+              input = R.account reader.new;
+              output = W.account writer.new;
+              complaints = E.account complaints.new;
+              files = files.new;
+            }) }
     {
         let format = self.printing.format;
         let opened = print(PROGRAM, writer, complaints, opening(format));
@@ -103,10 +124,11 @@ impl<'c, 'w, A: Allocator + Copy, C: DocumentChecker> Job<'c, 'w, A, C> {
     }
 }
 
-/// Carries out the request in the words after the program's name, and gives the status: 0 when all texts pass, 1 when one does not, 2 when something
-/// could not be read or written, memory was refused, or the program is not called so. Nothing is said on standard error but with status 2, and a text
-/// that passes prints nothing but its figures, if they are wanted. A SARIF log is one object for all texts: it is begun before the first and ended after
-/// the last. No file is changed.
+/// Carries out the request in the words after the program's name, and gives the status: 0 when all texts pass, 1 when
+/// one does not, 2 when something could not be read or written, memory was refused, or the program is not called so.
+/// Nothing is said on standard error but with status 2, and a text that passes prints nothing but its figures, if they
+/// are wanted. A SARIF log is one object for all texts: it is begun before the first and ended after the last. No file
+/// is changed.
 pub fn run<A: Allocator + Copy, C: DocumentChecker, R: Source, W: Sink, E: Sink, F: Files>(
     alloc: A,
     checker: &C,
@@ -117,8 +139,18 @@ pub fn run<A: Allocator + Copy, C: DocumentChecker, R: Source, W: Sink, E: Sink,
     words: &[&str],
 ) -> u8
     ensures { Runs F.lists F.reads (texts words.now) result
-        (record { input = R.account reader.old; output = W.account writer.old; complaints = E.account complaints.old; files = files.old })
-        (record { input = R.account reader.new; output = W.account writer.new; complaints = E.account complaints.new; files = files.new }) }
+        (record {
+          input = R.account reader.old;
+          output = W.account writer.old;
+          complaints = E.account complaints.old;
+          files = files.old;
+        })
+        (record {
+          input = R.account reader.new;
+          output = W.account writer.new;
+          complaints = E.account complaints.new;
+          files = files.new;
+        }) }
 {
     match options(alloc, words) {
         Ok(Request::Print(page)) => print(PROGRAM, writer, complaints, information_text(page)),

@@ -46,7 +46,8 @@ fn push_finding<'t, A: Allocator>(
     finding: &'t Finding,
 ) -> Result<(), AllocError>
     requires { index.now ≡ source.now }
-    ensures { IfOk result (λ _. BeginsWith (string_bytes text.new) (string_bytes text.old ++ place name.now source.now (min finding.now.start (length source.now)))) }
+    ensures { IfOk result (λ _. BeginsWith (string_bytes text.new)
+        (string_bytes text.old ++ place name.now source.now (min finding.now.start (length source.now)))) }
 {
     let part = part_between(source, finding.start, finding.end);
     let remark = Remark {
@@ -85,7 +86,8 @@ fn findings_text<A: Allocator>(
     report: &Report,
 ) -> Result<String<A>, AllocError>
     requires { index.now ≡ source.now }
-    ensures { IfOk result (λ text. BeginsAtFirst Text name.now source.now report.now.findings.items (string_bytes text)) }
+    ensures { IfOk result (λ text. BeginsAtFirst Text name.now source.now report.now.findings.items
+        (string_bytes text)) }
 {
     let mut text = String::new(alloc);
     for finding in &report.findings {
@@ -156,8 +158,8 @@ fn push_operations<A: Allocator>(
     Ok(())
 }
 
-/// The report on a text of this name: for each finding a line `NAME:LINE:COLUMN: MESSAGE`, and below it the line of the text with the place marked;
-/// then, if they are wanted, a line with the figures of each operation.
+/// The report on a text of this name: for each finding a line `NAME:LINE:COLUMN: MESSAGE`, and below it the line of the
+/// text with the place marked; then, if they are wanted, a line with the figures of each operation.
 pub fn rendered<A: Allocator + Copy>(
     alloc: A,
     name: &str,

@@ -1,4 +1,5 @@
-// What a SARIF log (SARIF 2.1.0, section 3.13) has around its results: the tool with its rules, and whether all texts were checked.
+// What a SARIF log (SARIF 2.1.0, section 3.13) has around its results: the tool with its rules, and whether all texts
+// were checked.
 
 /// The log up to its results. The version of the program is on a line of its own.
 pub const HEAD: &str = "{\"version\":\"2.1.0\",

@@ -6,7 +6,8 @@ ghost use Rattle.command_lines.specs.declared.gqlcheck.Format.TheVariants.{Sarif
 ghost use Rattle.gqlcheck_run.specs.JsonLines.{AddsMember, AddsMembers};
 ghost use Rattle.gqlcheck_run.specs.Places.{BeginsWithResult};
 ghost use Rattle.gqlcheck_run.specs.Rendering.{BeginsAtFirst};
-ghost use Rattle.gqlcheck_run.specs.SarifResults.{artifact_location, artifact_uri, locations, physical_location, plain, region, scheme_of, separator};
+ghost use Rattle.gqlcheck_run.specs.SarifResults.{artifact_location, artifact_uri, locations, physical_location, plain};
+ghost use Rattle.gqlcheck_run.specs.SarifResults.{region, scheme_of, separator};
 
 use crate::json_members::{
     begun, close_list, close_object, ended, open_list, open_object, put_end, put_number, put_text,
@@ -100,7 +101,8 @@ fn put_region<A: Allocator>(
     requires index { index.now ≡ source.now }
     requires in_order { part.start ≤ part.end }
     requires within { part.end ≤ length source.now }
-    ensures { IfOk result (λ _. (others : Members) × AddsMember (codes "region") (region source.now part.start others) out.old out.new) }
+    ensures { IfOk result (λ _. (others : Members)
+        × AddsMember (codes "region") (region source.now part.start others) out.old out.new) }
 {
     open_object(out, "region")?;
     put_number(out, "startLine", line_of(source, index, part.start) as u64)?;
@@ -126,7 +128,8 @@ fn put_physical_location<A: Allocator>(
     requires in_order { part.start ≤ part.end }
     requires within { part.end ≤ length source.now }
     ensures { IfOk result (λ _. (others : Members)
-        × AddsMember (codes "physicalLocation") (physical_location uri.now source.now part.start others) out.old out.new) }
+        × AddsMember (codes "physicalLocation") (physical_location uri.now source.now part.start others)
+        out.old out.new) }
 {
     open_object(out, "physicalLocation")?;
     put_artifact_location(out, uri)?;
@@ -247,7 +250,8 @@ fn finding_lines<A: Allocator>(
 ) -> Result<Vec<u8, A>, AllocError>
     requires { index.now ≡ source.now }
     ensures { IfOk result (λ lines.
-        OfFirst (λ finding. BeginsWithResult uri.now source.now (min finding.start (length source.now)) lines.items) findings.now) }
+        OfFirst (λ finding. BeginsWithResult uri.now source.now (min finding.start (length source.now)) lines.items)
+        findings.now) }
 {
     let mut lines = Vec::new(alloc);
     let mut follows = follows;
@@ -299,8 +303,8 @@ fn with_more<A: Allocator + Copy>(
     Ok(lines)
 }
 
-/// The report on a text of this name: a result for each finding, and one for those that are left out, if some are. If other results come before, each
-/// begins with a comma, and else each but the first.
+/// The report on a text of this name: a result for each finding, and one for those that are left out, if some are. If
+/// other results come before, each begins with a comma, and else each but the first.
 pub fn results<A: Allocator + Copy>(
     alloc: A,
     name: &str,

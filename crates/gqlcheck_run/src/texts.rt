@@ -29,7 +29,8 @@ impl<A: Allocator + Copy, C: DocumentChecker> Job<'_, '_, A, C> {
         tally: &mut Tally,
     ) -> Result<bool, Fault>
         ensures checks { (input : List ℕ) × Reads result input (R.account reader.old) (R.account reader.new)
-            × Writes (IsOutput (as_asked self.now.checks) self.now.printing INPUT.now) result input (W.account writer.old) (W.account writer.new) }
+            × Writes (IsOutput (as_asked self.now.checks) self.now.printing INPUT.now) result input
+            (W.account writer.old) (W.account writer.new) }
         ensures quiet { IfOk result (λ passes. passes ≡ true → tally.new.errors ≡ tally.old.errors) }
     {
         let bytes = read_to_end(self.alloc, reader)?;
@@ -46,8 +47,16 @@ impl<A: Allocator + Copy, C: DocumentChecker> Job<'_, '_, A, C> {
         tally: &mut Tally,
     ) -> u8
         ensures checks { ChecksInput (as_asked self.now.checks) self.now.printing result
-            (record { input = R.account reader.old; output = W.account writer.old; complaints = E.account complaints.old })
-            (record { input = R.account reader.new; output = W.account writer.new; complaints = E.account complaints.new }) }
+            (record {
+              input = R.account reader.old;
+              output = W.account writer.old;
+              complaints = E.account complaints.old;
+            })
+            (record {
+              input = R.account reader.new;
+              output = W.account writer.new;
+              complaints = E.account complaints.new;
+            }) }
         ensures quiet { result ≡ 0 → tally.new.errors ≡ tally.old.errors }
     {
         let ended = self.read_input(reader, writer, tally);
@@ -62,7 +71,8 @@ impl<A: Allocator + Copy, C: DocumentChecker> Job<'_, '_, A, C> {
         tally: &mut Tally,
         path: &str,
     ) -> Result<bool, FileFault>
-        ensures checks { ReadsAndWrites (IsOutput (as_asked self.now.checks) self.now.printing path.now) F.reads path.now result
+        ensures checks { ReadsAndWrites (IsOutput (as_asked self.now.checks) self.now.printing path.now)
+            F.reads path.now result
             files.old (W.account writer.old) files.new (W.account writer.new) }
         ensures quiet { IfOk result (λ passes. passes ≡ true → tally.new.errors ≡ tally.old.errors) }
     {
@@ -112,7 +122,8 @@ impl<A: Allocator + Copy, C: DocumentChecker> Job<'_, '_, A, C> {
         end_of_file(self.alloc, complaints, named.path(), &ended)
     }
 
-    /// Checks the files that were found in order, also after one that is not read, and gives the greatest of their statuses.
+    /// Checks the files that were found in order, also after one that is not read, and gives the greatest of their
+    /// statuses.
     pub fn check_files<F: Files, W: Sink, E: Sink>(
         &self,
         files: &mut F,
@@ -121,7 +132,8 @@ impl<A: Allocator + Copy, C: DocumentChecker> Job<'_, '_, A, C> {
         tally: &mut Tally,
         found: &[Named<A>],
     ) -> u8
-        ensures checks { InTurn (ChecksFound F.reads (as_asked self.now.checks) self.now.printing) (map as_named found.now) result
+        ensures checks { InTurn (ChecksFound F.reads (as_asked self.now.checks) self.now.printing)
+            (map as_named found.now) result
             (record { files = files.old; output = W.account writer.old; complaints = E.account complaints.old })
             (record { files = files.new; output = W.account writer.new; complaints = E.account complaints.new }) }
         ensures quiet { result ≡ 0 → tally.new.errors ≡ tally.old.errors }

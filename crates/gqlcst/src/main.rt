@@ -1,7 +1,8 @@
 //! `gqlcst` reads a GraphQL document from the standard input, and says whether it is one or what is wrong with it.
 //!
-//! Its first word is the mode: `check` prints `clean` or the errors, `tokens` the items of the text, `tree` its syntax tree. Options set the
-//! limits. Here are only the words, the standard devices and the exit status. What is done between them is `run` of `gqlcst_run`.
+//! Its first word is the mode: `check` prints `clean` or the errors, `tokens` the items of the text, `tree` its syntax
+//! tree. Options set the limits. Here are only the words, the standard devices and the exit status. What is done
+//! between them is `run` of `gqlcst_run`.
 #![tactic(auto)]
 
 use byte_streams::{StdSink, StdSource, views, words};

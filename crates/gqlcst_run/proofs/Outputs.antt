@@ -13,7 +13,8 @@ use Rattle.gqlcst_run.specs.Rendering.{AreLines, IsAnswerForm, IsVerdict, error_
 use Rattle.gqlcst_run.specs.Program.{IsOutput}
 use Rattle.gqlcst_run.specs.Buffering.{Buffered, PutsSome, PutsAny}
 
-pub check_put : (mode : Mode) (limits : Limits) (text : List ℕ) (finding : Finding) (errors shown : List Diagnostic) (s t : Buffered) → mode ≡ Check
+pub check_put : (mode : Mode) (limits : Limits) (text : List ℕ) (finding : Finding) (errors shown : List Diagnostic)
+    (s t : Buffered) → mode ≡ Check
     → IsFound limits text errors finding
     → shown ≡ errors → PutsSome (IsVerdict shown) s t → PutsSome (IsOutput mode limits text finding) s t
 check_put mode limits text finding errors shown s t is found all p =
@@ -28,17 +29,24 @@ check_put mode limits text finding errors shown s t is found all p =
       puts = p.puts;
     })
 
-pub tree_put : (mode : Mode) (limits : Limits) (text : List ℕ) (finding : Finding) (errors : List Diagnostic) (s t : Buffered) → mode ≡ Tree
+pub tree_put : (mode : Mode) (limits : Limits) (text : List ℕ) (finding : Finding) (errors : List Diagnostic)
+    (s t : Buffered) → mode ≡ Tree
     → IsFound limits text errors finding
     → PutsAny s t → PutsSome (IsOutput mode limits text finding) s t
 tree_put mode limits text finding errors s t is found p =
     subst (λ (m : Mode). PutsSome (IsOutput m limits text finding) s t) (sym is)
     (record { output = p.output; made = record { errors = errors; found = found }; puts = p.puts })
 
-pub tokens_put : (mode : Mode) (limits : Limits) (text : List ℕ) (finding : Finding) (answers : List Answer) (s t : Buffered) → mode ≡ Tokens
+pub tokens_put : (mode : Mode) (limits : Limits) (text : List ℕ) (finding : Finding) (answers : List Answer)
+    (s t : Buffered) → mode ≡ Tokens
     → Cut text (items_of text)
-    → answers ≡ limited limits.tokens (items_of text) → finding ≡ finding_of (error_count answers) → PutsSome (AreLines IsAnswerForm answers) s t
+    → answers ≡ limited limits.tokens (items_of text) → finding ≡ finding_of (error_count answers)
+    → PutsSome (AreLines IsAnswerForm answers) s t
     → PutsSome (IsOutput mode limits text finding) s t
 tokens_put mode limits text finding answers s t is cut limit counted p =
     subst (λ (m : Mode). PutsSome (IsOutput m limits text finding) s t) (sym is)
-    (record { output = p.output; made = record { cut = cut; lines = rw limit at p.made; counted = rw limit at counted }; puts = p.puts })
+    (record {
+      output = p.output;
+      made = record { cut = cut; lines = rw limit at p.made; counted = rw limit at counted };
+      puts = p.puts;
+    })

@@ -21,8 +21,8 @@ abbrev pub HasTaken : Bool → List ℕ → List ℕ → Account → Account →
 HasTaken true bytes rest old new = IsBroken bytes old new
 HasTaken false bytes rest old new = IsTaken bytes rest old new
 
--- These bytes were put in the buffer since the writer had the old account: it took all but what waits, or it took a beginning of them, not all,
--- and then it failed or took none.
+-- These bytes were put in the buffer since the writer had the old account: it took all but what waits, or it took a
+-- beginning of them, not all, and then it failed or took none.
 abbrev pub IsPut : List ℕ → Account → Buffered → Type 0
 IsPut bytes old now = HasTaken now.0.is_broken bytes (waiting now.0) old now.1
 
@@ -44,4 +44,5 @@ pub record PutsAny (old new : Buffered) : Type 0 where
 -- All that was put is written, or not, and then the writer failed or took none.
 abbrev pub Finishes : Result (Unit {0}) Fault → Buffered → Account → Type 0
 Finishes (Ok _) old new = (bytes : List ℕ) (start : Account) → IsPut bytes start old → new ≡ moved start bytes
-Finishes (Err fault) old new = (bytes : List ℕ) (start : Account) → IsPut bytes start old → EndsWriting fault bytes start new
+Finishes (Err fault) old new =
+    (bytes : List ℕ) (start : Account) → IsPut bytes start old → EndsWriting fault bytes start new

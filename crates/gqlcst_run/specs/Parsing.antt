@@ -23,8 +23,8 @@ pub record IsAccepted (limits : Limits) (text : List ℕ) : Type 0 where
   pub sentence : Sentence text tree document
   pub within : Within text tree limits.recursion limits.tokens
 
--- These errors are found in the text, and so the finding. They go along its items, and there are none exactly where the text is a sentence
--- within both limits. For an ASCII text their printed forms are stated.
+-- These errors are found in the text, and so the finding. They go along its items, and there are none exactly where the
+-- text is a sentence within both limits. For an ASCII text their printed forms are stated.
 pub record IsFound (limits : Limits) (text : List ℕ) (errors : List Diagnostic) (finding : Finding) : Type 0 where
   pub cut : Cut text (items_of text)
   pub reported : ErrorsOf (limited limits.tokens (items_of text)) errors

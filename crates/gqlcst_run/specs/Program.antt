@@ -28,7 +28,8 @@ pub record IsCheck (limits : Limits) (text : List ℕ) (finding : Finding) (outp
   pub found : IsFound limits text errors finding
   pub verdict : IsVerdict errors output
 
--- What is written of a text in mode tokens: a line for each item that it is cut into, or a line for the limit in place of those beyond it.
+-- What is written of a text in mode tokens: a line for each item that it is cut into, or a line for the limit in place
+-- of those beyond it.
 pub record IsTokens (limit : ℕ) (text : List ℕ) (finding : Finding) (output : List ℕ) : Type 0 where
   pub cut : Cut text (items_of text)
   pub lines : AreLines IsAnswerForm (limited limit (items_of text)) output
@@ -61,8 +62,10 @@ information_text Version = VERSION.now
 abbrev pub Does : List (List ℕ) → Option (Request (Mode × Limits)) → ℕ → Streams → Streams → Type 0
 Does words (Some (Print page)) status old new = OnlyPrints PROGRAM.now (information_text page) status old new
 Does words (Some (Process command)) status old new = ShowsInput command.0 command.1 status old new
-Does words None status old new = OnlyExplains PROGRAM.now USAGE.now (λ word. Contains words word ⊎ (word ≡ [])) status old new
+Does words None status old new =
+    OnlyExplains PROGRAM.now USAGE.now (λ word. Contains words word ⊎ (word ≡ [])) status old new
 
 -- What a run does: that, or it says that memory was refused before the last of its words was read, and nothing else.
 abbrev pub Runs : List (List ℕ) → ℕ → Streams → Streams → Type 0
-Runs words status old new = Does words (request_of words) status old new ⊎ OnlySays (no_memory PROGRAM.now) status old new
+Runs words status old new =
+    Does words (request_of words) status old new ⊎ OnlySays (no_memory PROGRAM.now) status old new

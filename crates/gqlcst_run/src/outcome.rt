@@ -28,7 +28,8 @@ fn complaint_of(fault: Fault) -> &'static str
     }
 }
 
-/// Says why a text has no finding, if it has none, and gives the status for it: 0 when it is clean, 1 when it has errors, and else 2.
+/// Says why a text has no finding, if it has none, and gives the status for it: 0 when it is clean, 1 when it has
+/// errors, and else 2.
 pub fn end<E: Sink>(complaints: &mut E, ended: &Result<Finding, Fault>) -> u8
     ensures says { Says ended.now (E.account complaints.old) (E.account complaints.new) }
     ensures counted { result ≡ status_of ended.now }

@@ -7,8 +7,8 @@ use byte_streams::{Fault, Sink, write_all};
 // How many bytes a buffer holds.
 const SIZE: usize = 65536;
 
-/// Bytes that wait for a writer. It has a fixed size, and needs no memory of an allocator. When the writer fails or takes no byte, nothing
-/// goes to it any more, and `finish` says so.
+/// Bytes that wait for a writer. It has a fixed size, and needs no memory of an allocator. When the writer fails or
+/// takes no byte, nothing goes to it any more, and `finish` says so.
 #[derive(Drop)]
 pub struct OutputBuffer {
     bytes: [u8; 65536],
@@ -107,7 +107,8 @@ impl OutputBuffer {
     // Puts four texts that there is room for.
     #[inline(always)]
     fn fill_four(&mut self, one: &[u8], two: &[u8], three: &[u8], four: &[u8])
-        requires { self.old.filled + (length one.now + (length two.now + (length three.now + length four.now))) ≤ 65536 }
+        requires { self.old.filled + (length one.now + (length two.now + (length three.now + length four.now)))
+            ≤ 65536 }
         ensures waiting { waiting self.new ≡ waiting self.old ++ (one.now ++ (two.now ++ (three.now ++ four.now))) }
         ensures broken { self.new.is_broken ≡ self.old.is_broken }
     {
@@ -127,7 +128,8 @@ impl OutputBuffer {
         three: &[u8],
         four: &[u8],
     )
-        ensures { Puts (self.old, W.account writer.old) (one.now ++ (two.now ++ (three.now ++ four.now))) (self.new, W.account writer.new) }
+        ensures { Puts (self.old, W.account writer.old) (one.now ++ (two.now ++ (three.now ++ four.now)))
+            (self.new, W.account writer.new) }
     {
         self.put(writer, one);
         self.put(writer, two);
@@ -146,7 +148,8 @@ impl OutputBuffer {
         three: &[u8],
         four: &[u8],
     )
-        ensures { Puts (self.old, W.account writer.old) (one.now ++ (two.now ++ (three.now ++ four.now))) (self.new, W.account writer.new) }
+        ensures { Puts (self.old, W.account writer.old) (one.now ++ (two.now ++ (three.now ++ four.now)))
+            (self.new, W.account writer.new) }
     {
         let room = SIZE - self.filled;
         let front = one.len().saturating_add(two.len());

@@ -28,8 +28,8 @@ fn information_text(page: Information) -> &'static str
     }
 }
 
-// Puts what a mode shows of a text, and answers what was found. Mode tokens needs no parse. All memory that it takes is reserved before the
-// first byte is put.
+// Puts what a mode shows of a text, and answers what was found. Mode tokens needs no parse. All memory that it takes is
+// reserved before the first byte is put.
 #[tactic(auto, using(crate::proofs::Outputs::check_put, crate::proofs::Outputs::tokens_put, crate::proofs::Outputs::tree_put))]
 fn put_output<A: Allocator + Copy, W: Sink>(
     alloc: A,
@@ -39,7 +39,9 @@ fn put_output<A: Allocator + Copy, W: Sink>(
     mode: Mode,
     limits: Limits,
 ) -> Result<Finding, AllocError>
-    ensures ok { IfOk result (λ finding. PutsSome (IsOutput mode limits source.now finding) (buffer.old, W.account writer.old) (buffer.new, W.account writer.new)) }
+    ensures ok { IfOk result
+        (λ finding. PutsSome (IsOutput mode limits source.now finding) (buffer.old, W.account writer.old)
+        (buffer.new, W.account writer.new)) }
     ensures err { OnErr result (W.account writer.new ≡ W.account writer.old) }
 {
     match mode {
@@ -81,9 +83,10 @@ fn process<A: Allocator + Copy, R: Source, W: Sink>(
     Ok(finding)
 }
 
-/// Carries out the request in the words after the program's name, and gives the status. It prints a page of the program, or reads a text to its end and then
-/// writes what the mode shows of it. The status is 0 when that is done and the text has no errors, 1 when it has some, and 2 when something could not be read
-/// or written, the text is not UTF-8, memory was refused, or the program is not called so. Then it says which.
+/// Carries out the request in the words after the program's name, and gives the status. It prints a page of the
+/// program, or reads a text to its end and then writes what the mode shows of it. The status is 0 when that is done and
+/// the text has no errors, 1 when it has some, and 2 when something could not be read or written, the text is not
+/// UTF-8, memory was refused, or the program is not called so. Then it says which.
 pub fn run<A: Allocator + Copy, R: Source, W: Sink, E: Sink>(
     alloc: A,
     reader: &mut R,
@@ -93,7 +96,11 @@ pub fn run<A: Allocator + Copy, R: Source, W: Sink, E: Sink>(
 ) -> u8
     ensures { Runs (texts words.now) result
         (record { input = R.account reader.old; output = W.account writer.old; complaints = E.account complaints.old })
-        (record { input = R.account reader.new; output = W.account writer.new; complaints = E.account complaints.new }) }
+        (record {
+          input = R.account reader.new;
+          output = W.account writer.new;
+          complaints = E.account complaints.new;
+        }) }
 {
     match options(alloc, words) {
         Ok(Request::Print(page)) => print(PROGRAM, writer, complaints, information_text(page)),

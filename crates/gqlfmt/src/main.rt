@@ -1,7 +1,7 @@
 //! `gqlfmt` puts GraphQL documents into one layout: files in place, or standard input to standard output.
 //!
-//! It can also list the files that would change, or show the changes. Here are only the words, the standard devices and the exit status. What is done
-//! between them is `run` of `gqlfmt_run`.
+//! It can also list the files that would change, or show the changes. Here are only the words, the standard devices and
+//! the exit status. What is done between them is `run` of `gqlfmt_run`.
 #![tactic(auto)]
 
 use byte_streams::{Patient, StdSink, StdSource, views, words};

@@ -10,10 +10,12 @@ use Rattle.gqlfmt_run.specs.Folders.{HandlesPaths}
 use Rattle.gqlfmt_run.specs.Program.{Formats}
 
 module _ {S : Type 0} (lists : S → List ℕ → Listing → S → Type 0) (omits : S → List ℕ → Result Bool Error → S → Type 0)
-    (reads : S → List ℕ → Result (List ℕ) Error → S → Type 0) (replaces : S → List ℕ → List ℕ → Bool → S → Type 0) (mode : Mode) (bounds : Bounds) where
+    (reads : S → List ℕ → Result (List ℕ) Error → S → Type 0) (replaces : S → List ℕ → List ℕ → Bool → S → Type 0)
+    (mode : Mode) (bounds : Bounds) where
   -- a run over some paths
   pub formats-paths : (name : List ℕ) (paths : List (Bor (List ℕ))) (status : ℕ) (old new : State S) → 0 < length paths
-      → HandlesPaths lists omits reads replaces mode bounds (texts paths) status (desk old) (desk new) → new.input ≡ old.input
+      → HandlesPaths lists omits reads replaces mode bounds (texts paths) status (desk old) (desk new)
+      → new.input ≡ old.input
       → Formats lists omits reads replaces mode bounds name (texts paths) status old new
   formats-paths name [] status old new some all input = absurd (omega (arith, some))
   formats-paths name (p ∷ paths) status old new some all input = (input, all)

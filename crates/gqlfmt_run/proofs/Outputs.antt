@@ -11,10 +11,13 @@ use Rattle.gqlfmt_run.specs.declared.job.Bounds.{Bounds}
 use Rattle.gqlfmt_run.specs.Formatting.{IsLaidOut, IsRefused, IsRefusedFor, IsChanged, IsShown}
 use Rattle.gqlfmt_run.specs.Input.{IsOutput, kept, settled_of}
 
-pub of_same : (mode : Mode) (bounds : Bounds) (name source output : List ℕ) → IsLaidOut bounds source source → output ≡ kept mode source
+pub of_same : (mode : Mode) (bounds : Bounds) (name source output : List ℕ) → IsLaidOut bounds source source
+    → output ≡ kept mode source
     → IsOutput mode bounds name source Done output
-of_same Write bounds name source output formatted same = subst (λ (text : List ℕ). IsLaidOut bounds source text) (sym same) formatted
-of_same Print bounds name source output formatted same = subst (λ (text : List ℕ). IsLaidOut bounds source text) (sym same) formatted
+of_same Write bounds name source output formatted same =
+    subst (λ (text : List ℕ). IsLaidOut bounds source text) (sym same) formatted
+of_same Print bounds name source output formatted same =
+    subst (λ (text : List ℕ). IsLaidOut bounds source text) (sym same) formatted
 of_same Check bounds name source output formatted same = (formatted, same)
 of_same Diff bounds name source output formatted same = (formatted, same)
 
@@ -29,13 +32,16 @@ shown_output Check bounds name source text output changed shown =
 shown_output Diff bounds name source text output changed shown =
     record { looks = λ e. (cc); text = text; changed = changed; shown = shown changed.other }
 
-pub of_changed : (mode : Mode) (bounds : Bounds) (name source text output : List ℕ) (ended : Settled) → ended ≡ settled_of mode
-    → IsChanged bounds source text → (text ≢ source → IsShown mode name text output) → IsOutput mode bounds name source ended output
+pub of_changed : (mode : Mode) (bounds : Bounds) (name source text output : List ℕ) (ended : Settled)
+    → ended ≡ settled_of mode
+    → IsChanged bounds source text → (text ≢ source → IsShown mode name text output)
+    → IsOutput mode bounds name source ended output
 of_changed mode bounds name source text output ended is changed shown =
     subst (λ (s : Settled). IsOutput mode bounds name source s output) (sym is)
     (shown_output mode bounds name source text output changed shown)
 
-pub is-refused : {A : Type 0} (bounds : Bounds) (source : List ℕ) (refusal : Refusal A) → IsRefusedFor bounds source refusal → IsRefused bounds source
+pub is-refused : {A : Type 0} (bounds : Bounds) (source : List ℕ) (refusal : Refusal A)
+    → IsRefusedFor bounds source refusal → IsRefused bounds source
 is-refused bounds source (Errors first) h = inl h.0
 is-refused bounds source Outgrown h = inr (inl h)
 is-refused bounds source TooLong h = inr (inr h)

@@ -18,12 +18,14 @@ ended text rest all none h =
     sym (append-nil text) ∙ ap (λ s. text ++ s) (sym empty) ∙ h
 
 -- the name that is left begins with a character
-pub one-more : (text text' rest rest' all : List ℕ) (c : ℕ) → IsUtf8 rest → rest ≡ encode_utf8 c ++ rest' → text' ≡ text ++ quoted_char c
+pub one-more : (text text' rest rest' all : List ℕ) (c : ℕ) → IsUtf8 rest → rest ≡ encode_utf8 c ++ rest'
+    → text' ≡ text ++ quoted_char c
     → text ++ flat_map quoted_char (chars rest) ≡ all → text' ++ flat_map quoted_char (chars rest') ≡ all
 one-more text text' rest rest' all c utf8 begins put h =
     let first : flat_map quoted_char (chars rest) ≡ quoted_char c ++ flat_map quoted_char (chars rest') =
     ap (flat_map quoted_char) (chars_past_char rest rest' c utf8 begins) in
-    ap (λ s. s ++ flat_map quoted_char (chars rest')) put ∙ append_assoc text (quoted_char c) (flat_map quoted_char (chars rest'))
+    ap (λ s. s ++ flat_map quoted_char (chars rest')) put
+    ∙ append_assoc text (quoted_char c) (flat_map quoted_char (chars rest'))
     ∙ ap (λ s. text ++ s) (sym first) ∙ h
 
 -- whether a character is escaped: none is at the end
@@ -31,17 +33,21 @@ pub any-ended : (rest : List ℕ) (all : Bool) → length rest ≡ 0 → list_an
 any-ended rest all none h =
     sym (ap (λ r. list_any is_escaped (chars r)) (nothing rest none) ∙ ap (list_any is_escaped) chars-nil) ∙ h
 
-first-of : (rest rest' : List ℕ) (c : ℕ) (escaped : Bool) → IsUtf8 rest → rest ≡ encode_utf8 c ++ rest' → is_escaped c ≡ escaped
+first-of : (rest rest' : List ℕ) (c : ℕ) (escaped : Bool) → IsUtf8 rest → rest ≡ encode_utf8 c ++ rest'
+    → is_escaped c ≡ escaped
     → list_any is_escaped (chars rest) ≡ (escaped || list_any is_escaped (chars rest'))
 first-of rest rest' c escaped utf8 begins is =
-    ap (list_any is_escaped) (chars_past_char rest rest' c utf8 begins) ∙ ap (λ b. b || list_any is_escaped (chars rest')) is
+    ap (list_any is_escaped) (chars_past_char rest rest' c utf8 begins)
+    ∙ ap (λ b. b || list_any is_escaped (chars rest')) is
 
 -- the first is
-pub any-found : (rest rest' : List ℕ) (all : Bool) (c : ℕ) {b : Bool} → IsUtf8 rest → rest ≡ encode_utf8 c ++ rest' → is_escaped c ≡ b → b ≡ true
+pub any-found : (rest rest' : List ℕ) (all : Bool) (c : ℕ) {b : Bool} → IsUtf8 rest → rest ≡ encode_utf8 c ++ rest'
+    → is_escaped c ≡ b → b ≡ true
     → list_any is_escaped (chars rest) ≡ all → true ≡ all
 any-found rest rest' all c utf8 begins is found h = sym (first-of rest rest' c true utf8 begins (is ∙ found)) ∙ h
 
 -- or it is not
-pub any-later : (rest rest' : List ℕ) (all : Bool) (c : ℕ) {b : Bool} → IsUtf8 rest → rest ≡ encode_utf8 c ++ rest' → is_escaped c ≡ b → b ≡ false
+pub any-later : (rest rest' : List ℕ) (all : Bool) (c : ℕ) {b : Bool} → IsUtf8 rest → rest ≡ encode_utf8 c ++ rest'
+    → is_escaped c ≡ b → b ≡ false
     → list_any is_escaped (chars rest) ≡ all → list_any is_escaped (chars rest') ≡ all
 any-later rest rest' all c utf8 begins is not h = sym (first-of rest rest' c false utf8 begins (is ∙ not)) ∙ h

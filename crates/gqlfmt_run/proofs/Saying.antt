@@ -15,7 +15,8 @@ use Rattle.gqlfmt_run.specs.declared.settlement.Settled.{Settled}
 use Rattle.gqlfmt_run.specs.declared.settlement.Settled.TheVariants.{Done, Found, Refused}
 use Rattle.command_lines.specs.Complaints.{Tells}
 use Rattle.command_lines.specs.declared.complaints.FileFault.{FileFault}
-use Rattle.gqlfmt_run.specs.Complaints.{Complains, IsSilent, Says, SaysFault, SaysFileFault, SaysOfFile, SaysReason, TellsOfFileAndCopy}
+use Rattle.gqlfmt_run.specs.Complaints.{Complains, IsSilent, Says, SaysFault, SaysFileFault, SaysOfFile, SaysReason}
+use Rattle.gqlfmt_run.specs.Complaints.{TellsOfFileAndCopy}
 use Rattle.gqlfmt_run.specs.Formatting.{IsRevised}
 use Rattle.gqlfmt_run.specs.declared.command.TheConstants.{PROGRAM}
 use Rattle.gqlfmt_run.specs.declared.revision.Refusal.{Refusal}
@@ -23,27 +24,37 @@ use Rattle.gqlfmt_run.specs.declared.job.Bounds.{Bounds}
 
 module _ (bounds : Bounds) (name : List ℕ) where
   -- what is said of a text while it is handled, and then at the end
-  pub silent_says : (source : List ℕ) (ended : Result Settled Fault) (old middle new : Account) → IsSilent bounds name (Ok source) ended old middle
+  pub silent_says : (source : List ℕ) (ended : Result Settled Fault) (old middle new : Account)
+      → IsSilent bounds name (Ok source) ended old middle
       → SaysFault name ended middle new → Says bounds name source ended old new
   silent_says source (Ok Done) old middle new silent said = said ∙ silent
   silent_says source (Ok Found) old middle new silent said = said ∙ silent
-  silent_says source (Ok Refused) old middle new silent said = subst (λ (a : Account). SaysReason bounds name source old a) (sym said) silent
-  silent_says source (Err fault) old middle new silent said = subst (λ (a : Account). Tells PROGRAM.now name fault a new) silent said
+  silent_says source (Ok Refused) old middle new silent said =
+      subst (λ (a : Account). SaysReason bounds name source old a) (sym said) silent
+  silent_says source (Err fault) old middle new silent said =
+      subst (λ (a : Account). Tells PROGRAM.now name fault a new) silent said
 
-  pub silent_says_of_file : (given : Result (List ℕ) Error) (ended : Result Settled FileFault) (old middle new : Account)
-      → IsSilent bounds name given ended old middle → SaysFileFault name ended middle new → SaysOfFile bounds name given ended old new
+  pub silent_says_of_file : (given : Result (List ℕ) Error) (ended : Result Settled FileFault)
+      (old middle new : Account)
+      → IsSilent bounds name given ended old middle → SaysFileFault name ended middle new
+      → SaysOfFile bounds name given ended old new
   silent_says_of_file given (Ok Done) old middle new silent said = said ∙ silent
   silent_says_of_file given (Ok Found) old middle new silent said = said ∙ silent
-  silent_says_of_file (Ok source) (Ok Refused) old middle new silent said = subst (λ (a : Account). SaysReason bounds name source old a) (sym said) silent
+  silent_says_of_file (Ok source) (Ok Refused) old middle new silent said =
+      subst (λ (a : Account). SaysReason bounds name source old a) (sym said) silent
   silent_says_of_file (Err error) (Ok Refused) old middle new silent said = absurd silent
-  silent_says_of_file given (Err fault) old middle new silent said = subst (λ (a : Account). TellsOfFileAndCopy name fault a new) silent said
+  silent_says_of_file given (Err fault) old middle new silent said =
+      subst (λ (a : Account). TellsOfFileAndCopy name fault a new) silent said
 
 -- What is said is the same for each type of faults, and for each name of the source.
-pub silent-again : (E F : Type 0) (bounds : Bounds) (name source text : List ℕ) (settled : Settled) (old new : Account) → source ≡ text
-    → IsSilent {E = E} bounds name (Ok source) (Ok settled) old new → IsSilent {E = F} bounds name (Ok text) (Ok settled) old new
+pub silent-again : (E F : Type 0) (bounds : Bounds) (name source text : List ℕ) (settled : Settled) (old new : Account)
+    → source ≡ text
+    → IsSilent {E = E} bounds name (Ok source) (Ok settled) old new
+    → IsSilent {E = F} bounds name (Ok text) (Ok settled) old new
 silent-again E F bounds name source text Done old new same silent = silent
 silent-again E F bounds name source text Found old new same silent = silent
-silent-again E F bounds name source text Refused old new same silent = subst (λ (s : List ℕ). SaysReason bounds name s old new) same silent
+silent-again E F bounds name source text Refused old new same silent =
+    subst (λ (s : List ℕ). SaysReason bounds name s old new) same silent
 
 -- writing nothing does not break off
 all-written : (fault : Fault) (text : List ℕ) (old new : Account) → EndsWriting fault text old new → text ≡ [] → ⊥
@@ -54,7 +65,8 @@ all-written Utf8 text old new ends empty = ends
 all-written Memory text old new ends empty = ends
 
 -- what was said is nothing where what is written breaks off
-pub silent-broken : (bounds : Bounds) (name source : List ℕ) (settled : Settled) (fault : Fault) (text bytes : List ℕ) (out out' old new : Account)
+pub silent-broken : (bounds : Bounds) (name source : List ℕ) (settled : Settled) (fault : Fault) (text bytes : List ℕ)
+    (out out' old new : Account)
     → bytes ≡ text → EndsWriting fault bytes out out' → (settled ≡ Refused → text ≡ [])
     → IsSilent {E = Unit {0}} bounds name (Ok source) (Ok settled) old new → new ≡ old
 silent-broken bounds name source Done fault text bytes out out' old new same ends empty silent = silent
@@ -63,16 +75,27 @@ silent-broken bounds name source Refused fault text bytes out out' old new same 
     absurd (all-written fault bytes out out' ends (same ∙ empty refl))
 
 -- The refusal of a file's text in mode write is said, and nothing else.
-pub complained : {A S : Type 0} (replaces : S → List ℕ → List ℕ → Bool → S → Type 0) (X Y : Type 0) (m : Mode) (bounds : Bounds) (path source : List ℕ)
-    (revised : Revised A (Refusal A)) (settled : Settled) (files files' : S) (old new : Account) → m ≡ mode.Write → IsRevised bounds source revised
-    → Settles replaces {X = X} m path revised (Ok settled) files files' → Complains {X = Y} bounds path source revised (Ok tt) old new
+pub complained : {A S : Type 0} (replaces : S → List ℕ → List ℕ → Bool → S → Type 0) (X Y : Type 0) (m : Mode)
+    (bounds : Bounds) (path source : List ℕ)
+    (revised : Revised A (Refusal A)) (settled : Settled) (files files' : S) (old new : Account) → m ≡ mode.Write
+    → IsRevised bounds source revised
+    → Settles replaces {X = X} m path revised (Ok settled) files files'
+    → Complains {X = Y} bounds path source revised (Ok tt) old new
     → IsSilent {E = FileFault} bounds path (Ok source) (Ok settled) old new
 complained replaces X Y m bounds path source revised.Same Done files files' old new writes made settles said = said
-complained replaces X Y m bounds path source revised.Same Found files files' old new writes made settles said = absurd settles
-complained replaces X Y m bounds path source revised.Same Refused files files' old new writes made settles said = absurd settles
-complained replaces X Y m bounds path source (revised.Changed text) Done files files' old new writes made settles said = said
-complained replaces X Y m bounds path source (revised.Changed text) Found files files' old new writes made settles said = said
-complained replaces X Y m bounds path source (revised.Changed text) Refused files files' old new writes made settles said = absurd settles
-complained replaces X Y m bounds path source (revised.Refused refusal) Done files files' old new writes made settles said = absurd settles
-complained replaces X Y m bounds path source (revised.Refused refusal) Found files files' old new writes made settles said = absurd settles
-complained replaces X Y m bounds path source (revised.Refused refusal) Refused files files' old new writes made settles said = said made
+complained replaces X Y m bounds path source revised.Same Found files files' old new writes made settles said =
+    absurd settles
+complained replaces X Y m bounds path source revised.Same Refused files files' old new writes made settles said =
+    absurd settles
+complained replaces X Y m bounds path source (revised.Changed text) Done files files' old new writes made settles said =
+    said
+complained replaces X Y m bounds path source (revised.Changed text) Found files files' old new writes made
+    settles said = said
+complained replaces X Y m bounds path source (revised.Changed text) Refused files files' old new writes made
+    settles said = absurd settles
+complained replaces X Y m bounds path source (revised.Refused refusal) Done files files' old new writes made
+    settles said = absurd settles
+complained replaces X Y m bounds path source (revised.Refused refusal) Found files files' old new writes made
+    settles said = absurd settles
+complained replaces X Y m bounds path source (revised.Refused refusal) Refused files files' old new writes made
+    settles said = said made

@@ -14,7 +14,8 @@ some-end Lf = omega arith
 some-end Crlf = omega arith
 
 -- with the line end that is wanted, the formatted text has more
-pub ended-too-long : (bounds : Bounds) (source text : List ℕ) (end : LineEnd) (ended most : ℕ) → (has : HasLayout bounds.limits source)
+pub ended-too-long : (bounds : Bounds) (source text : List ℕ) (end : LineEnd) (ended most : ℕ)
+    → (has : HasLayout bounds.limits source)
     → end ≡ line_end_of bounds.line_endings source → ended ≤ length (end_bytes end) * length text
     → length text ≤ longest_layout (nesting_of bounds.limits source has) (length source)
     → most ≡ most_of bounds.most_output source → most < ended → IsTooLong bounds source
@@ -24,8 +25,10 @@ ended-too-long bounds source text end ended most has same short longest is more 
 
 -- it has more already without line ends
 pub text-too-long : (bounds : Bounds) (source : List ℕ) → (has : HasLayout bounds.limits source)
-    → most_of bounds.most_output source < longest_layout (nesting_of bounds.limits source has) (length source) → IsTooLong bounds source
+    → most_of bounds.most_output source < longest_layout (nesting_of bounds.limits source has) (length source)
+    → IsTooLong bounds source
 text-too-long bounds source has few =
     let end = line_end_of bounds.line_endings source in
-    let times = mul-le-mul_right (longest_layout (nesting_of bounds.limits source has) (length source)) (some-end end) in
+    let times = mul-le-mul_right (longest_layout (nesting_of bounds.limits source has) (length source))
+    (some-end end) in
     record { text = has; few = omega (arith, few, times) }

@@ -23,13 +23,15 @@ use Rattle.gqlfmt_run.specs.declared.report.TheConstants.{COPY_ADVICE, OUTGROWN,
 
 -- ---- why a text is refused
 
--- The report on a text with errors begins with the text's name and the place where its first error is shown. What follows is not stated.
+-- The report on a text with errors begins with the text's name and the place where its first error is shown. What
+-- follows is not stated.
 pub record IsErrorReport (limits : Limits) (name source report : List ℕ) : Type 0 where
   pub error : Diagnostic
   pub is_first : IsFirstErrorOf limits source error
   pub begins : BeginsWith report (place name source (shown_at source error))
 
--- why a source of this name is left as it is: its errors, or in a line that its formatted text would have too many tokens or bytes
+-- why a source of this name is left as it is: its errors, or in a line that its formatted text would have too many
+-- tokens or bytes
 abbrev pub IsReason : Bounds → List ℕ → List ℕ → List ℕ → Type 0
 IsReason bounds name source report =
     (HasErrors bounds.limits source × IsErrorReport bounds.limits name source report)
@@ -47,7 +49,8 @@ abbrev pub SaysFault : {T : Type 0} → List ℕ → Result T Fault → Account 
 SaysFault name (Ok outcome) old new = new ≡ old
 SaysFault name (Err fault) old new = Tells PROGRAM.now name fault old new
 
--- What is said of a source that was to be formatted: nothing where it has the layout or another one, and why where it is refused or was not formatted.
+-- What is said of a source that was to be formatted: nothing where it has the layout or another one, and why where it
+-- is refused or was not formatted.
 abbrev pub Says : Bounds → List ℕ → List ℕ → Result Settled Fault → Account → Account → Type 0
 Says bounds name source (Ok Done) old new = new ≡ old
 Says bounds name source (Ok Found) old new = new ≡ old
@@ -68,13 +71,15 @@ MentionsCopy (Device fault) old new = new ≡ old
 
 -- why the file at a path was not formatted, and then of a copy
 abbrev pub TellsOfFileAndCopy : List ℕ → FileFault → Account → Account → Type 0
-TellsOfFileAndCopy path fault old new = (middle : Account) × TellsOfFile PROGRAM.now path fault old middle × MentionsCopy fault middle new
+TellsOfFileAndCopy path fault old new =
+    (middle : Account) × TellsOfFile PROGRAM.now path fault old middle × MentionsCopy fault middle new
 
 abbrev pub SaysFileFault : {T : Type 0} → List ℕ → Result T FileFault → Account → Account → Type 0
 SaysFileFault path (Ok outcome) old new = new ≡ old
 SaysFileFault path (Err fault) old new = TellsOfFileAndCopy path fault old new
 
--- What is said of the file at a path, by the result of the read: the same as of standard input. Only a text that was read is refused.
+-- What is said of the file at a path, by the result of the read: the same as of standard input. Only a text that was
+-- read is refused.
 abbrev pub SaysOfFile : Bounds → List ℕ → Result (List ℕ) Error → Result Settled FileFault → Account → Account → Type 0
 SaysOfFile bounds path given (Ok Done) old new = new ≡ old
 SaysOfFile bounds path given (Ok Found) old new = new ≡ old
@@ -85,7 +90,8 @@ SaysOfFile bounds path given (Err fault) old new = TellsOfFileAndCopy path fault
 -- ---- what the calls below a run say
 
 -- Nothing is said but why a text is refused.
-abbrev pub IsSilent : {E : Type 0} → Bounds → List ℕ → Result (List ℕ) Error → Result Settled E → Account → Account → Type 0
+abbrev pub IsSilent : {E : Type 0} → Bounds → List ℕ → Result (List ℕ) Error → Result Settled E → Account
+    → Account → Type 0
 IsSilent bounds name given (Ok Done) old new = new ≡ old
 IsSilent bounds name given (Ok Found) old new = new ≡ old
 IsSilent bounds name (Ok source) (Ok Refused) old new = SaysReason bounds name source old new
@@ -93,8 +99,10 @@ IsSilent bounds name (Err error) (Ok Refused) old new = ⊥
 IsSilent bounds name given (Err fault) old new = new ≡ old
 
 -- Only why a text is refused is said, if memory for that is there.
-abbrev pub Complains : {A E X : Type 0} → Bounds → List ℕ → List ℕ → Revised A (Refusal E) → Result (Unit {0}) X → Account → Account → Type 0
-Complains bounds name source (revised.Refused refusal) (Ok _) old new = IsRefusedFor bounds source refusal → SaysReason bounds name source old new
+abbrev pub Complains : {A E X : Type 0} → Bounds → List ℕ → List ℕ → Revised A (Refusal E) → Result (Unit {0}) X
+    → Account → Account → Type 0
+Complains bounds name source (revised.Refused refusal) (Ok _) old new =
+    IsRefusedFor bounds source refusal → SaysReason bounds name source old new
 Complains bounds name source (revised.Refused refusal) (Err error) old new = new ≡ old
 Complains bounds name source revised.Same ended old new = new ≡ old
 Complains bounds name source (revised.Changed text) ended old new = new ≡ old

@@ -1,13 +1,14 @@
 -- What formatting makes of a text, and what is shown of that.
-use Rattle.std.specs.Prelude.{◌≡◌, ◌≢◌, ◌<◌, ◌≤◌, ◌⊎◌, ◌*◌, ◌-◌, ◌^◌, ℕ, min, max, List, [], ◌∷◌, ◌++◌, length, map, codes, string_bytes}
-use Rattle.std.specs.Prelude.{Option, Some, None}
+use Rattle.std.specs.Prelude.{◌≡◌, ◌≢◌, ◌<◌, ◌≤◌, ◌⊎◌, ◌*◌, ◌-◌, ◌^◌, ℕ, min, max, List, [], ◌∷◌, ◌++◌, length, map}
+use Rattle.std.specs.Prelude.{codes, string_bytes, Option, Some, None}
 use mathlib.Core.Logic.{inl, inr}
 use Rattle.document_grammar.specs.Derivation.{nest}
 use Rattle.apollo_parser.specs.Errors.{error_of}
 use Rattle.formatter.specs.Finding.{AreFirstOf}
 use Rattle.formatter.specs.Formatted as format
 use Rattle.formatter.specs.Lengths.{longest_layout}
-use Rattle.formatter.specs.Within.{IsFormattedWithin, IsOutgrown, HasCommentsAlone, AreCommentsWithin, AreCommentsOutgrown}
+use Rattle.formatter.specs.Within.{IsFormattedWithin, IsOutgrown, HasCommentsAlone, AreCommentsWithin}
+use Rattle.formatter.specs.Within.{AreCommentsOutgrown}
 use Rattle.apollo_parser.specs.declared.Limits.{Limits}
 use Rattle.formatter.specs.declared.line_ends.LineEnd.{LineEnd}
 use Rattle.formatter.specs.declared.line_ends.LineEnd.TheVariants as end
@@ -23,7 +24,8 @@ use Rattle.command_lines.specs.declared.gqlfmt.Mode.TheVariants.{Write, Check, D
 use Rattle.gqlfmt_run.specs.declared.settlement.Revised.{Revised}
 use Rattle.gqlfmt_run.specs.declared.settlement.Revised.TheVariants.{Same, Changed, Refused}
 
--- How many bytes a formatted text may have: as many as are said, or else 64 MiB, or 16 for each byte of the source if these are more.
+-- How many bytes a formatted text may have: as many as are said, or else 64 MiB, or 16 for each byte of the source if
+-- these are more.
 abbrev pub most_of : Option ℕ → List ℕ → ℕ
 most_of (Some most) source = most
 most_of None source = max (min (16 * length source) (2 ^ 64 - 1)) 67108864
@@ -34,8 +36,8 @@ line_end_of Lf source = end.Lf
 line_end_of Crlf source = end.Crlf
 line_end_of Keep source = first_line_end source
 
--- This is the formatted text of the source, a document or comments alone, within the limits, and no longer than is allowed. Its line
--- ends are those that are wanted.
+-- This is the formatted text of the source, a document or comments alone, within the limits, and no longer than is
+-- allowed. Its line ends are those that are wanted.
 pub record IsLaidOut (bounds : Bounds) (source text : List ℕ) : Type 0 where
   pub within : IsFormattedWithin bounds.limits source text ⊎ AreCommentsWithin bounds.limits source text
   pub short : length text ≤ most_of bounds.most_output source
@@ -59,12 +61,14 @@ abbrev pub nesting_of : (limits : Limits) (source : List ℕ) → HasLayout limi
 nesting_of limits source (inl document) = nest document.tree
 nesting_of limits source (inr comments) = 0
 
--- It is one, but its formatted text is said to have more bytes than are allowed. That text is not built; but fewer bytes are allowed than a formatted text
--- of the source can have, as deep as the source nests, where each of its bytes may be a line feed that becomes the line end that is wanted.
+-- It is one, but its formatted text is said to have more bytes than are allowed. That text is not built; but fewer
+-- bytes are allowed than a formatted text of the source can have, as deep as the source nests, where each of its bytes
+-- may be a line feed that becomes the line end that is wanted.
 pub record IsTooLong (bounds : Bounds) (source : List ℕ) : Type 0 where
   pub text : HasLayout bounds.limits source
   pub few : most_of bounds.most_output source
-      < length (end_bytes (line_end_of bounds.line_endings source)) * longest_layout (nesting_of bounds.limits source text) (length source)
+      < length (end_bytes (line_end_of bounds.line_endings source)) * longest_layout
+      (nesting_of bounds.limits source text) (length source)
 
 -- how many errors of a source are shown at most
 abbrev pub most_shown : ℕ
@@ -73,7 +77,8 @@ most_shown = 20
 -- why a source is left as it is
 abbrev pub IsRefusedFor : {A : Type 0} → Bounds → List ℕ → Refusal A → Type 0
 IsRefusedFor bounds source (Errors first) =
-    HasErrors bounds.limits source × AreFirstOf bounds.limits source most_shown (map error_of first.errors.items) first.more
+    HasErrors bounds.limits source
+    × AreFirstOf bounds.limits source most_shown (map error_of first.errors.items) first.more
 IsRefusedFor bounds source Outgrown = HasOutgrown bounds.limits source
 IsRefusedFor bounds source TooLong = IsTooLong bounds source
 
@@ -94,10 +99,11 @@ IsRevised bounds source (Refused refusal) = IsRefusedFor bounds source refusal
 
 -- a unified diff of two texts that have this name: both names at its head, and hunks
 abbrev pub IsDiff : List ℕ → List ℕ → Type 0
-IsDiff name output = (hunks : List ℕ) × (output ≡ codes "--- " ++ head_name name ++ codes "\n+++ " ++ head_name name ++ codes "\n" ++ hunks)
+IsDiff name output = (hunks : List ℕ)
+    × (output ≡ codes "--- " ++ head_name name ++ codes "\n+++ " ++ head_name name ++ codes "\n" ++ hunks)
 
--- What is written of a source that has this name and another text when formatted: that text, the name as a line, or the changes under the name.
--- Which lines are shown of a change is not stated.
+-- What is written of a source that has this name and another text when formatted: that text, the name as a line, or the
+-- changes under the name. Which lines are shown of a change is not stated.
 abbrev pub IsShown : Mode → List ℕ → List ℕ → List ℕ → Type 0
 IsShown Write name text output = output ≡ text
 IsShown Check name text output = output ≡ quoted name ++ 10 ∷ []

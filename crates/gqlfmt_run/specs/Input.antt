@@ -11,8 +11,8 @@ use Rattle.gqlfmt_run.specs.declared.settlement.Settled.TheVariants.{Done, Found
 use Rattle.gqlfmt_run.specs.declared.job.Bounds.{Bounds}
 use Rattle.gqlfmt_run.specs.Formatting.{IsLaidOut, IsRefused, IsListed}
 
--- What is written of a text of this name, by the outcome for it. In the modes write and print that is the formatted text, and nothing of a text that is
--- refused.
+-- What is written of a text of this name, by the outcome for it. In the modes write and print that is the formatted
+-- text, and nothing of a text that is refused.
 abbrev pub IsOutput : Mode → Bounds → List ℕ → List ℕ → Settled → List ℕ → Type 0
 IsOutput Write bounds name source Done output = IsLaidOut bounds source output
 IsOutput Print bounds name source Done output = IsLaidOut bounds source output
@@ -35,7 +35,8 @@ settled_of Print = Done
 settled_of Check = Found
 settled_of Diff = Found
 
--- What is written of an input that is left alone, by how that ended: the text itself, and nothing in a mode that shows what would change.
+-- What is written of an input that is left alone, by how that ended: the text itself, and nothing in a mode that shows
+-- what would change.
 abbrev pub PassesOn : Mode → Result Settled Fault → List ℕ → Account → Account → Type 0
 PassesOn mode (Ok settled) input old new = (settled ≡ Done) × (new ≡ moved old (kept mode input))
 PassesOn mode (Err fault.Read) input old new = new ≡ old

@@ -1,5 +1,6 @@
 -- What a run of the program does, by the request in its words.
-use Rattle.std.specs.Prelude.{◌≡◌, ◌⊎◌, ℕ, Bool, true, false, List, [], ◌∷◌, Option, Some, None, Result, Ok, Err, MatchBool, bytes_eq}
+use Rattle.std.specs.Prelude.{◌≡◌, ◌⊎◌, ℕ, Bool, true, false, List, [], ◌∷◌, Option, Some, None, Result, Ok, Err}
+use Rattle.std.specs.Prelude.{MatchBool, bytes_eq}
 use Rattle.std.specs.declared.io.Error.{Error}
 use Rattle.byte_streams.specs.Runs.{Reads, Writes}
 use Rattle.byte_streams.specs.declared.fault.Fault.{Fault}
@@ -31,9 +32,14 @@ information_text Version = VERSION.now
 
 -- what a run keeps to
 abbrev pub bounds_of : Given → Bounds
-bounds_of given = record { limits = limits_of given; most_output = most_output_of given; line_endings = line_endings_of given }
+bounds_of given = record {
+  limits = limits_of given;
+  most_output = most_output_of given;
+  line_endings = line_endings_of given;
+}
 
--- Standard input is read, what comes of it is written, and why it is refused or was not formatted is said, under this name.
+-- Standard input is read, what comes of it is written, and why it is refused or was not formatted is said, under this
+-- name.
 pub record FormatsInput (mode : Mode) (bounds : Bounds) (name : List ℕ) (status : ℕ) (old new : Streams) : Type 0 where
   pub ended : Result Settled Fault
   pub input : List ℕ
@@ -51,13 +57,14 @@ pub record KeepsInput (mode : Mode) (name : List ℕ) (status : ℕ) (old new : 
   pub says : SaysFault name ended old.complaints new.complaints
   pub counted : status ≡ status_of ended
 
--- What follows the answer whether standard input is left alone, which is to be the text of the file at this path. It is passed on or formatted. Where there
--- is no answer, nothing is done but to say why.
+-- What follows the answer whether standard input is left alone, which is to be the text of the file at this path. It is
+-- passed on or formatted. Where there is no answer, nothing is done but to say why.
 abbrev pub InputFollows : Result Bool Error → Mode → Bounds → List ℕ → ℕ → Streams → Streams → Type 0
 InputFollows (Ok true) mode bounds path status old new = KeepsInput mode path status old new
 InputFollows (Ok false) mode bounds path status old new = FormatsInput mode bounds path status old new
 InputFollows (Err error) mode bounds path status old new =
-    (status ≡ 2) × TellsOfFile PROGRAM.now path (NotRead error) old.complaints new.complaints × (new.input ≡ old.input) × (new.output ≡ old.output)
+    (status ≡ 2) × TellsOfFile PROGRAM.now path (NotRead error) old.complaints new.complaints × (new.input ≡ old.input)
+    × (new.output ≡ old.output)
 
 -- the files, as a trait tells what four of its calls do
 module _ {S : Type 0} (lists : S → List ℕ → Listing → S → Type 0) (omits : S → List ℕ → Result Bool Error → S → Type 0)
@@ -71,22 +78,28 @@ module _ {S : Type 0} (lists : S → List ℕ → Listing → S → Type 0) (omi
   -- Standard input is handled. Where it has no path, it is formatted.
   abbrev pub HandlesInput : Mode → Bounds → List ℕ → ℕ → State S → State S → Type 0
   HandlesInput mode bounds name status old new =
-      MatchBool (bytes_eq name INPUT.now) (FormatsInput mode bounds name status (streams old) (streams new) × (new.files ≡ old.files))
+      MatchBool (bytes_eq name INPUT.now)
+      (FormatsInput mode bounds name status (streams old) (streams new) × (new.files ≡ old.files))
       (AsksOfInput mode bounds name status old new)
 
   -- the files that these paths name are handled, or standard input where there are none
   abbrev pub Formats : Mode → Bounds → List ℕ → List (List ℕ) → ℕ → State S → State S → Type 0
   Formats mode bounds name [] status old new = HandlesInput mode bounds name status old new
   Formats mode bounds name (path ∷ paths) status old new =
-      (new.input ≡ old.input) × HandlesPaths lists omits reads replaces mode bounds (path ∷ paths) status (desk old) (desk new)
+      (new.input ≡ old.input)
+      × HandlesPaths lists omits reads replaces mode bounds (path ∷ paths) status (desk old) (desk new)
 
   -- What a run does for the request in its words. Where there is none, a word is wrong.
   abbrev pub Does : List (List ℕ) → Option (Request Given) → ℕ → State S → State S → Type 0
-  Does words (Some (Print page)) status old new = OnlyPrints PROGRAM.now (information_text page) status (streams old) (streams new) × (new.files ≡ old.files)
-  Does words (Some (Process given)) status old new = Formats (mode_of given) (bounds_of given) (name_of given) given.files status old new
-  Does words None status old new = OnlyExplains PROGRAM.now USAGE.now (IsAmong words) status (streams old) (streams new) × (new.files ≡ old.files)
+  Does words (Some (Print page)) status old new =
+      OnlyPrints PROGRAM.now (information_text page) status (streams old) (streams new) × (new.files ≡ old.files)
+  Does words (Some (Process given)) status old new =
+      Formats (mode_of given) (bounds_of given) (name_of given) given.files status old new
+  Does words None status old new =
+      OnlyExplains PROGRAM.now USAGE.now (IsAmong words) status (streams old) (streams new) × (new.files ≡ old.files)
 
   -- What a run does: that, or it says that memory was refused before the last of its words was read, and nothing else.
   abbrev pub Runs : List (List ℕ) → ℕ → State S → State S → Type 0
   Runs words status old new =
-      Does words (request_of words) status old new ⊎ (OnlySays (no_memory PROGRAM.now) status (streams old) (streams new) × (new.files ≡ old.files))
+      Does words (request_of words) status old new
+      ⊎ (OnlySays (no_memory PROGRAM.now) status (streams old) (streams new) × (new.files ≡ old.files))

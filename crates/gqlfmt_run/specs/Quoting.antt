@@ -1,5 +1,7 @@
--- Names in lines that other programs read, as git writes them: a name that would not come back from its line is in quotes, with C's escapes.
-use Rattle.std.specs.Prelude.{ℕ, ◌+◌, ◌/◌, ◌%◌, Bool, ◌==◌, ◌||◌, List, [], ◌∷◌, ◌++◌, codes, encode_utf8, if◌then◌else◌, Option, Some, None, is_some}
+-- Names in lines that other programs read, as git writes them: a name that would not come back from its line is in
+-- quotes, with C's escapes.
+use Rattle.std.specs.Prelude.{ℕ, ◌+◌, ◌/◌, ◌%◌, Bool, ◌==◌, ◌||◌, List, [], ◌∷◌, ◌++◌, codes, encode_utf8}
+use Rattle.std.specs.Prelude.{if◌then◌else◌, Option, Some, None, is_some}
 use Rattle.std.specs.List.{flat_map, list_any, starts_with}
 use Rattle.std.specs.Prelude.{eqb}
 use Rattle.std.specs.Str.{chars}
@@ -35,7 +37,8 @@ quoted_or None c = if is_unseen c then flat_map octal (encode_utf8 c) else encod
 abbrev pub quoted_char : ℕ → List ℕ
 quoted_char c = quoted_or (short_escape c) c
 
--- A name needs quotes where a character has an escape. It needs them too where it begins with a space, which patch passes over.
+-- A name needs quotes where a character has an escape. It needs them too where it begins with a space, which patch
+-- passes over.
 abbrev pub needs_quotes : List ℕ → Bool
 needs_quotes name = list_any is_escaped (chars name) || starts_with eqb name (codes " ")
 

@@ -15,7 +15,8 @@ module _ {S : Type 0} (replaces : S → List ℕ → List ℕ → Bool → S →
     pub writes : mode ≡ Write
     pub call : replaces old path text done new
 
-  -- A file is replaced only in mode write, by the text that the formatter made, which is another one. Else the files stay as they are.
+  -- A file is replaced only in mode write, by the text that the formatter made, which is another one. Else the files
+  -- stay as they are.
   abbrev pub Settles : {A E X : Type 0} → Mode → List ℕ → Revised A E → Result Settled X → S → S → Type 0
   Settles mode path Same (Ok Done) old new = new ≡ old
   Settles mode path Same (Ok Found) old new = ⊥

@@ -36,7 +36,8 @@ fn is_anchor(line: &str) -> bool {
 
 // The index of a line of the old text that is the one of the new text this many lines further in all.
 fn match_at(old: &[&str], new: &[&str], distance: usize) -> Option<usize>
-    ensures { IfSome result (λ removed. (removed < length old.now) × (distance - removed < length new.now) × (removed ≤ distance)) }
+    ensures { IfSome result
+        (λ removed. (removed < length old.now) × (distance - removed < length new.now) × (removed ≤ distance)) }
 {
     for removed in 0..=distance {
         if let (Some(a), Some(b)) = (old.get(removed), new.get(distance - removed))
@@ -49,7 +50,8 @@ fn match_at(old: &[&str], new: &[&str], distance: usize) -> Option<usize>
     None
 }
 
-// How many lines of each text come before the first that they have in common: all within the window where there is none.
+// How many lines of each text come before the first that they have in common: all within the window where there is
+// none.
 fn gap(old: &[&str], new: &[&str]) -> (usize, usize)
     requires { 0 < length old.now + length new.now }
     ensures old { result.0 ≤ length old.now }
@@ -79,7 +81,8 @@ fn without_common_end(old: &[&str], new: &[&str]) -> (usize, usize)
     (removed, added)
 }
 
-// What comes next in both texts: how many lines that they have in common, and how many lines of each in the edit after them.
+// What comes next in both texts: how many lines that they have in common, and how many lines of each in the edit after
+// them.
 #[derive(Clone, Copy)]
 struct Step {
     same: usize,

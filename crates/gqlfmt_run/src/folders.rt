@@ -54,8 +54,8 @@ impl<A: Allocator + Copy, L: DocumentFormatter> Job<'_, A, L> {
         }
     }
 
-    /// Formats the files that these paths name in order, also after one that fails, and gives the greatest of their statuses. What `files` leaves out is
-    /// left alone. `complaints` have why a text is refused or was not formatted.
+    /// Formats the files that these paths name in order, also after one that fails, and gives the greatest of their
+    /// statuses. What `files` leaves out is left alone. `complaints` have why a text is refused or was not formatted.
     pub fn format_paths<F: Files, W: Sink, E: Sink>(
         &self,
         desk: &mut Desk<F, W, E>,

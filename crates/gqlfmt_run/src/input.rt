@@ -35,7 +35,8 @@ fn kept_bytes(mode: Mode, bytes: &[u8]) -> &[u8]
 }
 
 impl<A: Allocator + Copy, L: DocumentFormatter> Job<'_, A, L> {
-    // What is written of a text of this name, and what came of it: nothing where it is refused, and `complaints` have why.
+    // What is written of a text of this name, and what came of it: nothing where it is refused, and `complaints` have
+    // why.
     #[tactic(auto, using(crate::proofs::Outputs::of_same, crate::proofs::Outputs::of_changed, crate::proofs::Outputs::of_refused))]
     fn output_of<E: Sink>(
         &self,
@@ -43,10 +44,12 @@ impl<A: Allocator + Copy, L: DocumentFormatter> Job<'_, A, L> {
         name: &str,
         source: &str,
     ) -> Result<(Settled, String<A>), AllocError>
-        ensures output { IfOk result (λ it. IsOutput self.now.mode self.now.bounds name.now source.now it.0 (string_bytes it.1)) }
+        ensures output { IfOk result
+            (λ it. IsOutput self.now.mode self.now.bounds name.now source.now it.0 (string_bytes it.1)) }
         ensures empty { IfOk result (λ it. it.0 ≡ Refused → string_bytes it.1 ≡ []) }
         ensures silent { MatchResult result
-            (λ it. IsSilent {E = Unit {0}} self.now.bounds name.now (Ok source.now) (Ok it.0) (E.account complaints.old) (E.account complaints.new))
+            (λ it. IsSilent {E = Unit {0}} self.now.bounds name.now (Ok source.now) (Ok it.0) (E.account complaints.old)
+            (E.account complaints.new))
             (λ error. E.account complaints.new ≡ E.account complaints.old) }
     {
         match self.revise(source)? {
@@ -62,7 +65,8 @@ impl<A: Allocator + Copy, L: DocumentFormatter> Job<'_, A, L> {
         }
     }
 
-    /// Formats the text of these bytes in memory, and then writes what the mode shows of it. `complaints` have why it is refused, and nothing else.
+    /// Formats the text of these bytes in memory, and then writes what the mode shows of it. `complaints` have why it
+    /// is refused, and nothing else.
     pub fn write_layout<W: Sink, E: Sink>(
         &self,
         writer: &mut W,
@@ -70,8 +74,10 @@ impl<A: Allocator + Copy, L: DocumentFormatter> Job<'_, A, L> {
         name: &str,
         bytes: &[u8],
     ) -> Result<Settled, Fault>
-        ensures output { Writes (IsOutput self.now.mode self.now.bounds name.now) result bytes.now (W.account writer.old) (W.account writer.new) }
-        ensures silent { IsSilent self.now.bounds name.now (Ok bytes.now) result (E.account complaints.old) (E.account complaints.new) }
+        ensures output { Writes (IsOutput self.now.mode self.now.bounds name.now) result bytes.now
+            (W.account writer.old) (W.account writer.new) }
+        ensures silent { IsSilent self.now.bounds name.now (Ok bytes.now) result (E.account complaints.old)
+            (E.account complaints.new) }
         ensures reads { IfErr result (λ fault. fault ≢ Read) }
     {
         let Ok(source) = str::from_utf8(bytes) else {
@@ -91,8 +97,10 @@ impl<A: Allocator + Copy, L: DocumentFormatter> Job<'_, A, L> {
         name: &str,
     ) -> Result<Settled, Fault>
         ensures { (input : List ℕ) × Reads result input (R.account reader.old) (R.account reader.new)
-            × Writes (IsOutput self.now.mode self.now.bounds name.now) result input (W.account writer.old) (W.account writer.new)
-            × IsSilent self.now.bounds name.now (Ok input) result (E.account complaints.old) (E.account complaints.new) }
+            × Writes (IsOutput self.now.mode self.now.bounds name.now) result input (W.account writer.old)
+            (W.account writer.new)
+            × IsSilent self.now.bounds name.now (Ok input) result (E.account complaints.old)
+            (E.account complaints.new) }
     {
         let bytes = read_to_end(self.alloc, reader)?;
         self.write_layout(writer, complaints, name, bytes.as_slice())

@@ -7,12 +7,14 @@ use command_lines::gqlfmt::{LineEndings, Mode};
 use formatter::{LineEnd, first_line_end};
 use std::alloc::Allocator;
 
-// How many bytes a formatted text may have where no number is said, in all or for each byte of its source, whichever is more.
+// How many bytes a formatted text may have where no number is said, in all or for each byte of its source, whichever is
+// more.
 const MOST_OUTPUT: usize = 64 * 1024 * 1024;
 
 const MOST_RATIO: usize = 16;
 
-/// What texts and formatted texts keep to: the parser's limits, how many bytes a formatted text may have, if a number is said, and how its lines end.
+/// What texts and formatted texts keep to: the parser's limits, how many bytes a formatted text may have, if a number
+/// is said, and how its lines end.
 #[derive(Clone, Copy)]
 pub struct Bounds {
     pub limits: Limits,
@@ -43,7 +45,8 @@ impl Bounds {
     }
 }
 
-/// How texts are formatted: in memory of the allocator, by the formatter, within the bounds; and what is done with one that this changes.
+/// How texts are formatted: in memory of the allocator, by the formatter, within the bounds; and what is done with one
+/// that this changes.
 #[derive(Drop)]
 pub struct Job<'f, A: Allocator, L> {
     pub alloc: A,

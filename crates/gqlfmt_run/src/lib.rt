@@ -1,8 +1,9 @@
 //! What the program `gqlfmt` does between its words, its devices and the files that it formats.
 //!
-//! `gqlfmt` calls `run`, which formats the standard input, files or the files below folders, and can instead list what would change or show the changes.
-//! Errors have their line and column. Devices and files are type parameters, so that contracts can name what is read and written; and so is the
-//! formatter, since a caller of the parser is proved over all of its code.
+//! `gqlfmt` calls `run`, which formats the standard input, files or the files below folders, and can instead list what
+//! would change or show the changes. Errors have their line and column. Devices and files are type parameters, so that
+//! contracts can name what is read and written; and so is the formatter, since a caller of the parser is proved over
+//! all of its code.
 #![tactic(auto)]
 
 mod command;

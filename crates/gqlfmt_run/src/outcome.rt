@@ -38,7 +38,8 @@ pub fn end<A: Allocator, E: Sink>(
     status_of(ended)
 }
 
-/// Tells why the file at a path was not formatted, if it was not, and which copy of it is there; and gives the status for it.
+/// Tells why the file at a path was not formatted, if it was not, and which copy of it is there; and gives the status
+/// for it.
 pub fn end_of_file<A: Allocator + Copy, F: Files, E: Sink>(
     alloc: A,
     files: &F,

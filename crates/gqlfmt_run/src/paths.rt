@@ -21,14 +21,16 @@ use named_files::Named;
 use std::alloc::Allocator;
 
 impl<A: Allocator + Copy, L: DocumentFormatter> Job<'_, A, L> {
-    // Replaces the file at a path, if formatting changes its text. `complaints` have why it is refused, and nothing else.
+    // Replaces the file at a path, if formatting changes its text. `complaints` have why it is refused, and nothing
+    // else.
     fn rewrite_file<F: Files, E: Sink>(
         &self,
         files: &mut F,
         complaints: &mut E,
         path: &str,
     ) -> Result<Settled, FileFault>
-        ensures { (given : Result (List ℕ) Error) × Rewrites F.reads F.replaces self.now.bounds path.now given result files.old files.new
+        ensures { (given : Result (List ℕ) Error)
+            × Rewrites F.reads F.replaces self.now.bounds path.now given result files.old files.new
             × IsSilent self.now.bounds path.now given result (E.account complaints.old) (E.account complaints.new) }
     {
         let bytes = match files.read(self.alloc, path) {
@@ -55,7 +57,8 @@ impl<A: Allocator + Copy, L: DocumentFormatter> Job<'_, A, L> {
         path: &str,
     ) -> Result<Settled, FileFault>
         ensures { (given : Result (List ℕ) Error) × F.reads files.old path.now given files.new
-            × FollowsRead (IsOutput self.now.mode self.now.bounds path.now) given result (W.account writer.old) (W.account writer.new)
+            × FollowsRead (IsOutput self.now.mode self.now.bounds path.now) given result (W.account writer.old)
+            (W.account writer.new)
             × IsSilent self.now.bounds path.now given result (E.account complaints.old) (E.account complaints.new) }
     {
         match files.read(self.alloc, path) {
@@ -67,15 +70,18 @@ impl<A: Allocator + Copy, L: DocumentFormatter> Job<'_, A, L> {
         }
     }
 
-    /// Formats the file at a path: replaces it, or writes what the mode shows of it. `complaints` have why its text is refused, and nothing else.
+    /// Formats the file at a path: replaces it, or writes what the mode shows of it. `complaints` have why its text is
+    /// refused, and nothing else.
     pub fn format_file<F: Files, W: Sink, E: Sink>(
         &self,
         desk: &mut Desk<F, W, E>,
         path: &str,
     ) -> Result<Settled, FileFault>
-        ensures { (given : Result (List ℕ) Error) × HandlesFile F.reads F.replaces self.now.bounds self.now.mode path.now given result
+        ensures { (given : Result (List ℕ) Error)
+            × HandlesFile F.reads F.replaces self.now.bounds self.now.mode path.now given result
             desk.old.files (W.account desk.old.output) desk.new.files (W.account desk.new.output)
-            × IsSilent self.now.bounds path.now given result (E.account desk.old.complaints) (E.account desk.new.complaints) }
+            × IsSilent self.now.bounds path.now given result (E.account desk.old.complaints)
+            (E.account desk.new.complaints) }
     {
         match self.mode {
             Mode::Write => self.rewrite_file(&mut desk.files, &mut desk.complaints, path),
@@ -94,9 +100,11 @@ impl<A: Allocator + Copy, L: DocumentFormatter> Job<'_, A, L> {
         desk: &mut Desk<F, W, E>,
         named: &Named<A>,
     ) -> Result<Settled, FileFault>
-        ensures { (given : Result (List ℕ) Error) × HandlesFound F.reads F.replaces self.now.bounds self.now.mode (as_named named.now) given result
+        ensures { (given : Result (List ℕ) Error)
+            × HandlesFound F.reads F.replaces self.now.bounds self.now.mode (as_named named.now) given result
             desk.old.files (W.account desk.old.output) desk.new.files (W.account desk.new.output)
-            × IsSilent self.now.bounds (path_of (as_named named.now)) given result (E.account desk.old.complaints) (E.account desk.new.complaints) }
+            × IsSilent self.now.bounds (path_of (as_named named.now)) given result (E.account desk.old.complaints)
+            (E.account desk.new.complaints) }
     {
         match named {
             Named::File(path) => self.format_file(desk, path.as_str()),
@@ -123,8 +131,8 @@ impl<A: Allocator + Copy, L: DocumentFormatter> Job<'_, A, L> {
         )
     }
 
-    /// Formats the files that were found in order, also after one that fails, and gives the greatest of their statuses. `complaints` have why a text is
-    /// refused or was not formatted.
+    /// Formats the files that were found in order, also after one that fails, and gives the greatest of their statuses.
+    /// `complaints` have why a text is refused or was not formatted.
     pub fn format_files<F: Files, W: Sink, E: Sink>(
         &self,
         desk: &mut Desk<F, W, E>,

@@ -86,7 +86,8 @@ impl<A: Allocator + Copy, L: DocumentFormatter> Job<'_, A, L> {
         }
     }
 
-    // Formats the files that these paths name, or standard input, which has this name, where there are none, and gives the status.
+    // Formats the files that these paths name, or standard input, which has this name, where there are none, and gives
+    // the status.
     fn format<R: Source, W: Sink, E: Sink, F: Files>(
         &self,
         reader: &mut R,
@@ -94,7 +95,8 @@ impl<A: Allocator + Copy, L: DocumentFormatter> Job<'_, A, L> {
         name: &str,
         paths: &[&str],
     ) -> u8
-        ensures { Formats F.lists F.omits F.reads F.replaces self.now.mode self.now.bounds name.now (texts paths.now) result
+        ensures { Formats F.lists F.omits F.reads F.replaces self.now.mode self.now.bounds name.now
+            (texts paths.now) result
             (state_of R.account W.account E.account reader.old desk.old)
             (state_of R.account W.account E.account reader.new desk.new) }
     {
@@ -105,8 +107,9 @@ impl<A: Allocator + Copy, L: DocumentFormatter> Job<'_, A, L> {
     }
 }
 
-/// Carries out the request in the words after the program's name, and gives the status: 0 when all is done, 1 when a mode that changes nothing found another
-/// layout, 2 when a text has errors, something could not be done, or the program is not called so.
+/// Carries out the request in the words after the program's name, and gives the status: 0 when all is done, 1 when a
+/// mode that changes nothing found another layout, 2 when a text has errors, something could not be done, or the
+/// program is not called so.
 pub fn run<A: Allocator + Copy, L: DocumentFormatter, R: Source, W: Sink, E: Sink, F: Files>(
     alloc: A,
     formatter: &L,

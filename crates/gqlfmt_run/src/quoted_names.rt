@@ -2,7 +2,8 @@
 ghost use Rattle.std.specs.Prelude.{◌≡◌, ◌==◌, ◌++◌, IfOk, encode_utf8, option_map, string_bytes};
 ghost use Rattle.std.specs.List.{flat_map, list_any};
 ghost use Rattle.std.specs.Str.{chars};
-ghost use Rattle.gqlfmt_run.specs.Quoting.{head_name, is_escaped, needs_quotes, octal, quoted, quoted_char, short_escape};
+ghost use Rattle.gqlfmt_run.specs.Quoting.{head_name, is_escaped, needs_quotes, octal, quoted, quoted_char};
+ghost use Rattle.gqlfmt_run.specs.Quoting.{short_escape};
 
 use marked_lines::is_unseen;
 use std::alloc::{AllocError, Allocator};
@@ -88,7 +89,8 @@ fn push_char<A: Allocator>(text: &mut String<A>, c: char) -> Result<(), AllocErr
 
 // Puts the characters of a name as they are in quotes.
 fn push_chars<A: Allocator>(text: &mut String<A>, name: &str) -> Result<(), AllocError>
-    ensures { IfOk result (λ _. string_bytes text.new ≡ string_bytes text.old ++ flat_map quoted_char (chars name.now)) }
+    ensures { IfOk result (λ _. string_bytes text.new ≡ string_bytes text.old
+        ++ flat_map quoted_char (chars name.now)) }
 {
     for c in name.chars() {
         push_char(text, c)?;

@@ -38,7 +38,8 @@ fn push_error<'s, A: Allocator>(
     error: &BorrowedError<'s>,
 ) -> Result<(), AllocError>
     requires { index.now ≡ source.now }
-    ensures { IfOk result (λ _. BeginsWith (string_bytes report.new) (string_bytes report.old ++ place name.now source.now (shown_at source.now (error_of error.now)))) }
+    ensures { IfOk result (λ _. BeginsWith (string_bytes report.new)
+        (string_bytes report.old ++ place name.now source.now (shown_at source.now (error_of error.now)))) }
 {
     let (words, quoted, end) = error.message_parts();
     let (front, rest) = for_people(words);
@@ -57,7 +58,9 @@ fn render_report<A: Allocator + Copy>(
     source: &str,
     first: &FirstErrors<'_, A>,
 ) -> Result<String<A>, AllocError>
-    ensures { IfOk result (λ report. OfFirst (λ error. BeginsWith (string_bytes report) (place name.now source.now (shown_at source.now (error_of error)))) first.now.errors.items) }
+    ensures { IfOk result (λ report. OfFirst
+        (λ error. BeginsWith (string_bytes report) (place name.now source.now (shown_at source.now (error_of error))))
+        first.now.errors.items) }
 {
     let index = LineIndex::new(alloc, source)?;
     let mut report = String::new(alloc);
@@ -76,7 +79,8 @@ impl<A: Allocator + Copy, L> Job<'_, A, L> {
         source: &str,
         refusal: &Refusal<'_, A>,
     ) -> Result<String<A>, AllocError>
-        ensures { IfOk result (λ report. IsRefusedFor self.now.bounds source.now refusal.now → IsReason self.now.bounds name.now source.now (string_bytes report)) }
+        ensures { IfOk result (λ report. IsRefusedFor self.now.bounds source.now refusal.now
+            → IsReason self.now.bounds name.now source.now (string_bytes report)) }
     {
         match refusal {
             Refusal::Errors(first) => render_report(self.alloc, name, source, first),
@@ -94,7 +98,8 @@ impl<A: Allocator + Copy, L> Job<'_, A, L> {
         refusal: &Refusal<'_, A>,
     ) -> Result<(), AllocError>
         ensures { MatchResult result
-            (λ _. IsRefusedFor self.now.bounds source.now refusal.now → SaysReason self.now.bounds name.now source.now (E.account complaints.old) (E.account complaints.new))
+            (λ _. IsRefusedFor self.now.bounds source.now refusal.now
+            → SaysReason self.now.bounds name.now source.now (E.account complaints.old) (E.account complaints.new))
             (λ _. E.account complaints.new ≡ E.account complaints.old) }
     {
         let report = self.reasons(name, source, refusal)?;
@@ -110,7 +115,8 @@ impl<A: Allocator + Copy, L> Job<'_, A, L> {
         source: &str,
         revised: &Revised<A, Refusal<'_, A>>,
     ) -> Result<(), AllocError>
-        ensures { Complains self.now.bounds name.now source.now revised.now result (E.account complaints.old) (E.account complaints.new) }
+        ensures { Complains self.now.bounds name.now source.now revised.now result (E.account complaints.old)
+            (E.account complaints.new) }
     {
         match revised {
             Revised::Refused(refusal) => self.complain(complaints, name, source, refusal),
@@ -135,7 +141,8 @@ fn mention_copy<A: Allocator + Copy, F: Files, E: Sink>(
     }
 }
 
-/// After a file that was not replaced, names the copy of it that is there, if one is. What the sink does not take is lost.
+/// After a file that was not replaced, names the copy of it that is there, if one is. What the sink does not take is
+/// lost.
 pub fn tell_of_copy<A: Allocator + Copy, F: Files, E: Sink>(
     alloc: A,
     files: &F,

@@ -38,11 +38,14 @@ fn compared<'s, A: Allocator>(
 ) -> Revised<A, Refusal<'s, A>>
     ensures document { format.IsFormatted source.now bounds.limits.recursion bounds.limits.tokens (string_bytes text)
         → length (items_of (string_bytes text)) ≤ most_items (length (items_of source.now))
-        → length (string_bytes text) ≤ most_of bounds.most_output source.now → HasLineEnd (line_end_of bounds.line_endings source.now) (string_bytes text)
+        → length (string_bytes text) ≤ most_of bounds.most_output source.now
+        → HasLineEnd (line_end_of bounds.line_endings source.now) (string_bytes text)
         → IsRevised bounds source.now result }
-    ensures comments { HasSameComments source.now (string_bytes text) → length (items_of source.now) ≤ bounds.limits.tokens
+    ensures comments { HasSameComments source.now (string_bytes text)
+        → length (items_of source.now) ≤ bounds.limits.tokens
         → length (items_of (string_bytes text)) ≤ most_items (length (items_of source.now))
-        → length (string_bytes text) ≤ most_of bounds.most_output source.now → HasLineEnd (line_end_of bounds.line_endings source.now) (string_bytes text)
+        → length (string_bytes text) ≤ most_of bounds.most_output source.now
+        → HasLineEnd (line_end_of bounds.line_endings source.now) (string_bytes text)
         → IsRevised bounds source.now result }
 {
     if text.as_str() == source {
@@ -62,15 +65,21 @@ impl<A: Allocator + Copy, L: DocumentFormatter> Job<'_, A, L> {
         source: &str,
         text: String<A>,
     ) -> Result<Revised<A, Refusal<'s, A>>, AllocError>
-        ensures document { IfOk result (λ revised. format.IsFormatted source.now self.now.bounds.limits.recursion self.now.bounds.limits.tokens (string_bytes text)
+        ensures document { IfOk result
+            (λ revised. format.IsFormatted source.now self.now.bounds.limits.recursion
+            self.now.bounds.limits.tokens (string_bytes text)
             → length (items_of (string_bytes text)) ≤ most_items (length (items_of source.now))
             → length (string_bytes text) ≤ most_of self.now.bounds.most_output source.now
-            → ((d : format.IsDocument source.now self.now.bounds.limits.recursion self.now.bounds.limits.tokens) → length (string_bytes text) ≤ longest_layout (nest d.tree) (length source.now))
+            → ((d : format.IsDocument source.now self.now.bounds.limits.recursion self.now.bounds.limits.tokens)
+            → length (string_bytes text) ≤ longest_layout (nest d.tree) (length source.now))
             → IsRevised self.now.bounds source.now revised) }
-        ensures comments { IfOk result (λ revised. HasSameComments source.now (string_bytes text) → length (items_of source.now) ≤ self.now.bounds.limits.tokens
+        ensures comments { IfOk result
+            (λ revised. HasSameComments source.now (string_bytes text)
+            → length (items_of source.now) ≤ self.now.bounds.limits.tokens
             → length (items_of (string_bytes text)) ≤ most_items (length (items_of source.now))
             → length (string_bytes text) ≤ most_of self.now.bounds.most_output source.now
-            → length (string_bytes text) ≤ longest_layout 0 (length source.now) → IsRevised self.now.bounds source.now revised) }
+            → length (string_bytes text) ≤ longest_layout 0 (length source.now)
+            → IsRevised self.now.bounds source.now revised) }
     {
         let end = self.bounds.line_end_of(source);
         let ended = with_line_end(self.alloc, text, end)?;
@@ -87,8 +96,10 @@ impl<A: Allocator + Copy, L: DocumentFormatter> Job<'_, A, L> {
         source: &'s str,
         first: FirstErrors<'s, A>,
     ) -> Result<Revised<A, Refusal<'s, A>>, AllocError>
-        ensures { IfOk result (λ revised. format.IsNoDocument source.now self.now.bounds.limits.recursion self.now.bounds.limits.tokens
-            → AreFirstOf self.now.bounds.limits source.now most_shown (map error_of first.entry.errors.items) first.entry.more
+        ensures { IfOk result (λ revised. format.IsNoDocument source.now self.now.bounds.limits.recursion
+            self.now.bounds.limits.tokens
+            → AreFirstOf self.now.bounds.limits source.now most_shown
+            (map error_of first.entry.errors.items) first.entry.more
             → IsRevised self.now.bounds source.now revised) }
     {
         if !stays_within(source, self.bounds.limits.tokens) {

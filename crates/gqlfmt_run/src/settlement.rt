@@ -1,5 +1,5 @@
-// Whether a file is replaced. This is the one call of the program that destroys something, so it is small, and its contract can be read alone. It does not know
-// what is formatted: the errors and the files are type parameters.
+// Whether a file is replaced. This is the one call of the program that destroys something, so it is small, and its
+// contract can be read alone. It does not know what is formatted: the errors and the files are type parameters.
 ghost use Rattle.command_lines.specs.declared.gqlfmt.Mode.TheVariants.{Write};
 ghost use Rattle.gqlfmt_run.specs.Settling.{Settles};
 

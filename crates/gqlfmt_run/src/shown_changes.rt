@@ -9,8 +9,8 @@ use crate::settlement::Settled;
 use command_lines::gqlfmt::Mode;
 use std::alloc::{AllocError, Allocator};
 
-/// What comes of a text that has another layout than its source, and what is shown of it: the formatted text itself, the quoted name of its source as a
-/// line, or the changes from the source.
+/// What comes of a text that has another layout than its source, and what is shown of it: the formatted text itself,
+/// the quoted name of its source as a line, or the changes from the source.
 pub fn shown<A: Allocator + Copy>(
     alloc: A,
     mode: Mode,
@@ -19,7 +19,8 @@ pub fn shown<A: Allocator + Copy>(
     text: String<A>,
 ) -> Result<(Settled, String<A>), AllocError>
     ensures settled { IfOk result (λ it. it.0 ≡ settled_of mode) }
-    ensures shown { IfOk result (λ it. string_bytes text ≢ source.now → IsShown mode name.now (string_bytes text) (string_bytes it.1)) }
+    ensures shown { IfOk result
+        (λ it. string_bytes text ≢ source.now → IsShown mode name.now (string_bytes text) (string_bytes it.1)) }
 {
     match mode {
         Mode::Write | Mode::Print => Ok((Settled::Done, text)),

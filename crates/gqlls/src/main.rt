@@ -1,6 +1,7 @@
 //! `gqlls` is a language server for GraphQL documents over standard input and output.
 //!
-//! Here are only the words, the standard devices and the exit status. What is done between them is `run` of `gqlls_program`.
+//! Here are only the words, the standard devices and the exit status. What is done between them is `run` of
+//! `gqlls_program`.
 #![tactic(auto)]
 
 use byte_streams::{StdSink, StdSource, views, words};

@@ -25,9 +25,10 @@ opening limits files = record { dialogue = initial_dialogue limits; files = file
 
 -- the files, as a trait tells what listing a folder, reading a file and locating a folder does
 module _
-    {F : Type 0} (lists : F → List ℕ → Listing → F → Type 0) (reads locates : F → List ℕ → Result (List ℕ) Error → F → Type 0) where
-  -- Folders are listed and located and files are read, one after the other. What is known of a file is of the text that it had when it was read, under a URI
-  -- of its path.
+    {F : Type 0} (lists : F → List ℕ → Listing → F → Type 0)
+    (reads locates : F → List ℕ → Result (List ℕ) Error → F → Type 0) where
+  -- Folders are listed and located and files are read, one after the other. What is known of a file is of the text that
+  -- it had when it was read, under a URI of its path.
   pub data Reads : FolderDialogue F → FolderDialogue F → Type 0 where
     nothing : {state : FolderDialogue F} → Reads state state
     listed : {old middle new : FolderDialogue F} {path : List ℕ} {listing : Listing}
@@ -37,12 +38,14 @@ module _
     passed_over : {old middle new : FolderDialogue F} {path : List ℕ} {given : Result (List ℕ) Error}
         → Reads old middle → reads middle.files path given new.files → new.dialogue ≡ middle.dialogue → Reads old new
     kept : {old middle new : FolderDialogue F} {path text : List ℕ} {errors : ℕ}
-        → Reads old middle → reads middle.files path (Ok text) new.files → KeepsFile (uri_of path) text errors middle.dialogue new.dialogue → Reads old new
+        → Reads old middle → reads middle.files path (Ok text) new.files
+        → KeepsFile (uri_of path) text errors middle.dialogue new.dialogue → Reads old new
     dropped : {old middle new : FolderDialogue F} {uri : List ℕ}
         → Reads old middle → new.files ≡ middle.files → SetsFile uri None middle.dialogue new.dialogue → Reads old new
 
   -- a notification is handled after files may have been read
-  pub record ReadsAndHandles (method : List ℕ) (params : Json) (reply : Reply) (old new : FolderDialogue F) : Type 0 where
+  pub record ReadsAndHandles (method : List ℕ) (params : Json) (reply : Reply)
+      (old new : FolderDialogue F) : Type 0 where
     pub ready : FolderDialogue F
     pub read : Reads old ready
     pub handled : HandlesNotification method params reply ready.dialogue new.dialogue
@@ -50,15 +53,19 @@ module _
 
   -- the outcome of a request, which has an id, or of a notification
   abbrev pub Steps : FolderDialogue F → Option Json → List ℕ → Json → Reply → FolderDialogue F → Type 0
-  Steps old (Some id) method params reply new = HandlesRequest id method params reply old.dialogue new.dialogue × (new.files ≡ old.files)
+  Steps old (Some id) method params reply new =
+      HandlesRequest id method params reply old.dialogue new.dialogue × (new.files ≡ old.files)
   Steps old None method params reply new = ReadsAndHandles method params reply old new
 
-  -- what was written is what a conversation about the bytes that were read says, from its beginning and within these limits
-  pub record Serves (limits : Limits) (files : F) (status : ℕ) (read_old read_new write_old write_new : Account) : Type 0 where
+  -- what was written is what a conversation about the bytes that were read says, from its beginning and within these
+  -- limits
+  pub record Serves (limits : Limits) (files : F) (status : ℕ)
+      (read_old read_new write_old write_new : Account) : Type 0 where
     pub last : FolderDialogue F
     pub served : IsServed (Takes Steps) (opening limits files) last status read_old read_new write_old write_new
 
   -- the run fails, and what was written is what such a conversation says, as far as it came
-  pub record Fails (limits : Limits) (files : F) (read_old read_new write_old write_new : Account) (fault : Fault) : Type 0 where
+  pub record Fails (limits : Limits) (files : F) (read_old read_new write_old write_new : Account)
+      (fault : Fault) : Type 0 where
     pub last : FolderDialogue F
     pub ends : EndsServing (Takes Steps) (opening limits files) last read_old read_new write_old write_new fault

@@ -28,11 +28,13 @@ complaint_of Write = codes "gqlls: cannot write\n"
 
 -- the files, as a trait tells what listing a folder, reading a file and locating a folder does
 module _
-    {F : Type 0} (lists : F → List ℕ → Listing → F → Type 0) (reads locates : F → List ℕ → Result (List ℕ) Error → F → Type 0) (files : F) where
+    {F : Type 0} (lists : F → List ℕ → Listing → F → Type 0)
+    (reads locates : F → List ℕ → Result (List ℕ) Error → F → Type 0) (files : F) where
   -- a client is served, and nothing is said beside that
   abbrev pub ServesClient : Limits → ℕ → Streams → Streams → Type 0
   ServesClient limits status old new =
-      Serves lists reads locates limits files status old.input new.input old.output new.output × (new.complaints ≡ old.complaints)
+      Serves lists reads locates limits files status old.input new.input old.output new.output
+      × (new.complaints ≡ old.complaints)
 
   -- that fails, and why is said
   pub record FailsClient (limits : Limits) (status : ℕ) (old new : Streams) : Type 0 where
@@ -44,9 +46,11 @@ module _
   -- What a run does for the request in its words. Where there is none, a word is wrong.
   abbrev pub Does : List (List ℕ) → Option (Request Limits) → ℕ → Streams → Streams → Type 0
   Does words (Some (Print page)) status old new = OnlyPrints PROGRAM.now (information_text page) status old new
-  Does words (Some (Process limits)) status old new = ServesClient limits status old new ⊎ FailsClient limits status old new
+  Does words (Some (Process limits)) status old new =
+      ServesClient limits status old new ⊎ FailsClient limits status old new
   Does words None status old new = OnlyExplains PROGRAM.now USAGE.now (Contains words) status old new
 
   -- What a run does: that, or it says that memory was refused before the last of its words was read, and nothing else.
   abbrev pub Runs : List (List ℕ) → ℕ → Streams → Streams → Type 0
-  Runs words status old new = Does words (request_of words) status old new ⊎ OnlySays (no_memory PROGRAM.now) status old new
+  Runs words status old new =
+      Does words (request_of words) status old new ⊎ OnlySays (no_memory PROGRAM.now) status old new

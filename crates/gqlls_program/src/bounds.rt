@@ -9,7 +9,8 @@ use std::io;
 /// How many files of a folder are read at most.
 pub(crate) const MOST_FILES: usize = 10_000;
 
-/// How many bytes the files have together at most in which names are looked for: with their trees they take some 23 times as much memory.
+/// How many bytes the files have together at most in which names are looked for: with their trees they take some 23
+/// times as much memory.
 pub(crate) const MOST_BYTES: usize = 1 << 24;
 
 /// How many tokens a file has at most in which names are looked for, ignored ones and bad text among them.

@@ -71,7 +71,8 @@ fn split_path(path: &str) -> Option<(&str, &str)> {
 }
 
 impl Folder {
-    // The path, as the client spells the folder's, of a file of this name in the folder with a path without symbolic links, if that is this one or in it.
+    // The path, as the client spells the folder's, of a file of this name in the folder with a path without symbolic
+    // links, if that is this one or in it.
     fn spelled(
         &self,
         alloc: Global,
@@ -89,7 +90,8 @@ impl Folder {
     }
 }
 
-// The path that a file of this name has in a folder that the client opens, by the path of its folder without symbolic links.
+// The path that a file of this name has in a folder that the client opens, by the path of its folder without symbolic
+// links.
 fn spelled_in(
     alloc: Global,
     folders: &[Folder],
@@ -134,7 +136,8 @@ impl<F: Files> FolderServer<F> {
     // The text of the file at a path, if it has one for which there is room.
     fn text_at(&mut self, alloc: Global, path: &str) -> Option<String>
         ensures dialogue { dialogue_of self.new.server ≡ dialogue_of self.old.server }
-        ensures given { (given : Result (List ℕ) Error) × F.reads self.old.files.files path.now given self.new.files.files
+        ensures given { (given : Result (List ℕ) Error)
+            × F.reads self.old.files.files path.now given self.new.files.files
             × IfSome result (λ text. given ≡ Ok (string_bytes text)) }
     {
         let room = self.room();
@@ -144,7 +147,8 @@ impl<F: Files> FolderServer<F> {
         }
     }
 
-    // Has names looked for no more in a file with too many errors, which take some ten times as much memory as its text would without them.
+    // Has names looked for no more in a file with too many errors, which take some ten times as much memory as its text
+    // would without them.
     fn drop_faulty(&mut self, uri: &str, errors: usize)
         ensures { Reads F.lists F.reads F.locates (folder_dialogue_of self.old) (folder_dialogue_of self.new) }
     {
@@ -160,9 +164,11 @@ impl<F: Files> FolderServer<F> {
         self.files.locate(alloc, folder).ok()
     }
 
-    // The path by which a file is known in the folders that the client opens: the client may have it by another, through a link or with `//`.
+    // The path by which a file is known in the folders that the client opens: the client may have it by another,
+    // through a link or with `//`.
     fn known_path(&mut self, alloc: Global, path: String) -> Result<String, AllocError>
-        ensures { OnOk result (Reads F.lists F.reads F.locates (folder_dialogue_of self.old) (folder_dialogue_of self.new)) }
+        ensures { OnOk result (Reads F.lists F.reads F.locates (folder_dialogue_of self.old)
+            (folder_dialogue_of self.new)) }
     {
         let Some((folder, name)) = split_path(path.as_str()) else {
             return Ok(path);
@@ -178,7 +184,8 @@ impl<F: Files> FolderServer<F> {
 
     // The same of the file that a URI names, if it names one.
     fn known_file(&mut self, alloc: Global, uri: &str) -> Result<Option<String>, AllocError>
-        ensures { OnOk result (Reads F.lists F.reads F.locates (folder_dialogue_of self.old) (folder_dialogue_of self.new)) }
+        ensures { OnOk result (Reads F.lists F.reads F.locates (folder_dialogue_of self.old)
+            (folder_dialogue_of self.new)) }
     {
         match path_of(alloc, uri)? {
             Some(path) => Ok(Some(self.known_path(alloc, path)?)),
@@ -186,9 +193,11 @@ impl<F: Files> FolderServer<F> {
         }
     }
 
-    // Reads the file at a path again, if its name is a GraphQL file's and it isn't open. One that can't be read, or is too long, is known no more.
+    // Reads the file at a path again, if its name is a GraphQL file's and it isn't open. One that can't be read, or is
+    // too long, is known no more.
     fn refresh(&mut self, alloc: Global, path: &str) -> Result<(), AllocError>
-        ensures { OnOk result (Reads F.lists F.reads F.locates (folder_dialogue_of self.old) (folder_dialogue_of self.new)) }
+        ensures { OnOk result (Reads F.lists F.reads F.locates (folder_dialogue_of self.old)
+            (folder_dialogue_of self.new)) }
     {
         if !is_graphql(path) || self.open.contains(path) {
             return Ok(());
@@ -206,7 +215,8 @@ impl<F: Files> FolderServer<F> {
 
     // Reads the files of a folder.
     fn read_folder(&mut self, alloc: Global, folder: &str) -> Result<(), AllocError>
-        ensures { OnOk result (Reads F.lists F.reads F.locates (folder_dialogue_of self.old) (folder_dialogue_of self.new)) }
+        ensures { OnOk result (Reads F.lists F.reads F.locates (folder_dialogue_of self.old)
+            (folder_dialogue_of self.new)) }
     {
         self.files.begin();
         let found = named_files(alloc, &mut self.files, folder)?;
@@ -221,7 +231,8 @@ impl<F: Files> FolderServer<F> {
 
     // Reads the files of a folder that the client opens, which is known by this path.
     fn read_opened(&mut self, alloc: Global, mut folder: Folder) -> Result<(), AllocError>
-        ensures { OnOk result (Reads F.lists F.reads F.locates (folder_dialogue_of self.old) (folder_dialogue_of self.new)) }
+        ensures { OnOk result (Reads F.lists F.reads F.locates (folder_dialogue_of self.old)
+            (folder_dialogue_of self.new)) }
     {
         if let Some(located) = self.located(alloc, folder.path.as_str()) {
             folder.located = located;
@@ -233,7 +244,8 @@ impl<F: Files> FolderServer<F> {
 
     // Reads the files of all folders that the client opens.
     fn read_folders(&mut self, alloc: Global) -> Result<(), AllocError>
-        ensures { OnOk result (Reads F.lists F.reads F.locates (folder_dialogue_of self.old) (folder_dialogue_of self.new)) }
+        ensures { OnOk result (Reads F.lists F.reads F.locates (folder_dialogue_of self.old)
+            (folder_dialogue_of self.new)) }
     {
         let folders = mem::replace(&mut self.folders, Vec::new(alloc));
         for folder in folders {
@@ -264,7 +276,8 @@ impl<F: Files> FolderServer<F> {
         alloc: Global,
         params: &Value<'_>,
     ) -> Result<Option<String>, AllocError>
-        ensures { OnOk result (Reads F.lists F.reads F.locates (folder_dialogue_of self.old) (folder_dialogue_of self.new)) }
+        ensures { OnOk result (Reads F.lists F.reads F.locates (folder_dialogue_of self.old)
+            (folder_dialogue_of self.new)) }
     {
         match document_in(params) {
             Some(uri) => self.known_file(alloc, uri),
@@ -275,7 +288,8 @@ impl<F: Files> FolderServer<F> {
     // A document is open now: its file counts as the client has it.
     #[tactic(auto, using(crate::proofs::Reading::reads_on))]
     fn leave_out_opened(&mut self, alloc: Global, params: &Value<'_>) -> Result<(), AllocError>
-        ensures { OnOk result (Reads F.lists F.reads F.locates (folder_dialogue_of self.old) (folder_dialogue_of self.new)) }
+        ensures { OnOk result (Reads F.lists F.reads F.locates (folder_dialogue_of self.old)
+            (folder_dialogue_of self.new)) }
     {
         if let Some(path) = self.known_document(alloc, params)? {
             self.drop_file(uri_of(alloc, path.as_str())?.as_str());
@@ -287,7 +301,8 @@ impl<F: Files> FolderServer<F> {
     // A document is closed: its file counts as it is stored.
     #[tactic(auto, using(crate::proofs::Reading::reads_on))]
     fn read_closed(&mut self, alloc: Global, params: &Value<'_>) -> Result<(), AllocError>
-        ensures { OnOk result (Reads F.lists F.reads F.locates (folder_dialogue_of self.old) (folder_dialogue_of self.new)) }
+        ensures { OnOk result (Reads F.lists F.reads F.locates (folder_dialogue_of self.old)
+            (folder_dialogue_of self.new)) }
     {
         if let Some(path) = self.known_document(alloc, params)? {
             self.open.remove(path.as_str());
@@ -299,7 +314,8 @@ impl<F: Files> FolderServer<F> {
     // A file has changed, was made or is gone.
     #[tactic(auto, using(crate::proofs::Reading::reads_on))]
     fn read_changed_file(&mut self, alloc: Global, uri: &str) -> Result<(), AllocError>
-        ensures { OnOk result (Reads F.lists F.reads F.locates (folder_dialogue_of self.old) (folder_dialogue_of self.new)) }
+        ensures { OnOk result (Reads F.lists F.reads F.locates (folder_dialogue_of self.old)
+            (folder_dialogue_of self.new)) }
     {
         if let Some(path) = self.known_file(alloc, uri)? {
             self.refresh(alloc, path.as_str())?;
@@ -309,7 +325,8 @@ impl<F: Files> FolderServer<F> {
 
     // Some files have changed, were made or are gone.
     fn read_changed_files(&mut self, alloc: Global, params: &Value<'_>) -> Result<(), AllocError>
-        ensures { OnOk result (Reads F.lists F.reads F.locates (folder_dialogue_of self.old) (folder_dialogue_of self.new)) }
+        ensures { OnOk result (Reads F.lists F.reads F.locates (folder_dialogue_of self.old)
+            (folder_dialogue_of self.new)) }
     {
         for uri in &changed_files(alloc, params)? {
             self.read_changed_file(alloc, uri)?;
@@ -324,7 +341,8 @@ impl<F: Files> FolderServer<F> {
         method: &str,
         params: &Value<'_>,
     ) -> Result<(), AllocError>
-        ensures { OnOk result (Reads F.lists F.reads F.locates (folder_dialogue_of self.old) (folder_dialogue_of self.new)) }
+        ensures { OnOk result (Reads F.lists F.reads F.locates (folder_dialogue_of self.old)
+            (folder_dialogue_of self.new)) }
     {
         match method {
             "initialized" => self.read_folders(alloc),
@@ -337,7 +355,8 @@ impl<F: Files> FolderServer<F> {
 }
 
 impl<F: Files> Service for FolderServer<F> {
-    ghost steps = { λ old id method params reply new. Steps F.lists F.reads F.locates (folder_dialogue_of old) id method params reply (folder_dialogue_of new) };
+    ghost steps = { λ old id method params reply new. Steps F.lists F.reads F.locates (folder_dialogue_of old) id method
+        params reply (folder_dialogue_of new) };
 
     fn request(
         &mut self,
@@ -348,7 +367,9 @@ impl<F: Files> Service for FolderServer<F> {
     ) -> Result<Vec<u8>, AllocError>
         requires { HasNumbers (value_view id.now) }
         ensures answers { IfOk result (λ body. IsAnswer (value_view id.now) body.items) }
-        ensures step { IfOk result (λ body. Steps F.lists F.reads F.locates (folder_dialogue_of self.old) (Some (value_view id.now)) method.now (value_view params.now)
+        ensures step { IfOk result
+            (λ body. Steps F.lists F.reads F.locates (folder_dialogue_of self.old) (Some (value_view id.now)) method.now
+            (value_view params.now)
             (Answer body) (folder_dialogue_of self.new)) }
     {
         if method == "initialize" {
@@ -365,7 +386,9 @@ impl<F: Files> Service for FolderServer<F> {
     ) -> Result<Reply, AllocError>
         ensures replies { IfOk result (Replies None) }
         ensures ends { IfOk result (EndsOnlyIf (method.now ≡ codes "exit")) }
-        ensures step { IfOk result (λ reply. Steps F.lists F.reads F.locates (folder_dialogue_of self.old) None method.now (value_view params.now) reply
+        ensures step { IfOk result
+            (λ reply. Steps F.lists F.reads F.locates (folder_dialogue_of self.old) None method.now
+            (value_view params.now) reply
             (folder_dialogue_of self.new)) }
     {
         self.update_files(alloc, method, params)?;

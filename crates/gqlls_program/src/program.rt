@@ -35,8 +35,9 @@ fn complaint_of(fault: Fault) -> &'static str
     }
 }
 
-// Serves a client until the end. Each text is parsed and formatted within the limits. Names are looked for in the open documents, and then in the GraphQL
-// files of the folders that the client opens. It gives the exit status, and fails only when the reader or the writer fails, or when memory is refused.
+// Serves a client until the end. Each text is parsed and formatted within the limits. Names are looked for in the open
+// documents, and then in the GraphQL files of the folders that the client opens. It gives the exit status, and fails
+// only when the reader or the writer fails, or when memory is refused.
 fn serve_client<R: Source, W: Sink, F: Files + Drop>(
     alloc: Global,
     reader: &mut R,
@@ -44,15 +45,20 @@ fn serve_client<R: Source, W: Sink, F: Files + Drop>(
     files: F,
     limits: Limits,
 ) -> Result<u8, Fault>
-    ensures ok { IfOk result (λ status. Serves F.lists F.reads F.locates limits files status (R.account reader.old) (R.account reader.new) (W.account writer.old) (W.account writer.new)) }
-    ensures err { IfErr result (Fails F.lists F.reads F.locates limits files (R.account reader.old) (R.account reader.new) (W.account writer.old) (W.account writer.new)) }
+    ensures ok { IfOk result
+        (λ status. Serves F.lists F.reads F.locates limits files status (R.account reader.old) (R.account reader.new)
+        (W.account writer.old) (W.account writer.new)) }
+    ensures err { IfErr result
+        (Fails F.lists F.reads F.locates limits files (R.account reader.old) (R.account reader.new)
+        (W.account writer.old) (W.account writer.new)) }
 {
     let mut server = FolderServer::new(alloc, Server::new(alloc, limits), files);
     serve(alloc, &mut server, reader, writer)
 }
 
-/// Carries out the request in the words after the program's name, and gives the status. It prints a page of the program, or serves a client within limits
-/// until the notification `exit` or the end of the input. Where that fails, or a word is wrong, it says so, and the status is 2.
+/// Carries out the request in the words after the program's name, and gives the status. It prints a page of the
+/// program, or serves a client within limits until the notification `exit` or the end of the input. Where that fails,
+/// or a word is wrong, it says so, and the status is 2.
 pub fn run<R: Source, W: Sink, E: Sink, F: Files + Drop>(
     alloc: Global,
     reader: &mut R,
@@ -63,7 +69,11 @@ pub fn run<R: Source, W: Sink, E: Sink, F: Files + Drop>(
 ) -> u8
     ensures { Runs F.lists F.reads F.locates files (texts words.now) result
         (record { input = R.account reader.old; output = W.account writer.old; complaints = E.account complaints.old })
-        (record { input = R.account reader.new; output = W.account writer.new; complaints = E.account complaints.new }) }
+        (record {
+          input = R.account reader.new;
+          output = W.account writer.new;
+          complaints = E.account complaints.new;
+        }) }
 {
     match options(alloc, words) {
         Ok(Request::Print(page)) => print(PROGRAM, writer, complaints, information_text(page)),

@@ -31,7 +31,8 @@ member_written : (one : KnownFile) (name : List ℕ) (ranges : List (ℕ × ℕ)
     → members_tokens (with_edits one name ranges others) ≡ edit_tokens one name ranges ++ members_tokens others
 member_written one name [] others = refl
 member_written one name (range ∷ ranges) others =
-    ap (λ (x : List Token). key one.0 ∷ (begin_array ∷ (x ++ members_tokens others))) (items_written one name (range ∷ ranges))
+    ap (λ (x : List Token). key one.0 ∷ (begin_array ∷ (x ++ members_tokens others)))
+    (items_written one name (range ∷ ranges))
 
 members_written : (places : KnownFile → List Place) (name : List ℕ) (known : List KnownFile)
     → members_tokens (edits_of places name known) ≡ edits_tokens places name known ++ end_object ∷ []
@@ -44,9 +45,12 @@ members_written places name (one ∷ known) =
     ∙ ap (λ (x : List Token). x ++ end_object ∷ []) (sym (flat_map-cons tokens one known))
 
 -- the result, by the tokens of its pieces
-pub result_written : (places : KnownFile → List Place) (name : List ℕ) (known : List Known) (front middle whole : List Token)
-    → front ≡ begin_object ∷ key (codes "changes") ∷ begin_object ∷ [] → middle ≡ front ++ flat_map (known_tokens places name) known
-    → whole ≡ middle ++ end_object ∷ end_object ∷ [] → whole ≡ json_tokens (workspace_edit places name (map known_of known))
+pub result_written : (places : KnownFile → List Place) (name : List ℕ) (known : List Known)
+    (front middle whole : List Token)
+    → front ≡ begin_object ∷ key (codes "changes") ∷ begin_object ∷ []
+    → middle ≡ front ++ flat_map (known_tokens places name) known
+    → whole ≡ middle ++ end_object ∷ end_object ∷ []
+    → whole ≡ json_tokens (workspace_edit places name (map known_of known))
 result_written places name known front middle whole begins goes_on ends =
     let edits = edits_tokens places name (map known_of known) in
     let same : flat_map (known_tokens places name) known ≡ edits =
@@ -66,13 +70,17 @@ parts_written one name [] encoding text some same_encoding same_text = absurd (s
 parts_written one name (part ∷ found) encoding text some same_encoding same_text =
     let written = λ (x : List Token). key one.0 ∷ (begin_array ∷ (x ++ end_array ∷ [])) in
     ap (λ (e : PositionEncoding). written (flat_map (change_tokens e text name) (part ∷ found))) same_encoding
-    ∙ ap (λ (t : List ℕ). written (flat_map (change_tokens one.1.file.content.encoding t name) (part ∷ found))) same_text
-    ∙ ap written (sym (flat_map-map (λ (range : ℕ × ℕ). json_tokens (edit_of one.1.file name range)) bounds (part ∷ found)))
+    ∙ ap (λ (t : List ℕ). written (flat_map (change_tokens one.1.file.content.encoding t name) (part ∷ found)))
+    same_text
+    ∙ ap written (sym (flat_map-map (λ (range : ℕ × ℕ). json_tokens (edit_of one.1.file name range))
+    bounds (part ∷ found)))
 
 -- the same, after some pieces
-pub pieces_written : (one : KnownFile) (name : List ℕ) (found : List Span) (encoding : PositionEncoding) (text : List ℕ) (old first second new : List Token)
+pub pieces_written : (one : KnownFile) (name : List ℕ) (found : List Span) (encoding : PositionEncoding) (text : List ℕ)
+    (old first second new : List Token)
     → found ≢ [] → encoding ≡ one.1.file.content.encoding → text ≡ one.1.file.content.text
-    → first ≡ old ++ key one.0 ∷ begin_array ∷ [] → second ≡ first ++ flat_map (change_tokens encoding text name) found → new ≡ second ++ end_array ∷ []
+    → first ≡ old ++ key one.0 ∷ begin_array ∷ [] → second ≡ first ++ flat_map (change_tokens encoding text name) found
+    → new ≡ second ++ end_array ∷ []
     → new ≡ old ++ edit_tokens one name (map bounds found)
 pieces_written one name found encoding text old first second new some same_encoding same_text begins goes_on ends =
     let changes = flat_map (change_tokens encoding text name) found in

@@ -9,9 +9,11 @@ use Rattle.json.specs.Json.{Json}
 use Rattle.gqlls_server.specs.Renaming.{IsFailed, IsRenamed, IsRenamedAt, KnownFile, root_of}
 
 -- what a search finds passes its test
-found_first : {X : Type 0} (test : X → Bool) (x y : X) (found : Option X) (passes : Bool) → test y ≡ passes → (found ≡ Some x → test x ≡ true)
+found_first : {X : Type 0} (test : X → Bool) (x y : X) (found : Option X) (passes : Bool) → test y ≡ passes
+    → (found ≡ Some x → test x ≡ true)
     → cond passes (Some y) found ≡ Some x → test x ≡ true
-found_first {X = X} test x y found true is rest h = subst (λ (z : X). test z ≡ true) (ap (λ (o : Option X). unwrap_or o x) h) is
+found_first {X = X} test x y found true is rest h =
+    subst (λ (z : X). test z ≡ true) (ap (λ (o : Option X). unwrap_or o x) h) is
 found_first test x y found false is rest h = rest h
 
 pub found_passes : {X : Type 0} (test : X → Bool) (xs : List X) (x : X) → find test xs ≡ Some x → test x ≡ true
@@ -19,7 +21,8 @@ found_passes test [] x h = absurd (let no : false ≡ true = ap is_some h in cc 
 found_passes test (y ∷ ys) x h = found_first test x y (find test ys) (test y) refl (found_passes test ys x) h
 
 -- a choice, where the test is passed
-pub chosen : {X : Type 0} (passes : Bool) (one other result : X) → passes ≡ true → result ≡ (if passes then one else other) → result ≡ one
+pub chosen : {X : Type 0} (passes : Bool) (one other result : X) → passes ≡ true
+    → result ≡ (if passes then one else other) → result ≡ one
 chosen true one other result is h = h
 chosen false one other result is h = absurd (let no : false ≡ true = is in cc no)
 
@@ -28,12 +31,16 @@ module _ (id : Json) (asked : KnownFile) (offset : ℕ) (name : List ℕ) (known
   Renamed meaning = MatchOption meaning ⊤ (λ meaning. IsRenamed id meaning.kind asked offset name known body)
 
   -- a name without a meaning may be anything
-  pub meaningless : (leaf : Place) → identifier_at (root_of asked) offset ≡ Some leaf → meaning_at leaf ≡ None → IsRenamedAt id asked offset name known body
+  pub meaningless : (leaf : Place) → identifier_at (root_of asked) offset ≡ Some leaf → meaning_at leaf ≡ None
+      → IsRenamedAt id asked offset name known body
   meaningless leaf found none =
-      subst (λ (o : Option Place). MatchOption o (IsFailed id body) (λ leaf. Renamed (meaning_at leaf))) (sym found) (subst Renamed (sym none) tt)
+      subst (λ (o : Option Place). MatchOption o (IsFailed id body) (λ leaf. Renamed (meaning_at leaf))) (sym found)
+      (subst Renamed (sym none) tt)
 
   -- one with a meaning is renamed by it
-  pub meant : (leaf : Place) (meaning : Meaning) → identifier_at (root_of asked) offset ≡ Some leaf → meaning_at leaf ≡ Some meaning
+  pub meant : (leaf : Place) (meaning : Meaning) → identifier_at (root_of asked) offset ≡ Some leaf
+      → meaning_at leaf ≡ Some meaning
       → IsRenamed id meaning.kind asked offset name known body → IsRenamedAt id asked offset name known body
   meant leaf meaning found is renamed =
-      subst (λ (o : Option Place). MatchOption o (IsFailed id body) (λ leaf. Renamed (meaning_at leaf))) (sym found) (subst Renamed (sym is) renamed)
+      subst (λ (o : Option Place). MatchOption o (IsFailed id body) (λ leaf. Renamed (meaning_at leaf))) (sym found)
+      (subst Renamed (sym is) renamed)

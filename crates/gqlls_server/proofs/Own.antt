@@ -1,6 +1,6 @@
 -- The files of open documents.
-use Rattle.std.proofs.Common.{◌≡◌, ◌≢◌, ◌∙◌, ℕ, Bool, true, false, List, [], ◌∷◌, Option, Some, None, nat_cmp, BTreeMap, BTreeSet, String, refl, string_cmp}
-use Rattle.std.proofs.Common.{sym, ap, subst, map, inl, inr}
+use Rattle.std.proofs.Common.{◌≡◌, ◌≢◌, ◌∙◌, ℕ, Bool, true, false, List, [], ◌∷◌, Option, Some, None, nat_cmp, BTreeMap}
+use Rattle.std.proofs.Common.{BTreeSet, String, refl, string_cmp, sym, ap, subst, map, inl, inr}
 use Rattle.std.specs.Prelude.{◌||◌, ◌⊎◌, bytes_eq, cond, is_some, option_map, string_bytes, unwrap_or}
 use Rattle.std.specs.BTreeMap.{get_by_text, is_at, keys}
 use Rattle.std.specs.BTreeSet.{UpdatesBy, contains_text}
@@ -39,7 +39,8 @@ found test (name ∷ names) h = elim (one_of (test name) (list_any test names) h
   | inr later ↦ let rest = found test names later in (rest.0, second _ _ rest.1, rest.2)
 ]
 
-passes : (test : List ℕ → Bool) (name : List ℕ) (names : List (List ℕ)) → list_any (bytes_eq name) names ≡ true → test name ≡ true
+passes : (test : List ℕ → Bool) (name : List ℕ) (names : List (List ℕ))
+    → list_any (bytes_eq name) names ≡ true → test name ≡ true
     → list_any test names ≡ true
 passes test name [] h passed = absurd (let no : false ≡ true = h in cc no)
 passes test name (one ∷ names) h passed = elim (one_of (bytes_eq name one) (list_any (bytes_eq name) names) h) [
@@ -57,22 +58,27 @@ same_keys : {A : Type 0} (uri : List ℕ) (ks : List (String A))
     → list_any (is_at (λ k. slice_cmp nat_cmp uri (string_bytes k))) ks ≡ list_any (bytes_eq uri) (map string_bytes ks)
 same_keys uri [] = refl
 same_keys uri (k ∷ ks) =
-    ap (λ (b : Bool). b || list_any (is_at (λ k. slice_cmp nat_cmp uri (string_bytes k))) ks) (is_eq-slice_cmp uri (string_bytes k))
+    ap (λ (b : Bool). b || list_any (is_at (λ k. slice_cmp nat_cmp uri (string_bytes k))) ks)
+    (is_eq-slice_cmp uri (string_bytes k))
     ∙ ap (λ (b : Bool). bytes_eq uri (string_bytes k) || b) (same_keys uri ks)
 
 -- a document is open just where its name is among those of the open ones
 open_by : {A : Type 0} (documents : BTreeMap (String A) Document) (uri : List ℕ)
     → is_some (names_in documents uri) ≡ list_any (bytes_eq uri) (map string_bytes (keys documents))
-open_by documents uri = some_of names_of (get_by_text documents uri) ∙ is_some-lookup _ documents.entries ∙ same_keys uri (keys documents)
+open_by documents uri =
+    some_of names_of (get_by_text documents uri) ∙ is_some-lookup _ documents.entries ∙ same_keys uri (keys documents)
 
 -- ---- their files
 
-named : (own : Option (List ℕ)) (name : List ℕ) → unwrap_or (option_map (λ uri. bytes_eq uri name) own) false ≡ true → own ≡ Some name
+named : (own : Option (List ℕ)) (name : List ℕ) → unwrap_or (option_map (λ uri. bytes_eq uri name) own) false ≡ true
+    → own ≡ Some name
 named None name h = absurd (let no : false ≡ true = h in cc no)
 named (Some uri) name h = ap (λ (x : List ℕ). Some x) ((bytes_eq-Decides uri name).0 h)
 
-names : (own : Option (List ℕ)) (name : List ℕ) → own ≡ Some name → unwrap_or (option_map (λ uri. bytes_eq uri name) own) false ≡ true
-names own name is = ap (λ (o : Option (List ℕ)). unwrap_or (option_map (λ uri. bytes_eq uri name) o) false) is ∙ (bytes_eq-Decides name name).1 refl
+names : (own : Option (List ℕ)) (name : List ℕ) → own ≡ Some name
+    → unwrap_or (option_map (λ uri. bytes_eq uri name) own) false ≡ true
+names own name is = ap (λ (o : Option (List ℕ)). unwrap_or (option_map (λ uri. bytes_eq uri name) o) false) is
+    ∙ (bytes_eq-Decides name name).1 refl
 
 swapped : (t c r : Bool) → ((t || c) || r) ≡ (c || (t || r))
 swapped true true r = refl
@@ -80,7 +86,8 @@ swapped true false r = refl
 swapped false c r = refl
 
 -- one text more was looked at
-pub one_more : (test : List ℕ → Bool) (before after : Bool) (name : List ℕ) (names : List (List ℕ)) (all : Bool) → after ≡ (test name || before)
+pub one_more : (test : List ℕ → Bool) (before after : Bool) (name : List ℕ) (names : List (List ℕ)) (all : Bool)
+    → after ≡ (test name || before)
     → (before || list_any test (name ∷ names)) ≡ all → (after || list_any test names) ≡ all
 one_more test before after name names all adds so_far =
     ap (λ (b : Bool). b || list_any test names) adds ∙ swapped (test name) before (list_any test names) ∙ so_far
@@ -95,15 +102,19 @@ pub adds_own : {A : Type 0} (uri key : List ℕ) (old new : BTreeSet (String A))
     → contains_text new name ≡ (is_of name uri || contains_text old name)
 adds_own uri key old new is updates name =
     btree_set_updates_text key old new true updates name ∙ either_of (bytes_eq key name) (contains_text old name)
-    ∙ ap (λ (o : Option (List ℕ)). unwrap_or (option_map (λ own. bytes_eq own name) o) false || contains_text old name) (sym is)
+    ∙ ap (λ (o : Option (List ℕ)). unwrap_or (option_map (λ own. bytes_eq own name) o) false || contains_text old name)
+    (sym is)
 
-module _ {A : Type 0} (uri : List ℕ) (value : Fragments) (documents : BTreeMap (String A) Document) (new : List ℕ → Option Fragments)
+module _ {A : Type 0} (uri : List ℕ) (value : Fragments) (documents : BTreeMap (String A) Document)
+    (new : List ℕ → Option Fragments)
     (adds : Updates uri (Some value) (names_in documents) new) where
   -- this document is open, and those that were
   stays_open : (other : List ℕ) → is_some (names_in documents other) ≡ true → is_some (new other) ≡ true
   stays_open other was = elim (cases_Bool (bytes_eq other uri)) [
     | inl same ↦ ap (λ (u : List ℕ). is_some (new u)) ((bytes_eq-Decides other uri).0 same) ∙ ap is_some adds.this
-    | inr differs ↦ ap is_some (adds.others other (λ same. let no : false ≡ true = sym differs ∙ (bytes_eq-Decides other uri).1 same in cc no)) ∙ was
+    | inr differs ↦ ap is_some
+        (adds.others other (λ same. let no : false ≡ true = sym differs ∙ (bytes_eq-Decides other uri).1 same in cc no))
+        ∙ was
   ]
 
   own_is : (name : List ℕ) → is_own uri documents name ≡ true → IsOwn new name
@@ -117,10 +128,13 @@ module _ {A : Type 0} (uri : List ℕ) (value : Fragments) (documents : BTreeMap
   pub is_own_by : (name : List ℕ) → IsOwn new name → is_own uri documents name ≡ true
   is_own_by name (other, opened, is) = elim (cases_Bool (bytes_eq other uri)) [
     | inl same ↦
-        first _ _ (subst (λ (u : List ℕ). is_of name u ≡ true) ((bytes_eq-Decides other uri).0 same) (names (normalized other) name is))
+        first _ _ (subst (λ (u : List ℕ). is_of name u ≡ true) ((bytes_eq-Decides other uri).0 same)
+        (names (normalized other) name is))
     | inr differs ↦
-        let stays = adds.others other (λ same. let no : false ≡ true = sym differs ∙ (bytes_eq-Decides other uri).1 same in cc no) in
-        second _ _ (passes (is_of name) other (map string_bytes (keys documents)) (sym (open_by documents other) ∙ ap is_some (sym stays) ∙ opened)
+        let stays = adds.others other
+        (λ same. let no : false ≡ true = sym differs ∙ (bytes_eq-Decides other uri).1 same in cc no) in
+        second _ _ (passes (is_of name) other (map string_bytes (keys documents))
+        (sym (open_by documents other) ∙ ap is_some (sym stays) ∙ opened)
         (names (normalized other) name is))
   ]
 
@@ -134,10 +148,13 @@ module _ {A : Type 0} (uri : List ℕ) (value : Fragments) (documents : BTreeMap
   beside files others none all = λ fragments. (
     λ there. elim ((all fragments).0 there) [
       | inl some ↦
-          let apart : some.0 ≢ uri = λ same. (let no : false ≡ true = ap is_some (sym none ∙ ap (names_in documents) (sym same) ∙ some.1) in cc no) in
+          let apart : some.0 ≢ uri =
+          λ same. (let no : false ≡ true = ap is_some (sym none ∙ ap (names_in documents) (sym same) ∙ some.1) in
+          cc no) in
           inl (some.0, apart, adds.others some.0 apart ∙ some.1)
       | inr file ↦
-          let apart : ¬ IsOwn new file.0 = λ own. (let no : false ≡ true = sym file.1 ∙ is_own_by file.0 own in cc no) in
+          let apart : ¬ IsOwn new file.0 =
+          λ own. (let no : false ≡ true = sym file.1 ∙ is_own_by file.0 own in cc no) in
           inr (file.0, apart, file.2)
     ],
     λ either. elim either [

@@ -9,14 +9,17 @@ use Rattle.editor_diagnostics.specs.Publication.{IsPublication}
 use Rattle.editor_diagnostics.specs.Remarks.{Remarked}
 use Rattle.gqlls_server.specs.Parameters.{client_edit}
 
-pub same_publication : (uri : List ℕ) (version : Option ℤ) (encoding units : PositionEncoding) (text source : List ℕ) (remarks : List Remarked) (body : List ℕ)
-    → encoding ≡ units → text ≡ source → IsPublication uri version encoding text remarks body → IsPublication uri version units source remarks body
+pub same_publication : (uri : List ℕ) (version : Option ℤ) (encoding units : PositionEncoding) (text source : List ℕ)
+    (remarks : List Remarked) (body : List ℕ)
+    → encoding ≡ units → text ≡ source → IsPublication uri version encoding text remarks body
+    → IsPublication uri version units source remarks body
 same_publication uri version encoding units text source remarks body e t h =
     subst (λ (x : PositionEncoding). IsPublication uri version x source remarks body) e
     (subst (λ (x : List ℕ). IsPublication uri version encoding x remarks body) t h)
 
 -- changes, as a message tells them
 pub told_all : (encoding : PositionEncoding) (changes : List Change) (text : List ℕ)
-    → fold (λ text edit. replaced encoding text edit.0 (units encoding edit.1)) text (map client_edit changes) ≡ changed_all encoding text changes
+    → fold (λ text edit. replaced encoding text edit.0 (units encoding edit.1)) text (map client_edit changes)
+    ≡ changed_all encoding text changes
 told_all encoding [] text = refl
 told_all encoding (change ∷ changes) text = told_all encoding changes (changed encoding text change)

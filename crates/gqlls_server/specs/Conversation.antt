@@ -12,8 +12,8 @@ use Rattle.rpc_messages.specs.declared.reply.Reply.TheVariants.{Nothing, Answer,
 use Rattle.gqlls_server.specs.Announcement.{IsAnnounced}
 use Rattle.gqlls_server.specs.Files.{OpenFile}
 use Rattle.gqlls_server.specs.Layout.{IsFormattingIn, IsRangeFormattingIn, IsRefusalOf}
-use Rattle.gqlls_server.specs.Parameters.{Edit, IsVersionIn, Offers, asks_before_renaming_in, edits_in, host_in, may_register_in, takes_related_in, text_in}
-use Rattle.gqlls_server.specs.Parameters.{uri_in}
+use Rattle.gqlls_server.specs.Parameters.{Edit, IsVersionIn, Offers, asks_before_renaming_in, edits_in, host_in}
+use Rattle.gqlls_server.specs.Parameters.{may_register_in, takes_related_in, text_in, uri_in}
 use Rattle.gqlls_server.specs.Registration.{IsRegistration}
 use Rattle.gqlls_server.specs.Renaming.{IsRenaming}
 use Rattle.gqlls_server.specs.Dialogue.{AreOthers, Dialogue, IsChanged, Sets, opened}
@@ -31,8 +31,9 @@ Answers IsSuch (Notice body) = ⊥
 Answers IsSuch (Request body) = ⊥
 Answers IsSuch (Exit status) = ⊥
 
--- The conversation begins, and counts columns from then on as the answer says. No client has to offer UTF-16. The client says whether the server may
--- register for the events of files, whether diagnostics may have related information, and whether it asks before it changes a name.
+-- The conversation begins, and counts columns from then on as the answer says. No client has to offer UTF-16. The
+-- client says whether the server may register for the events of files, whether diagnostics may have related
+-- information, and whether it asks before it changes a name.
 pub record Initializes (id params : Json) (reply : Reply) (old new : Dialogue) : Type 0 where
   pub dialogue : new ≡ record old {
     stage = Running;
@@ -57,36 +58,42 @@ pub record IsRefused (id : Json) (code : ℤ) (reply : Reply) (old new : Dialogu
 abbrev pub LacksDocument : Json → List ℕ → Type 0
 LacksDocument id body = IsRefusalOf id (neg_ℤ (pos 32602)) body
 
--- `textDocument/formatting`: the body has the layout of the document that the message names; it is null where that isn't open, and refuses where none is
--- named
+-- `textDocument/formatting`: the body has the layout of the document that the message names; it is null where that
+-- isn't open, and refuses where none is named
 abbrev pub Formats : Json → Json → Dialogue → List ℕ → Type 0
 Formats id params dialogue body =
     MatchOption (uri_in params) (LacksDocument id body)
-    (λ uri. MatchOption (dialogue.documents uri) (IsResult id json.null body) (λ file. IsFormattingIn dialogue.limits id file body))
+    (λ uri. MatchOption (dialogue.documents uri) (IsResult id json.null body)
+    (λ file. IsFormattingIn dialogue.limits id file body))
 
 -- `textDocument/rangeFormatting`: the body has the layout of a part of that document
 abbrev pub FormatsRange : Json → Json → Dialogue → List ℕ → Type 0
 FormatsRange id params dialogue body =
     MatchOption (uri_in params) (LacksDocument id body)
-    (λ uri. MatchOption (dialogue.documents uri) (IsResult id json.null body) (λ file. IsRangeFormattingIn dialogue.limits id file body))
+    (λ uri. MatchOption (dialogue.documents uri) (IsResult id json.null body)
+    (λ file. IsRangeFormattingIn dialogue.limits id file body))
 
--- `textDocument/rename`: the body has edits that give what is at a position another name, in that document and all others
+-- `textDocument/rename`: the body has edits that give what is at a position another name, in that document and all
+-- others
 abbrev pub Renames : Json → Json → Dialogue → List ℕ → Type 0
 Renames id params dialogue body =
     MatchOption (uri_in params) (LacksDocument id body)
     (λ uri. MatchOption (dialogue.documents uri) (IsResult id json.null body)
     (λ file. IsRenaming dialogue.documents dialogue.files id params uri file body))
 
--- The outcome of a request, by the stage and the method: the conversation begins, or the request is refused as `ServerNotInitialized`; it is shut
--- down; or nothing changes, a layout is the document's, or a part's, and a name is changed in all documents. After that each request is refused as
--- `InvalidRequest`.
-pub record HandlesRequest (id : Json) (method : List ℕ) (params : Json) (reply : Reply) (old new : Dialogue) : Type 0 where
+-- The outcome of a request, by the stage and the method: the conversation begins, or the request is refused as
+-- `ServerNotInitialized`; it is shut down; or nothing changes, a layout is the document's, or a part's, and a name is
+-- changed in all documents. After that each request is refused as `InvalidRequest`.
+pub record HandlesRequest (id : Json) (method : List ℕ) (params : Json) (reply : Reply)
+    (old new : Dialogue) : Type 0 where
   pub initialize : old.stage ≡ New → method ≡ codes "initialize" → Initializes id params reply old new
   pub too_early : old.stage ≡ New → method ≢ codes "initialize" → IsRefused id (neg_ℤ (pos 32002)) reply old new
   pub shutdown : old.stage ≡ Running → method ≡ codes "shutdown" → ShutsDown id reply old new
   pub others : old.stage ≡ Running → method ≢ codes "shutdown" → new ≡ old
-  pub formatting : old.stage ≡ Running → method ≡ codes "textDocument/formatting" → Answers (Formats id params old) reply
-  pub range_formatting : old.stage ≡ Running → method ≡ codes "textDocument/rangeFormatting" → Answers (FormatsRange id params old) reply
+  pub formatting : old.stage ≡ Running → method ≡ codes "textDocument/formatting"
+      → Answers (Formats id params old) reply
+  pub range_formatting : old.stage ≡ Running → method ≡ codes "textDocument/rangeFormatting"
+      → Answers (FormatsRange id params old) reply
   pub renaming : old.stage ≡ Running → method ≡ codes "textDocument/rename" → Answers (Renames id params old) reply
   pub too_late : old.stage ≡ ShutDown → IsRefused id (neg_ℤ (pos 32600)) reply old new
 
@@ -111,8 +118,10 @@ pub record Begins (reply : Reply) (old new : Dialogue) : Type 0 where
   pub silence : old.may_register ≡ false → reply ≡ Nothing
   pub dialogue : new ≡ old
 
--- A document is this file now. The reply publishes its errors, with the version that the message gives, by the fragments of all others and of the files.
-pub record Publishes (uri : List ℕ) (file : OpenFile) (params : Json) (reply : Reply) (old new : Dialogue) : Type 0 where
+-- A document is this file now. The reply publishes its errors, with the version that the message gives, by the
+-- fragments of all others and of the files.
+pub record Publishes (uri : List ℕ) (file : OpenFile) (params : Json) (reply : Reply)
+    (old new : Dialogue) : Type 0 where
   pub fragments : Fragments
   pub sets : Sets uri (Some file) (Some fragments) old new
   pub others : List Fragments
@@ -121,24 +130,29 @@ pub record Publishes (uri : List ℕ) (file : OpenFile) (params : Json) (reply :
   pub versioned : IsVersionIn params version
   pub notification : Notifies (IsDiagnosticsNotification old.takes_related uri version file fragments others) reply
 
--- `textDocument/didOpen`: the document has the text and the language of the message. Without a name or a text the message is ignored.
+-- `textDocument/didOpen`: the document has the text and the language of the message. Without a name or a text the
+-- message is ignored.
 abbrev pub Opens : Json → Reply → Dialogue → Dialogue → Type 0
 Opens params reply old new =
     MatchOption (uri_in params) (IsIgnored reply old new)
-    (λ uri. MatchOption (text_in params) (IsIgnored reply old new) (λ text. Publishes uri (opened old text (host_in params)) params reply old new))
+    (λ uri. MatchOption (text_in params) (IsIgnored reply old new)
+    (λ text. Publishes uri (opened old text (host_in params)) params reply old new))
 
 -- an open document has some changes now
-pub record PublishesChanges (uri : List ℕ) (edits : List Edit) (before : OpenFile) (params : Json) (reply : Reply) (old new : Dialogue) : Type 0 where
+pub record PublishesChanges (uri : List ℕ) (edits : List Edit) (before : OpenFile) (params : Json) (reply : Reply)
+    (old new : Dialogue) : Type 0 where
   pub after : OpenFile
   pub changed : IsChanged edits before after
   pub publishes : Publishes uri after params reply old new
 
--- `textDocument/didChange`: the document has the changes of the message. Where it isn't open, or a change isn't one of the protocol, the message is ignored.
+-- `textDocument/didChange`: the document has the changes of the message. Where it isn't open, or a change isn't one of
+-- the protocol, the message is ignored.
 abbrev pub Changes : Json → Reply → Dialogue → Dialogue → Type 0
 Changes params reply old new =
     MatchOption (uri_in params) (IsIgnored reply old new)
     (λ uri. MatchOption (edits_in params) (IsIgnored reply old new)
-    (λ edits. MatchOption (old.documents uri) (IsIgnored reply old new) (λ before. PublishesChanges uri edits before params reply old new)))
+    (λ edits. MatchOption (old.documents uri) (IsIgnored reply old new)
+    (λ before. PublishesChanges uri edits before params reply old new)))
 
 -- a document isn't open any more, and its errors are taken back
 pub record Withdraws (uri : List ℕ) (reply : Reply) (old new : Dialogue) : Type 0 where

@@ -12,23 +12,26 @@ use Rattle.gqlls_server.specs.Parsing.{IsParse, fragments_of}
 use Rattle.rpc_messages.specs.declared.reply.Reply.{Reply}
 use Rattle.rpc_messages.specs.declared.reply.Reply.TheVariants.{Nothing, Answer, Notice, Request, Exit}
 
--- The remarks on a parse: on its errors, or if it has none on the rules of validation that the document breaks, and that the other documents with these
--- fragments do not mend. Where the client takes related information, the first one names a brace that is never closed.
+-- The remarks on a parse: on its errors, or if it has none on the rules of validation that the document breaks, and
+-- that the other documents with these fragments do not mend. Where the client takes related information, the first one
+-- names a brace that is never closed.
 abbrev pub AreRemarksOf : Bool → List Fragments → Parsed → List Remarked → Type 0
 AreRemarksOf takes_related others parsed remarks =
     AreRemarksOn takes_related others (record { whole = parsed.tree; index = 0 }) parsed.errors remarks
 
--- A file in GraphQL that is not open has this text, whose fragments are those of a parse within the limits. The parse has this number of errors.
+-- A file in GraphQL that is not open has this text, whose fragments are those of a parse within the limits. The parse
+-- has this number of errors.
 pub record KeepsFile (name text : List ℕ) (errors : ℕ) (old new : Dialogue) : Type 0 where
   pub parsed : Parsed
   pub counted : errors ≡ length parsed.errors
   pub promise : IsParse old.limits text parsed
   pub sets : SetsFile name (Some (opened old text None, fragments_of parsed)) old new
 
--- The body publishes the remarks on a parse of this file within its limits, at their positions as the client counts them. There are none where
--- the text that is parsed has no definitions. The parse has these fragments.
+-- The body publishes the remarks on a parse of this file within its limits, at their positions as the client counts
+-- them. There are none where the text that is parsed has no definitions. The parse has these fragments.
 pub record IsDiagnosticsNotification
-    (takes_related : Bool) (uri : List ℕ) (version : Option ℤ) (file : OpenFile) (fragments : Fragments) (others : List Fragments)
+    (takes_related : Bool) (uri : List ℕ) (version : Option ℤ) (file : OpenFile) (fragments : Fragments)
+    (others : List Fragments)
     (body : List ℕ) : Type 0 where
   pub text : List ℕ
   pub source : IsSource file text

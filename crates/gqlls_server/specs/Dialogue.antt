@@ -1,5 +1,6 @@
 -- What a client and the server have in common during a conversation.
-use Rattle.std.specs.Prelude.{◌≡◌, ◌≢◌, ◌↔◌, ◌⊎◌, ℕ, Bool, false, List, fold, Option, Some, None, is_some, option_map, true}
+use Rattle.std.specs.Prelude.{◌≡◌, ◌≢◌, ◌↔◌, ◌⊎◌, ℕ, Bool, false, List, fold, Option, Some, None, is_some, option_map}
+use Rattle.std.specs.Prelude.{true}
 use Rattle.std.specs.List.{Contains}
 use Rattle.apollo_parser.specs.declared.Limits.{Limits}
 use Rattle.line_index.specs.Positions.{units}
@@ -14,9 +15,10 @@ use Rattle.gqlls_server.specs.Parameters.{Edit}
 use Rattle.gqlls_server.specs.declared.server.Stage.{Stage}
 use Rattle.gqlls_server.specs.declared.server.Stage.TheVariants.{New}
 
--- How far the conversation is, how columns are counted, whether the server may register for the events of files, whether diagnostics may have related
--- information, and the limits of each parse; each file that the client has open, by its name, and the names of fragments in it; and the files that the server
--- has read, by the URIs of their paths, and the names of fragments in them.
+-- How far the conversation is, how columns are counted, whether the server may register for the events of files,
+-- whether diagnostics may have related information, and the limits of each parse; each file that the client has open,
+-- by its name, and the names of fragments in it; and the files that the server has read, by the URIs of their paths,
+-- and the names of fragments in them.
 pub record Dialogue : Type 0 where
   pub stage : Stage
   pub encoding : PositionEncoding
@@ -44,7 +46,8 @@ initial_dialogue limits = record {
 
 -- a text in a language, in the encoding and within the limits of the conversation
 abbrev pub opened : Dialogue → List ℕ → Option HostLanguage → OpenFile
-opened dialogue text host = record { content = record { encoding = dialogue.encoding; text = text }; host = host; limits = dialogue.limits }
+opened dialogue text host =
+    record { content = record { encoding = dialogue.encoding; text = text }; host = host; limits = dialogue.limits }
 
 -- one document is opened, changed or closed, and the others stay
 pub record Updates {A : Type 0} (uri : List ℕ) (value : Option A) (old new : List ℕ → Option A) : Type 0 where
@@ -69,10 +72,12 @@ without_files dialogue = record dialogue { files = λ name. None; file_fragments
 -- one file that is not open is this from now on, with these names of fragments, and nothing else changes
 pub record SetsFile (name : List ℕ) (value : Option (OpenFile × Fragments)) (old new : Dialogue) : Type 0 where
   pub files : Updates name (option_map (λ (v : OpenFile × Fragments). v.0) value) old.files new.files
-  pub fragments : Updates name (option_map (λ (v : OpenFile × Fragments). v.1) value) old.file_fragments new.file_fragments
+  pub fragments : Updates name (option_map (λ (v : OpenFile × Fragments). v.1) value)
+      old.file_fragments new.file_fragments
   pub others : without_files new ≡ without_files old
 
--- A file is the client's own where an open document's URI names it, however that is spelled: it counts as the client has it.
+-- A file is the client's own where an open document's URI names it, however that is spelled: it counts as the client
+-- has it.
 abbrev pub IsOwn : {A : Type 0} → (List ℕ → Option A) → List ℕ → Type 0
 IsOwn documents name = (uri : List ℕ) × (is_some (documents uri) ≡ true) × (normalized uri ≡ Some name)
 
@@ -88,4 +93,5 @@ pub record IsChanged (edits : List Edit) (old new : OpenFile) : Type 0 where
   pub host : new.host ≡ old.host
   pub limits : new.limits ≡ old.limits
   pub text : units old.content.encoding new.content.text
-      ≡ fold (λ text edit. replaced old.content.encoding text edit.0 (units old.content.encoding edit.1)) (units old.content.encoding old.content.text) edits
+      ≡ fold (λ text edit. replaced old.content.encoding text edit.0 (units old.content.encoding edit.1))
+      (units old.content.encoding old.content.text) edits

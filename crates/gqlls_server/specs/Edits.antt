@@ -15,7 +15,8 @@ range_tokens one name = flat_map (λ (range : ℕ × ℕ). json_tokens (edit_of 
 -- those of the document's member, if there are some
 abbrev pub edit_tokens : KnownFile → List ℕ → List (ℕ × ℕ) → List Token
 edit_tokens one name [] = []
-edit_tokens one name (range ∷ ranges) = key one.0 ∷ (begin_array ∷ (range_tokens one name (range ∷ ranges) ++ end_array ∷ []))
+edit_tokens one name (range ∷ ranges) =
+    key one.0 ∷ (begin_array ∷ (range_tokens one name (range ∷ ranges) ++ end_array ∷ []))
 
 -- those of the member of a document that is known
 abbrev pub known_tokens : (KnownFile → List Place) → List ℕ → Known → List Token

@@ -20,8 +20,8 @@ use Rattle.gqlls_server.specs.declared.layout.Layout.TheVariants.{Text, Left, To
 abbrev pub IsLeft : Limits → List ℕ → Type 0
 IsLeft limits source = (¬ IsDocument source limits.recursion limits.tokens) ⊎ IsOutgrown limits source
 
--- The new text is the source with another text for a part. The part is a document, and the other text, with a line end after it, is that document with
--- another layout.
+-- The new text is the source with another text for a part. The part is a document, and the other text, with a line end
+-- after it, is that document with another layout.
 pub record IsPartLaidOut (limits : Limits) (source new : List ℕ) : Type 0 where
   pub start : ℕ
   pub end : ℕ
@@ -33,10 +33,11 @@ pub record IsPartLaidOut (limits : Limits) (source new : List ℕ) : Type 0 wher
 abbrev pub most_bytes : ℕ
 most_bytes = 67108864
 
--- a formatted text of the source, which has no more; the source where it is left as it is; or none, for a document whose formatted text can have more, as
--- deep as the document nests
+-- a formatted text of the source, which has no more; the source where it is left as it is; or none, for a document
+-- whose formatted text can have more, as deep as the document nests
 abbrev pub IsLayoutOf : Limits → List ℕ → Layout → Type 0
-IsLayoutOf limits source (Text text) = IsFormattedWithin limits source (string_bytes text) × (length (string_bytes text) ≤ most_bytes)
+IsLayoutOf limits source (Text text) =
+    IsFormattedWithin limits source (string_bytes text) × (length (string_bytes text) ≤ most_bytes)
 IsLayoutOf limits source Left = IsLeft limits source
 IsLayoutOf limits source TooLong = MayExceed source limits.recursion limits.tokens most_bytes
 
@@ -50,8 +51,8 @@ IsTextIf IsSuch TooLong = Unit {0}
 abbrev pub IsRefusalOf : Json → ℤ → List ℕ → Type 0
 IsRefusalOf id code body = (text : List ℕ) × IsError id code text body
 
--- The body answers the request with this id: by edits that make the new text of the source, by null where it is left, and by `RequestFailed` where the new
--- text would be too long.
+-- The body answers the request with this id: by edits that make the new text of the source, by null where it is left,
+-- and by `RequestFailed` where the new text would be too long.
 abbrev pub IsLaidOut : Json → PositionEncoding → List ℕ → Layout → List ℕ → Type 0
 IsLaidOut id encoding source (Text text) body = IsEditedBy id encoding source (string_bytes text) body
 IsLaidOut id encoding source Left body = IsResult id null body
@@ -70,7 +71,8 @@ pub record IsEdited (limits : Limits) (content : Opened) (result : Json) : Type 
 abbrev pub IsFormatting : Limits → Opened → Json → Type 0
 IsFormatting limits content result = (IsLeft limits content.text × (result ≡ null)) ⊎ IsEdited limits content result
 
--- `RequestFailed` for a document within the limits: its layout is too long, and so the document is not short for how deep it nests
+-- `RequestFailed` for a document within the limits: its layout is too long, and so the document is not short for how
+-- deep it nests
 pub record IsTooLong (limits : Limits) (id : Json) (content : Opened) (body : List ℕ) : Type 0 where
   pub long : MayExceed content.text limits.recursion limits.tokens most_bytes
   pub refused : IsRefusalOf id (neg_ℤ (pos 32803)) body
@@ -82,7 +84,8 @@ IsFormattingOf limits id content body =
 
 -- the same of a file: one in another language stays as it is
 abbrev pub IsFormattingIn : Limits → Json → OpenFile → List ℕ → Type 0
-IsFormattingIn limits id file body = MatchOption file.host (IsFormattingOf limits id file.content body) (λ host. IsResult id null body)
+IsFormattingIn limits id file body =
+    MatchOption file.host (IsFormattingOf limits id file.content body) (λ host. IsResult id null body)
 
 -- ---- the result of `textDocument/rangeFormatting`
 
@@ -96,8 +99,8 @@ pub record IsPartEdited (limits : Limits) (content : Opened) (result : Json) : T
 abbrev pub IsRangeFormatting : Limits → Opened → Json → Type 0
 IsRangeFormatting limits content result = (result ≡ null) ⊎ IsPartEdited limits content result
 
--- The body answers the request with this id by such a result, or refuses it: as `InvalidParams` where the message has no range, and as `RequestFailed` where
--- the layout would be too long.
+-- The body answers the request with this id by such a result, or refuses it: as `InvalidParams` where the message has
+-- no range, and as `RequestFailed` where the layout would be too long.
 abbrev pub IsRangeFormattingOf : Limits → Json → Opened → List ℕ → Type 0
 IsRangeFormattingOf limits id content body =
     ((result : Json) × IsRangeFormatting limits content result × IsResult id result body)
@@ -105,4 +108,5 @@ IsRangeFormattingOf limits id content body =
 
 -- the same of a file: one in another language stays as it is
 abbrev pub IsRangeFormattingIn : Limits → Json → OpenFile → List ℕ → Type 0
-IsRangeFormattingIn limits id file body = MatchOption file.host (IsRangeFormattingOf limits id file.content body) (λ host. IsResult id null body)
+IsRangeFormattingIn limits id file body =
+    MatchOption file.host (IsRangeFormattingOf limits id file.content body) (λ host. IsResult id null body)

@@ -1,6 +1,7 @@
 -- What the parameters of a message say, where they are those of the Language Server Protocol 3.17.
-use Rattle.std.specs.Prelude.{◌≡◌, ℕ, ℤ, ◌^◌, Bool, ◌&&◌, false, nat_lt, if◌then◌else◌, List, [], ◌∷◌, codes, filter_map, length, take}
-use Rattle.std.specs.Prelude.{Option, Some, None, MatchOption, ok_or, option_and_then, option_map, unwrap_or}
+use Rattle.std.specs.Prelude.{◌≡◌, ℕ, ℤ, ◌^◌, Bool, ◌&&◌, false, nat_lt, if◌then◌else◌, List, [], ◌∷◌, codes}
+use Rattle.std.specs.Prelude.{filter_map, length, take, Option, Some, None, MatchOption, ok_or, option_and_then}
+use Rattle.std.specs.Prelude.{option_map, unwrap_or}
 use Rattle.std.specs.Option.{option_zip}
 use Rattle.std.specs.Char.{is_digit}
 use Rattle.std.specs.Str.{IsCharBoundary}
@@ -29,20 +30,24 @@ abbrev pub uri_in : Json → Option (List ℕ)
 uri_in params = option_and_then name_in (get (codes "textDocument") params)
 
 abbrev pub number_in : Json → Option (List ℕ)
-number_in params = option_and_then (λ document. option_and_then as_number (get (codes "version") document)) (get (codes "textDocument") params)
+number_in params = option_and_then (λ document. option_and_then as_number (get (codes "version") document))
+    (get (codes "textDocument") params)
 
 -- the version of that document: a number that fits 64 bits, or none
 abbrev pub IsVersionIn : Json → Option ℤ → Type 0
-IsVersionIn params version = MatchOption (number_in params) (version ≡ None) (λ digits. ParsesSigned w64 10 digits (ok_or version digits))
+IsVersionIn params version =
+    MatchOption (number_in params) (version ≡ None) (λ digits. ParsesSigned w64 10 digits (ok_or version digits))
 
 -- the text of the document that is opened
 abbrev pub text_in : Json → Option (List ℕ)
-text_in params = option_and_then (λ document. option_and_then as_str (get (codes "text") document)) (get (codes "textDocument") params)
+text_in params = option_and_then (λ document. option_and_then as_str (get (codes "text") document))
+    (get (codes "textDocument") params)
 
 -- the language of that document, if it isn't GraphQL
 abbrev pub host_in : Json → Option HostLanguage
 host_in params =
-    option_and_then (λ document. option_and_then host_named (option_and_then as_str (get (codes "languageId") document))) (get (codes "textDocument") params)
+    option_and_then (λ document. option_and_then host_named
+    (option_and_then as_str (get (codes "languageId") document))) (get (codes "textDocument") params)
 
 -- ---- changes
 
@@ -60,16 +65,19 @@ each make (x ∷ xs) = both (λ y ys. y ∷ ys) (make x) (each make xs)
 abbrev pub numeral : List ℕ → Option ℕ
 numeral [] = None
 numeral (c ∷ digits) =
-    if list_all (λ c. is_digit c 10) (c ∷ digits) && nat_lt (digits_value 10 (c ∷ digits)) (2 ^ 64) then Some (digits_value 10 (c ∷ digits)) else None
+    if list_all (λ c. is_digit c 10) (c ∷ digits)
+    && nat_lt (digits_value 10 (c ∷ digits)) (2 ^ 64) then Some (digits_value 10 (c ∷ digits)) else None
 
 -- `uinteger`: the number that a value has by a name. No number of JSON begins with a plus.
 abbrev pub number_at : List ℕ → Json → Option ℕ
-number_at name value = option_and_then (λ digits. numeral (without_leading_plus digits)) (option_and_then as_number (get name value))
+number_at name value = option_and_then (λ digits. numeral (without_leading_plus digits))
+    (option_and_then as_number (get name value))
 
 -- `Position`
 abbrev pub position_in : Json → Option Position
 position_in value =
-    both {C = Position} (λ line column. record { line = line; column = column }) (number_at (codes "line") value) (number_at (codes "character") value)
+    both {C = Position} (λ line column. record { line = line; column = column }) (number_at (codes "line") value)
+    (number_at (codes "character") value)
 
 abbrev pub position_at : List ℕ → Json → Option Position
 position_at name value = option_and_then position_in (get name value)
@@ -77,7 +85,8 @@ position_at name value = option_and_then position_in (get name value)
 -- `Range`
 abbrev pub range_in : Json → Option PositionRange
 range_in value =
-    both {C = PositionRange} (λ start end. record { start = start; end = end }) (position_at (codes "start") value) (position_at (codes "end") value)
+    both {C = PositionRange} (λ start end. record { start = start; end = end }) (position_at (codes "start") value)
+    (position_at (codes "end") value)
 
 -- a text, and the range that it replaces, if it isn't the whole document
 abbrev pub Edit : Type 0
@@ -123,7 +132,8 @@ is_name (first ∷ rest) = is_name_start first && list_all is_name_continue rest
 -- the name of GraphQL that something gets
 abbrev pub new_name_in : Json → Option (List ℕ)
 new_name_in params =
-    option_and_then (λ name. if is_name name then Some name else None) (option_and_then as_str (get (codes "newName") params))
+    option_and_then (λ name. if is_name name then Some name else None)
+    (option_and_then as_str (get (codes "newName") params))
 
 -- ---- folders and files
 
@@ -156,7 +166,9 @@ watching_in capabilities = option_and_then (get (codes "didChangeWatchedFiles"))
 
 abbrev pub registration_in : Json → Option Bool
 registration_in params =
-    option_and_then as_bool (option_and_then (get (codes "dynamicRegistration")) (option_and_then watching_in (get (codes "capabilities") params)))
+    option_and_then as_bool
+    (option_and_then (get (codes "dynamicRegistration"))
+    (option_and_then watching_in (get (codes "capabilities") params)))
 
 -- whether the server may register for the events of files
 abbrev pub may_register_in : Json → Bool
@@ -164,11 +176,14 @@ may_register_in params = unwrap_or (registration_in params) false
 
 -- `PublishDiagnosticsClientCapabilities`
 abbrev pub publishing_in : Json → Option Json
-publishing_in capabilities = option_and_then (get (codes "publishDiagnostics")) (get (codes "textDocument") capabilities)
+publishing_in capabilities =
+    option_and_then (get (codes "publishDiagnostics")) (get (codes "textDocument") capabilities)
 
 abbrev pub related_in : Json → Option Bool
 related_in params =
-    option_and_then as_bool (option_and_then (get (codes "relatedInformation")) (option_and_then publishing_in (get (codes "capabilities") params)))
+    option_and_then as_bool
+    (option_and_then (get (codes "relatedInformation"))
+    (option_and_then publishing_in (get (codes "capabilities") params)))
 
 -- whether a diagnostic may have related information
 abbrev pub takes_related_in : Json → Bool
@@ -180,7 +195,8 @@ renaming_in capabilities = option_and_then (get (codes "rename")) (get (codes "t
 
 abbrev pub prepared_in : Json → Option Bool
 prepared_in params =
-    option_and_then as_bool (option_and_then (get (codes "prepareSupport")) (option_and_then renaming_in (get (codes "capabilities") params)))
+    option_and_then as_bool
+    (option_and_then (get (codes "prepareSupport")) (option_and_then renaming_in (get (codes "capabilities") params)))
 
 -- whether the client asks, before it changes a name, whether it may be changed
 abbrev pub asks_before_renaming_in : Json → Bool

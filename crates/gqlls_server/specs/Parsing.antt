@@ -14,7 +14,8 @@ fragments_of parsed = fragments_in (record { whole = parsed.tree; index = 0 })
 abbrev pub IsParse : Limits → List ℕ → Parsed → Type 0
 IsParse limits text parsed = Promise text limits.recursion limits.tokens parsed
 
--- A text with errors may leave a quoted string open. Answers are then about a parse of a text as long as this one, in which the string is closed.
+-- A text with errors may leave a quoted string open. Answers are then about a parse of a text as long as this one, in
+-- which the string is closed.
 pub record IsMended (limits : Limits) (source : List ℕ) (parsed shown : Parsed) : Type 0 where
   pub faulty : parsed.errors ≢ []
   pub closed : List ℕ
@@ -29,9 +30,11 @@ pub record ParsedFile : Type 0 where
   pub shown : Parsed
   pub fragments : Fragments
 
--- The text is the file's, and the parse is its parse within the file's limits. Answers are about this parse, unless it is mended.
+-- The text is the file's, and the parse is its parse within the file's limits. Answers are about this parse, unless it
+-- is mended.
 pub record IsParsed (document : ParsedFile) : Type 0 where
   pub source : IsSource document.file document.source
   pub promise : IsParse document.file.limits document.source document.parsed
-  pub shown : (document.shown ≡ document.parsed) ⊎ IsMended document.file.limits document.source document.parsed document.shown
+  pub shown : (document.shown ≡ document.parsed)
+      ⊎ IsMended document.file.limits document.source document.parsed document.shown
   pub named : document.fragments ≡ fragments_of document.parsed

@@ -14,7 +14,8 @@ options = object (member (codes "watchers") (array (item watcher no_items)) no_m
 -- `Registration`
 abbrev pub registration : Json
 registration =
-    object (member (codes "id") (string (codes "files")) (member (codes "method") (string (codes "workspace/didChangeWatchedFiles"))
+    object (member (codes "id") (string (codes "files"))
+    (member (codes "method") (string (codes "workspace/didChangeWatchedFiles"))
     (member (codes "registerOptions") options no_members)))
 
 -- `RegistrationParams`

@@ -70,18 +70,22 @@ abbrev pub entry_of : {A : Type 0} → String A × Document → KnownFile
 entry_of entry = (string_bytes entry.0, entry.1)
 
 -- these are the names of fragments in all open documents, and in the files that are not such
-abbrev pub AreBeside : (List ℕ → Option Fragments) → (List ℕ → Option Fragments) → (List ℕ → Bool) → List Fragments → Type 0
+abbrev pub AreBeside : (List ℕ → Option Fragments) → (List ℕ → Option Fragments) → (List ℕ → Bool)
+    → List Fragments → Type 0
 AreBeside fragments files own all =
     (names : Fragments) → Contains all names ↔ (((name : List ℕ) × (fragments name ≡ Some names))
     ⊎ ((name : List ℕ) × (own name ≡ false) × (files name ≡ Some names)))
 
 -- the entries of the documents whose names pass a test
 abbrev pub entries_that : {A : Type 0} → (List ℕ → Bool) → BTreeMap (String A) Document → List (String A × Document)
-entries_that {A = A} passes documents = filter (λ (entry : String A × Document). passes (string_bytes entry.0)) documents.entries
+entries_that {A = A} passes documents =
+    filter (λ (entry : String A × Document). passes (string_bytes entry.0)) documents.entries
 
 -- the files but some
-abbrev pub entries_beside : {A B : Type 0} → BTreeSet (String B) → BTreeMap (String A) Document → List (String A × Document)
-entries_beside {A = A} own documents = filter (λ (entry : String A × Document). not (contains_text own (string_bytes entry.0))) documents.entries
+abbrev pub entries_beside : {A B : Type 0} → BTreeSet (String B) → BTreeMap (String A) Document
+    → List (String A × Document)
+entries_beside {A = A} own documents =
+    filter (λ (entry : String A × Document). not (contains_text own (string_bytes entry.0))) documents.entries
 
 abbrev pub dialogue_of : Server → Dialogue
 dialogue_of server = record {

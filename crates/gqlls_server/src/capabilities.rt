@@ -159,7 +159,8 @@ fn renaming(asks_first: bool) -> &'static [Piece<'static>]
     }
 }
 
-// Adds what follows the encoding: what is served, and the end of the result. The encoding is in the first five tokens, so it may be any here.
+// Adds what follows the encoding: what is served, and the end of the result. The encoding is in the first five tokens,
+// so it may be any here.
 fn push_served(pieces: &mut Vec<Piece<'_>>, asks_first: bool) -> Result<(), AllocError>
     ensures { OnOk result (flat_map tokens_of pieces.new.items
         ≡ flat_map tokens_of pieces.old.items ++ drop 5 (json_tokens (announcement Utf16 asks_first VERSION.now))) }
@@ -180,7 +181,9 @@ pub(crate) fn answer_initialize(
 ) -> Result<Vec<u8>, AllocError>
     requires { HasNumbers (value_view id.now) }
     ensures answers { IfOk result (λ body. IsAnswer (value_view id.now) body.items) }
-    ensures announces { IfOk result (λ body. IsAnnounced (value_view id.now) encoding (asks_before_renaming_in (value_view params.now)) body.items) }
+    ensures announces { IfOk result
+        (λ body. IsAnnounced (value_view id.now) encoding
+        (asks_before_renaming_in (value_view params.now)) body.items) }
 {
     let mut pieces = Vec::new(alloc);
     pieces.extend_from_slice(&[

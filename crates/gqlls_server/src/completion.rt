@@ -10,7 +10,8 @@ use schema_members::{Call, Member, Schema, call_at, directives_at, members_at};
 use std::alloc::{AllocError, Global};
 use std::collections::BTreeSet;
 
-// A word that may come next, the protocol's number of its sort, and the type or the condition that its definition gives; else empty.
+// A word that may come next, the protocol's number of its sort, and the type or the condition that its definition
+// gives; else empty.
 #[derive(Clone, Copy)]
 struct Candidate<'t> {
     label: &'t str,
@@ -234,7 +235,8 @@ fn variable_text<'t>(leaf: SyntaxToken<'t>) -> Option<&'t str> {
     Some(leaf.parent()?.parent()?.text())
 }
 
-// The node whose variables may be used behind an offset: the operation there, or else the whole document, since any operation may spread a fragment.
+// The node whose variables may be used behind an offset: the operation there, or else the whole document, since any
+// operation may spread a fragment.
 fn scope_at<'t>(root: SyntaxNode<'t>, offset: usize) -> SyntaxNode<'t> {
     let definition = root
         .children()
@@ -271,7 +273,8 @@ fn push_variables<'t>(
     Ok(())
 }
 
-// Adds the names of a kind that a document or its part defines and that are not known yet, but for those of introspection.
+// Adds the names of a kind that a document or its part defines and that are not known yet, but for those of
+// introspection.
 fn push_names<'t>(
     scope: SyntaxNode<'t>,
     kind: NameKind,
@@ -370,9 +373,9 @@ fn last_front(
     }
 }
 
-// The words that may come after a front of a text: the keywords that the grammar takes, and where a name is expected those that the documents
-// define, the text's first, and that are built in. There are none after an error of the same definition, but for an empty selection set. The scope
-// is the node whose variables there may be.
+// The words that may come after a front of a text: the keywords that the grammar takes, and where a name is expected
+// those that the documents define, the text's first, and that are built in. There are none after an error of the same
+// definition, but for an empty selection set. The scope is the node whose variables there may be.
 fn completions<'t>(
     alloc: Global,
     before: &str,
@@ -465,7 +468,8 @@ fn closed_before(alloc: Global, text: &str) -> Result<Option<String>, AllocError
     Ok(Some(front))
 }
 
-// What is in front of a place: the text without the word there, and the same with strings closed that its lines leave open, if there are any.
+// What is in front of a place: the text without the word there, and the same with strings closed that its lines leave
+// open, if there are any.
 #[derive(Drop)]
 struct Before<'t> {
     text: &'t str,
@@ -489,7 +493,8 @@ impl<'t> Before<'t> {
     }
 }
 
-/// The field or the directive whose arguments a byte offset of a text is in, by the types of some documents. It fails only where memory is refused.
+/// The field or the directive whose arguments a byte offset of a text is in, by the types of some documents. It fails
+/// only where memory is refused.
 pub(crate) fn call_around<'t>(
     alloc: Global,
     source: &str,
@@ -504,8 +509,8 @@ pub(crate) fn call_around<'t>(
     }
 }
 
-/// Adds the result of completion at a byte offset: the words that may be there instead of the one that ends there. The root is the document's, and
-/// the roots are those of all, whose names may be there too.
+/// Adds the result of completion at a byte offset: the words that may be there instead of the one that ends there. The
+/// root is the document's, and the roots are those of all, whose names may be there too.
 pub(crate) fn push_completions<'p>(
     alloc: Global,
     pieces: &mut Vec<Piece<'p>>,

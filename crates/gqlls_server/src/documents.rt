@@ -1,5 +1,6 @@
 // The open documents.
-ghost use Rattle.std.specs.Prelude.{◌≡◌, ◌||◌, ◌++◌, ◌∷◌, [], ℕ, List, IfOk, IfSome, None, OnOk, Some, length, map, option_map, string_bytes, true, unwrap_or};
+ghost use Rattle.std.specs.Prelude.{◌≡◌, ◌||◌, ◌++◌, ◌∷◌, [], ℕ, List, IfOk, IfSome, None, OnOk, Some, length, map};
+ghost use Rattle.std.specs.Prelude.{option_map, string_bytes, true, unwrap_or};
 ghost use Rattle.std.specs.BTreeMap.{IsOrdered, get_by_text, values};
 ghost use Rattle.std.specs.BTreeSet.{contains_text};
 ghost use Rattle.std.specs.String.{string_cmp};
@@ -13,7 +14,8 @@ ghost use Rattle.gqlls_server.specs.Dialogue.{IsChanged, Updates};
 ghost use Rattle.gqlls_server.specs.Files.{IsSource};
 ghost use Rattle.gqlls_server.specs.Parsing.{IsMended, IsParse, IsParsed};
 ghost use Rattle.gqlls_server.specs.Renaming.{AreKnown, AreParsed, KnownFile};
-ghost use Rattle.gqlls_server.specs.State.{AreBeside, entries_beside, entries_that, entry_of, file_of, files, is_of, is_other, is_own, is_stored, known_of, names_in, names_of};
+ghost use Rattle.gqlls_server.specs.State.{AreBeside, entries_beside, entries_that, entry_of, file_of, files, is_of};
+ghost use Rattle.gqlls_server.specs.State.{is_other, is_own, is_stored, known_of, names_in, names_of};
 ghost use Rattle.gqlls_server.specs.Diagnostics.{AreRemarksOf, IsDiagnosticsNotification};
 
 use apollo_parser::{DocumentRoot, Limits, Parser, SyntaxNode, SyntaxTree};
@@ -36,7 +38,8 @@ fn masked_text(
     content: &OpenDocument,
     host: Option<HostLanguage>,
 ) -> Result<Option<String>, AllocError>
-    ensures { IfOk result (λ text. (limits : Limits) → IsSource (record { content = content.now; host = host; limits = limits })
+    ensures { IfOk result (λ text. (limits : Limits)
+        → IsSource (record { content = content.now; host = host; limits = limits })
         (unwrap_or (option_map string_bytes text) content.now.text)) }
 {
     match host {
@@ -64,7 +67,8 @@ fn parsed(alloc: Global, text: &str, limits: Limits) -> Result<SyntaxTree<Docume
     Ok(tree)
 }
 
-// The tree of a text where strings that their lines leave open are closed, if there are any: each is an error of the text's own tree.
+// The tree of a text where strings that their lines leave open are closed, if there are any: each is an error of the
+// text's own tree.
 fn mended(
     alloc: Global,
     text: &str,
@@ -83,8 +87,8 @@ fn mended(
     Ok(Some(shown))
 }
 
-/// A document that a client has open, or the documents in templates of a file, with its tree. Contracts see the file, the text of it that is parsed, and the
-/// parses.
+/// A document that a client has open, or the documents in templates of a file, with its tree. Contracts see the file,
+/// the text of it that is parsed, and the parses.
 #[derive(Drop)]
 pub(crate) struct Document {
     content: OpenDocument,
@@ -124,7 +128,8 @@ impl Document {
         host: Option<HostLanguage>,
         limits: Limits,
     ) -> Result<Document, AllocError>
-        ensures file { IfOk result (λ document. document.file ≡ record { content = content; host = host; limits = limits }) }
+        ensures file { IfOk result
+            (λ document. document.file ≡ record { content = content; host = host; limits = limits }) }
         ensures parsed { IfOk result IsParsed }
     {
         let masked = masked_text(alloc, &content, host)?;
@@ -151,7 +156,9 @@ impl Document {
         host: Option<HostLanguage>,
         limits: Limits,
     ) -> Result<Document, AllocError>
-        ensures file { IfOk result (λ document. document.file ≡ record { content = record { encoding = encoding; text = text.now }; host = host; limits = limits }) }
+        ensures file { IfOk result
+            (λ document. document.file
+            ≡ record { content = record { encoding = encoding; text = text.now }; host = host; limits = limits }) }
         ensures parsed { IfOk result IsParsed }
     {
         let content = OpenDocument::new(alloc, encoding, text)?;
@@ -210,15 +217,18 @@ impl Document {
         source_in(&self.content, &self.masked)
     }
 
-    // The remarks on it, by the fragments of the other documents: none where it has no definitions. Where the client takes related information, the first
-    // one may name a brace.
+    // The remarks on it, by the fragments of the other documents: none where it has no definitions. Where the client
+    // takes related information, the first one may name a brace.
     fn remarks<'a>(
         &'a self,
         alloc: Global,
         others: &[&'a FragmentNames],
         takes_related: bool,
     ) -> Result<Vec<Remark>, AllocError>
-        ensures said { IfOk result (λ found. (¬ HasNoDefinitions self.now.source) → AreRemarksOf takes_related (map (λ f. as_fragments f.now) others.now) self.now.parsed (map as_remarked found.items)) }
+        ensures said { IfOk result
+            (λ found. (¬ HasNoDefinitions self.now.source)
+            → AreRemarksOf takes_related (map (λ f. as_fragments f.now) others.now) self.now.parsed
+            (map as_remarked found.items)) }
         ensures silent { IfOk result (λ found. HasNoDefinitions self.now.source → map as_remarked found.items ≡ []) }
         ensures parsed { IfOk result (λ found. IsParsed self.now) }
     {
@@ -237,8 +247,8 @@ impl Document {
         Ok(found)
     }
 
-    /// The notice of the remarks on it, by its name, the version that the client gave it, the fragments of the other documents, and whether the client takes
-    /// related information.
+    /// The notice of the remarks on it, by its name, the version that the client gave it, the fragments of the other
+    /// documents, and whether the client takes related information.
     pub(crate) fn notification<'a>(
         &'a self,
         alloc: Global,
@@ -248,7 +258,9 @@ impl Document {
         takes_related: bool,
     ) -> Result<Vec<u8>, AllocError>
         ensures notifies { IfOk result (λ body. IsNotice body.items) }
-        ensures published { IfOk result (λ body. IsDiagnosticsNotification takes_related uri.now version self.now.file self.now.fragments (map (λ f. as_fragments f.now) others.now) body.items) }
+        ensures published { IfOk result
+            (λ body. IsDiagnosticsNotification takes_related uri.now version self.now.file self.now.fragments
+            (map (λ f. as_fragments f.now) others.now) body.items) }
     {
         let positions = self.positions(alloc)?;
         let remarks = self.remarks(alloc, others, takes_related)?;
@@ -265,7 +277,8 @@ impl Document {
         }
     }
 
-    /// The root of the tree that answers are about. Its byte offsets are those of the text, and its strings need not be.
+    /// The root of the tree that answers are about. Its byte offsets are those of the text, and its strings need not
+    /// be.
     pub(crate) fn root(&self) -> SyntaxNode<'_>
         ensures place { node_place result ≡ record { whole = self.now.shown.tree; index = 0 } }
         ensures parsed { IsParsed self.now }
@@ -285,7 +298,8 @@ impl Document {
     }
 }
 
-/// The documents in which names are looked for: those that are open, and then the files that are not, each in the order of their names.
+/// The documents in which names are looked for: those that are open, and then the files that are not, each in the order
+/// of their names.
 #[derive(Clone, Copy)]
 pub(crate) struct Documents<'a> {
     pub opened: &'a BTreeMap<String, Document>,
@@ -320,7 +334,9 @@ fn push_opened<'a>(
     opened: &'a BTreeMap<String, Document>,
     uri: &str,
 ) -> Result<(), AllocError>
-    ensures all { OnOk result (map known_of found.new.items ≡ map known_of found.old.items ++ map entry_of (entries_that (is_other uri.now) opened.now)) }
+    ensures all { OnOk result
+        (map known_of found.new.items ≡ map known_of found.old.items
+        ++ map entry_of (entries_that (is_other uri.now) opened.now)) }
     ensures parsed { OnOk result (AreParsed (map known_of found.old.items) → AreParsed (map known_of found.new.items)) }
     ensures ordered { OnOk result (IsOrdered string_cmp opened.now) }
 {
@@ -339,7 +355,9 @@ fn push_stored<'a>(
     own: &BTreeSet<String>,
     opened: &BTreeMap<String, Document>,
 ) -> Result<(), AllocError>
-    ensures all { OnOk result (map known_of found.new.items ≡ map known_of found.old.items ++ map entry_of (entries_that (is_stored own.now opened.now) files.now)) }
+    ensures all { OnOk result
+        (map known_of found.new.items ≡ map known_of found.old.items
+        ++ map entry_of (entries_that (is_stored own.now opened.now) files.now)) }
     ensures parsed { OnOk result (AreParsed (map known_of found.old.items) → AreParsed (map known_of found.new.items)) }
     ensures ordered { OnOk result (IsOrdered string_cmp files.now) }
 {
@@ -379,8 +397,10 @@ pub(crate) fn insert(
     uri: &str,
     document: Document,
 ) -> Result<(), AllocError>
-    ensures files { OnOk result (Updates uri.now (Some (file_of document)) (files documents.old) (files documents.new)) }
-    ensures names { OnOk result (Updates uri.now (Some (names_of document)) (names_in documents.old) (names_in documents.new)) }
+    ensures files { OnOk result
+        (Updates uri.now (Some (file_of document)) (files documents.old) (files documents.new)) }
+    ensures names { OnOk result
+        (Updates uri.now (Some (names_of document)) (names_in documents.old) (names_in documents.new)) }
 {
     let name = String::from_str(alloc, uri)?;
     documents.insert(name, document)?;
@@ -392,7 +412,8 @@ fn all_fragments<'d>(
     alloc: Global,
     documents: &'d BTreeMap<String, Document>,
 ) -> Result<Vec<&'d FragmentNames>, AllocError>
-    ensures all { IfOk result (λ found. map (λ f. as_fragments f.now) found.items ≡ map names_of (values documents.now)) }
+    ensures all { IfOk result
+        (λ found. map (λ f. as_fragments f.now) found.items ≡ map names_of (values documents.now)) }
     ensures ordered { IfOk result (λ found. IsOrdered string_cmp documents.now) }
 {
     let mut found = Vec::new(alloc);
@@ -404,7 +425,8 @@ fn all_fragments<'d>(
 
 // Adds the URI by which the file that a document's URI names is known, if it names one.
 fn add_own(alloc: Global, own: &mut BTreeSet<String>, uri: &str) -> Result<(), AllocError>
-    ensures { OnOk result ((name : List ℕ) → contains_text own.new name ≡ (is_of name uri.now || contains_text own.old name)) }
+    ensures { OnOk result ((name : List ℕ)
+        → contains_text own.new name ≡ (is_of name uri.now || contains_text own.old name)) }
 {
     if let Some(name) = normalized(alloc, uri)? {
         own.insert(name)?;
@@ -434,7 +456,9 @@ fn file_fragments<'d>(
     files: &'d BTreeMap<String, Document>,
     own: &BTreeSet<String>,
 ) -> Result<Vec<&'d FragmentNames>, AllocError>
-    ensures all { IfOk result (λ found. map (λ f. as_fragments f.now) found.items ≡ map (λ entry. names_of entry.1) (entries_beside own.now files.now)) }
+    ensures all { IfOk result
+        (λ found. map (λ f. as_fragments f.now) found.items
+        ≡ map (λ entry. names_of entry.1) (entries_beside own.now files.now)) }
     ensures ordered { IfOk result (λ found. IsOrdered string_cmp files.now) }
 {
     let mut found = Vec::new(alloc);
@@ -446,8 +470,8 @@ fn file_fragments<'d>(
     Ok(found)
 }
 
-/// The notice of the remarks on a document beside others, by its name, the version that the client gave it, and whether the client takes related
-/// information.
+/// The notice of the remarks on a document beside others, by its name, the version that the client gave it, and whether
+/// the client takes related information.
 pub(crate) fn diagnostics_notification(
     alloc: Global,
     others: Documents<'_>,
@@ -458,8 +482,10 @@ pub(crate) fn diagnostics_notification(
 ) -> Result<Vec<u8>, AllocError>
     ensures notifies { IfOk result (λ body. IsNotice body.items) }
     ensures published { IfOk result (λ body. (names : List Fragments)
-        × AreBeside (names_in others.entry.opened.now) (names_in others.entry.files.now) (is_own uri.now others.entry.opened.now) names
-        × IsDiagnosticsNotification takes_related uri.now version (file_of document.now) (names_of document.now) names body.items) }
+        × AreBeside (names_in others.entry.opened.now) (names_in others.entry.files.now)
+        (is_own uri.now others.entry.opened.now) names
+        × IsDiagnosticsNotification takes_related uri.now version (file_of document.now) (names_of document.now)
+        names body.items) }
 {
     let mut names = all_fragments(alloc, others.opened)?;
     let own = own_files(alloc, others.opened, uri)?;

@@ -4,7 +4,8 @@ ghost use Rattle.json.specs.Json.{null};
 ghost use Rattle.json.specs.Tree.{HasNumbers};
 ghost use Rattle.json.specs.Value.{value_view};
 ghost use Rattle.rpc_messages.specs.Messages.{IsAnswer, IsResult};
-ghost use Rattle.gqlls_server.specs.Layout.{IsFormattingIn, IsFormattingOf, IsLaidOut, IsRangeFormattingIn, IsRangeFormattingOf};
+ghost use Rattle.gqlls_server.specs.Layout.{IsFormattingIn, IsFormattingOf, IsLaidOut, IsRangeFormattingIn};
+ghost use Rattle.gqlls_server.specs.Layout.{IsRangeFormattingOf};
 ghost use Rattle.gqlls_server.specs.State.{file_of};
 
 use crate::documents::Document;
@@ -20,7 +21,8 @@ use std::alloc::{AllocError, Global};
 // `RequestFailed` of the Language Server Protocol.
 pub(crate) const REQUEST_FAILED: i64 = -32803;
 
-// The answer to a request for a layout: the edits that make the new text, null where the text is left, and an error where the new one would be too long.
+// The answer to a request for a layout: the edits that make the new text, null where the text is left, and an error
+// where the new one would be too long.
 fn answer_layout(
     alloc: Global,
     id: &Value<'_>,
@@ -29,7 +31,8 @@ fn answer_layout(
 ) -> Result<Vec<u8>, AllocError>
     requires { HasNumbers (value_view id.now) }
     ensures answers { IfOk result (λ body. IsAnswer (value_view id.now) body.items) }
-    ensures edits { IfOk result (λ body. IsLaidOut (value_view id.now) positions.now.encoding positions.now.text.now layout.now body.items) }
+    ensures edits { IfOk result
+        (λ body. IsLaidOut (value_view id.now) positions.now.encoding positions.now.text.now layout.now body.items) }
 {
     match layout {
         Layout::Text(text) => {
@@ -64,7 +67,8 @@ fn answer_document(
 ) -> Result<Vec<u8>, AllocError>
     requires { HasNumbers (value_view id.now) }
     ensures answers { IfOk result (λ body. IsAnswer (value_view id.now) body.items) }
-    ensures formats { IfOk result (λ body. IsFormattingOf limits (value_view id.now) document.now.file.content body.items) }
+    ensures formats { IfOk result
+        (λ body. IsFormattingOf limits (value_view id.now) document.now.file.content body.items) }
 {
     let positions = document.positions(alloc)?;
     let layout = formatted(alloc, positions.text, limits)?;
@@ -73,7 +77,8 @@ fn answer_document(
     Ok(body)
 }
 
-/// The answer to `textDocument/formatting` about a document, within limits. A file in another language is left as it is.
+/// The answer to `textDocument/formatting` about a document, within limits. A file in another language is left as it
+/// is.
 pub(crate) fn answer_formatting(
     alloc: Global,
     id: &Value<'_>,
@@ -82,7 +87,8 @@ pub(crate) fn answer_formatting(
 ) -> Result<Vec<u8>, AllocError>
     requires { HasNumbers (value_view id.now) }
     ensures answers { IfOk result (λ body. IsAnswer (value_view id.now) body.items) }
-    ensures formats { IfOk result (λ body. IsFormattingIn limits (value_view id.now) (file_of document.now) body.items) }
+    ensures formats { IfOk result
+        (λ body. IsFormattingIn limits (value_view id.now) (file_of document.now) body.items) }
 {
     match document.host() {
         Some(_) => answer_null(alloc, id),
@@ -100,7 +106,8 @@ fn answer_range(
 ) -> Result<Vec<u8>, AllocError>
     requires { HasNumbers (value_view id.now) }
     ensures answers { IfOk result (λ body. IsAnswer (value_view id.now) body.items) }
-    ensures formats { IfOk result (λ body. IsRangeFormattingOf limits (value_view id.now) document.now.file.content body.items) }
+    ensures formats { IfOk result
+        (λ body. IsRangeFormattingOf limits (value_view id.now) document.now.file.content body.items) }
 {
     let positions = document.positions(alloc)?;
     let Some(within) = span_of(&positions, params) else {
@@ -112,7 +119,8 @@ fn answer_range(
     Ok(body)
 }
 
-/// The answer to `textDocument/rangeFormatting` about a document, within limits. A file in another language is left as it is.
+/// The answer to `textDocument/rangeFormatting` about a document, within limits. A file in another language is left as
+/// it is.
 pub(crate) fn answer_range_formatting(
     alloc: Global,
     id: &Value<'_>,
@@ -122,7 +130,8 @@ pub(crate) fn answer_range_formatting(
 ) -> Result<Vec<u8>, AllocError>
     requires { HasNumbers (value_view id.now) }
     ensures answers { IfOk result (λ body. IsAnswer (value_view id.now) body.items) }
-    ensures formats { IfOk result (λ body. IsRangeFormattingIn limits (value_view id.now) (file_of document.now) body.items) }
+    ensures formats { IfOk result
+        (λ body. IsRangeFormattingIn limits (value_view id.now) (file_of document.now) body.items) }
 {
     if document.host().is_some() {
         return answer_null(alloc, id);

@@ -107,8 +107,8 @@ fn format_at(alloc: Global, source: &str, span: Span, limits: Limits) -> Result<
     replaced(alloc, source, span, text)
 }
 
-/// A text where the definitions that are at least partly in a part of it have the layout of `formatter`, if there are any. It fails only where memory is
-/// refused.
+/// A text where the definitions that are at least partly in a part of it have the layout of `formatter`, if there are
+/// any. It fails only where memory is refused.
 pub(crate) fn format_part(
     alloc: Global,
     source: &str,

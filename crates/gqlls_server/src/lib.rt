@@ -1,9 +1,11 @@
 //! What the program `gqlls` replies to each message: a language server for GraphQL documents.
 //!
-//! A `Server` is the service of a conversation within limits, and keeps the open documents with their trees. What needs only a tree is made by
-//! `editor_answers`; here are the states of a conversation, and what needs the parser or the formatter: errors, layout and completion.
+//! A `Server` is the service of a conversation within limits, and keeps the open documents with their trees. What needs
+//! only a tree is made by `editor_answers`; here are the states of a conversation, and what needs the parser or the
+//! formatter: errors, layout and completion.
 //!
-//! `gqlls_program`, the crate above, has a `Server` serve a client, and hands it the files of the folder that the client opens by `keep_file`.
+//! `gqlls_program`, the crate above, has a `Server` serve a client, and hands it the files of the folder that the
+//! client opens by `keep_file`.
 #![tactic(auto)]
 
 mod capabilities;

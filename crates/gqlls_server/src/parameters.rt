@@ -1,5 +1,6 @@
 // What the parameters of a message say. There is nothing where they are not those of the protocol.
-ghost use Rattle.std.specs.Prelude.{◌≡◌, IfOk, IfSome, IsTrue, MatchOption, None, Some, ℕ, codes, filter_map, map, ok_or, option_and_then, option_map};
+ghost use Rattle.std.specs.Prelude.{◌≡◌, IfOk, IfSome, IsTrue, MatchOption, None, Some, ℕ, codes, filter_map, map};
+ghost use Rattle.std.specs.Prelude.{ok_or, option_and_then, option_map};
 ghost use Rattle.std.specs.List.{Contains, list_all};
 ghost use Rattle.std.specs.Str.Parse.{ParsesUnsigned};
 ghost use Rattle.json.specs.Find.{as_array, as_number, get};
@@ -7,11 +8,13 @@ ghost use Rattle.json.specs.Json.{string};
 ghost use Rattle.json.specs.Value.{value_view};
 ghost use Rattle.lexical_grammar.specs.Characters.{is_name_continue, is_name_start};
 ghost use Rattle.line_index.specs.declared.PositionEncoding.TheVariants.{Utf8};
-ghost use Rattle.gqlls_server.specs.Parameters.{IsVersionIn, Offers, OffersAll, number_at, position_at, position_in, range_in, text_in, uri_in};
-ghost use Rattle.gqlls_server.specs.Parameters.{asks_before_renaming_in, changed_files, may_register_in, prepared_in, registration_in, name_in, names_at, opened_folders, related_in, root_in, takes_related_in};
+ghost use Rattle.gqlls_server.specs.Parameters.{IsVersionIn, Offers, OffersAll, number_at, position_at, position_in};
+ghost use Rattle.gqlls_server.specs.Parameters.{range_in, text_in, uri_in, asks_before_renaming_in, changed_files};
+ghost use Rattle.gqlls_server.specs.Parameters.{may_register_in, prepared_in, registration_in, name_in, names_at};
+ghost use Rattle.gqlls_server.specs.Parameters.{opened_folders, related_in, root_in, takes_related_in};
 ghost use Rattle.gqlls_server.specs.Files.{host_named};
-ghost use Rattle.gqlls_server.specs.Parameters.{IsOffset, is_name, new_name_in};
-ghost use Rattle.gqlls_server.specs.Parameters.{each, edit_in, edits_in, extent_in, host_in, items_at, list_of, client_edit};
+ghost use Rattle.gqlls_server.specs.Parameters.{IsOffset, is_name, new_name_in, each, edit_in, edits_in, extent_in};
+ghost use Rattle.gqlls_server.specs.Parameters.{host_in, items_at, list_of, client_edit};
 
 use editor_answers::{Markup, Span};
 use editor_diagnostics::Positions;
@@ -75,7 +78,8 @@ fn extent_of(value: Option<&Value<'_>>) -> Option<Option<PositionRange>>
 /// The byte offset that a message is about.
 pub(crate) fn offset_of(positions: &Positions<'_>, params: &Value<'_>) -> Option<usize>
     ensures { MatchOption (position_at (codes "position") (value_view params.now)) (result ≡ None)
-        (λ position. (offset : ℕ) × (result ≡ Some offset) × IsOffset positions.now.encoding positions.now.text.now position offset) }
+        (λ position. (offset : ℕ) × (result ≡ Some offset)
+        × IsOffset positions.now.encoding positions.now.text.now position offset) }
 {
     let position = position_at(params, "position")?;
     Some(positions.offset(position))
@@ -174,7 +178,8 @@ fn change_of<'a>(value: &Value<'a>) -> Option<Change<'a>>
 
 // The items of a list.
 fn items_of<'v, 'a>(value: &'v Value<'a>) -> Option<&'v [Value<'a>]>
-    ensures { option_map (λ items. map (λ item. value_view item) items.now) result ≡ option_map list_of (as_array (value_view value.now)) }
+    ensures { option_map (λ items. map (λ item. value_view item) items.now) result
+        ≡ option_map list_of (as_array (value_view value.now)) }
 {
     match value {
         Value::Array(items) => Some(items.as_slice()),
@@ -186,7 +191,8 @@ fn items_of<'v, 'a>(value: &'v Value<'a>) -> Option<&'v [Value<'a>]>
 
 // The items of a list that a value has by a name.
 fn items_at<'v, 'a>(value: &'v Value<'a>, name: &str) -> Option<&'v [Value<'a>]>
-    ensures { option_map (λ items. map (λ item. value_view item) items.now) result ≡ items_at name.now (value_view value.now) }
+    ensures { option_map (λ items. map (λ item. value_view item) items.now) result
+        ≡ items_at name.now (value_view value.now) }
 {
     items_of(value.get(name)?)
 }
@@ -196,7 +202,8 @@ fn all_changes<'a>(
     alloc: Global,
     items: &[Value<'a>],
 ) -> Result<Option<Vec<Change<'a>>>, AllocError>
-    ensures { IfOk result (λ found. option_map (λ changes. map client_edit changes.items) found ≡ each edit_in (map (λ item. value_view item) items.now)) }
+    ensures { IfOk result (λ found. option_map (λ changes. map client_edit changes.items) found
+        ≡ each edit_in (map (λ item. value_view item) items.now)) }
 {
     let mut changes = Vec::new(alloc);
     for item in items {
@@ -213,7 +220,8 @@ pub(crate) fn changes_of<'a>(
     alloc: Global,
     params: &Value<'a>,
 ) -> Result<Option<Vec<Change<'a>>>, AllocError>
-    ensures { IfOk result (λ found. option_map (λ changes. map client_edit changes.items) found ≡ edits_in (value_view params.now)) }
+    ensures { IfOk result (λ found. option_map (λ changes. map client_edit changes.items) found
+        ≡ edits_in (value_view params.now)) }
 {
     match items_at(params, "contentChanges") {
         Some(items) => all_changes(alloc, items),
@@ -223,7 +231,8 @@ pub(crate) fn changes_of<'a>(
 
 // The names that some values have.
 fn names_in<'a>(alloc: Global, items: &[Value<'a>]) -> Result<Vec<&'a str>, AllocError>
-    ensures { IfOk result (λ uris. map (λ uri. uri.now) uris.items ≡ filter_map name_in (map (λ item. value_view item) items.now)) }
+    ensures { IfOk result (λ uris. map (λ uri. uri.now) uris.items
+        ≡ filter_map name_in (map (λ item. value_view item) items.now)) }
 {
     let mut uris = Vec::new(alloc);
     for item in items {

@@ -55,7 +55,8 @@ const QUESTIONS: [(&str, Question); 12] = [
 // The index of the document that is asked about, among those in which names are looked for.
 const FIRST: usize = 0;
 
-// For how many positions a client gets the parts of the text around them: each answer is as long as the tree is deep there.
+// For how many positions a client gets the parts of the text around them: each answer is as long as the tree is deep
+// there.
 const MOST_POSITIONS: usize = 100;
 
 /// The question of a method.
@@ -68,7 +69,8 @@ pub(crate) fn question_of(method: &str) -> Option<Question> {
     None
 }
 
-// What a question is about: a document, and parameters; and the limits of each parse for its answer, the markup of hovers, and the tree of `STANDARD`.
+// What a question is about: a document, and parameters; and the limits of each parse for its answer, the markup of
+// hovers, and the tree of `STANDARD`.
 #[derive(Clone, Copy)]
 struct Asked<'a, 'd, 'v> {
     alloc: Global,
@@ -90,7 +92,8 @@ struct Definer<'a> {
     span: Span,
 }
 
-// The documents in which names are looked for, the one that is asked about first; and the roots of their trees, and the standard's.
+// The documents in which names are looked for, the one that is asked about first; and the roots of their trees, and the
+// standard's.
 #[derive(Drop)]
 struct Searched<'a> {
     known: Vec<Known<'a>>,
@@ -133,7 +136,8 @@ impl<'a> Asked<'a, '_, '_> {
         })
     }
 
-    // What defines the field, the argument or the value at a byte offset, by the types of all documents and of the standard.
+    // What defines the field, the argument or the value at a byte offset, by the types of all documents and of the
+    // standard.
     fn definer_of_member(
         self,
         searched: &Searched<'a>,
@@ -165,7 +169,8 @@ impl<'a> Asked<'a, '_, '_> {
         }
     }
 
-    // Adds the result of definition: the location of the definition of the name at a byte offset, in this document or another, or null.
+    // Adds the result of definition: the location of the definition of the name at a byte offset, in this document or
+    // another, or null.
     fn push_definition(self, pieces: &mut Vec<Piece<'a>>, offset: usize) -> Result<(), AllocError> {
         if let Some(span) = definition(self.root, offset) {
             return push_location(pieces, self.positions, self.uri, span);
@@ -447,7 +452,8 @@ impl<'a> Asked<'a, '_, '_> {
     }
 }
 
-/// The answer to a question about the document with a name, one of those that are open, beside others, within limits, hovers in a markup.
+/// The answer to a question about the document with a name, one of those that are open, beside others, within limits,
+/// hovers in a markup.
 pub(crate) fn answer_question(
     alloc: Global,
     id: &Value<'_>,

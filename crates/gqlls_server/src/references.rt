@@ -22,7 +22,8 @@ pub(crate) const UNDEFINED: &str = "no document defines this name";
 // Why a member may not have another name that other types may have to have.
 const SHARED: &str = "other types may have to have this name, by an interface";
 
-/// A name in a document, which means what its text says: the document, the name's byte offset, and the document whose definition counts.
+/// A name in a document, which means what its text says: the document, the name's byte offset, and the document whose
+/// definition counts.
 #[derive(Clone, Copy)]
 pub(crate) struct Occurrence<'a> {
     pub asked: Known<'a>,
@@ -46,7 +47,8 @@ fn defines(asked: &Known<'_>, offset: usize, other: &Known<'_>) -> bool
     definition_elsewhere(asked.document.root(), offset, other.document.root()).is_some()
 }
 
-/// The document whose definition of the name at a byte offset counts: the document itself where it has one, or else the first that has one.
+/// The document whose definition of the name at a byte offset counts: the document itself where it has one, or else the
+/// first that has one.
 pub(crate) fn definer_of<'a>(
     asked: &Known<'a>,
     offset: usize,
@@ -80,8 +82,8 @@ pub(crate) fn uses_in(
         .collect(alloc)
 }
 
-/// Why a member may not have another name, by how many documents there are: none of them defines it, or another type may have to have it too. `None` where
-/// it may.
+/// Why a member may not have another name, by how many documents there are: none of them defines it, or another type
+/// may have to have it too. `None` where it may.
 pub(crate) fn objection_to(uses: &Uses<'_, '_>, documents: usize) -> Option<&'static str> {
     if uses.member.document >= documents {
         Some(UNDEFINED)
@@ -110,7 +112,8 @@ impl Occurrence<'_> {
         other: &Known<'_>,
         with_definition: bool,
     ) -> Result<Vec<Span>, AllocError>
-        ensures { IfOk result (λ found. map bounds found.items ≡ map range_at (places_of with_definition self.now (known_of other.now))) }
+        ensures { IfOk result (λ found. map bounds found.items
+            ≡ map range_at (places_of with_definition self.now (known_of other.now))) }
     {
         let root = self.asked.document.root();
         if other.uri == self.asked.uri {
@@ -148,7 +151,8 @@ impl Target<'_, '_> {
         }
     }
 
-    /// Adds the result of references: the locations where the documents have it, with its definition when `with_definition` says so.
+    /// Adds the result of references: the locations where the documents have it, with its definition when
+    /// `with_definition` says so.
     pub(crate) fn push_references<'p>(
         &self,
         alloc: Global,

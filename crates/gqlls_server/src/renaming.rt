@@ -38,7 +38,8 @@ fn may_be_called(kind: NameKind, name: &str) -> bool
     }
 }
 
-// Whether the grammar lets a member have this name: an enum value may not be called `true`, `false` or `null` (section 2.9.6, EnumValue).
+// Whether the grammar lets a member have this name: an enum value may not be called `true`, `false` or `null` (section
+// 2.9.6, EnumValue).
 fn member_may_be_called(uses: &Uses<'_, '_>, name: &str) -> bool {
     let kind = uses.member.node.kind();
     !kind.is(SyntaxKind::ENUM_VALUE_DEFINITION)
@@ -118,7 +119,9 @@ fn answer_name<'a>(
 ) -> Result<Vec<u8>, AllocError>
     requires { HasNumbers (value_view id.now) }
     ensures answers { IfOk result (λ body. IsAnswer (value_view id.now) body.items) }
-    ensures renames { IfOk result (λ body. IsRenamed (value_view id.now) kind (known_of asked.now) offset name.now (map known_of known.now) body.items) }
+    ensures renames { IfOk result
+        (λ body. IsRenamed (value_view id.now) kind (known_of asked.now) offset name.now
+        (map known_of known.now) body.items) }
 {
     let Some(definer) = definer_of(asked, offset, known) else {
         return refusal(alloc, id, REQUEST_FAILED, UNDEFINED);
@@ -201,7 +204,9 @@ fn answer_at<'a>(
 ) -> Result<Vec<u8>, AllocError>
     requires { HasNumbers (value_view id.now) }
     ensures answers { IfOk result (λ body. IsAnswer (value_view id.now) body.items) }
-    ensures renames { IfOk result (λ body. IsRenamedAt (value_view id.now) (known_of asked.now) offset name.now (map known_of known.now) body.items) }
+    ensures renames { IfOk result
+        (λ body. IsRenamedAt (value_view id.now) (known_of asked.now) offset name.now
+        (map known_of known.now) body.items) }
 {
     let Some(leaf) = identifier_at(asked.document.root(), offset) else {
         return refusal(alloc, id, REQUEST_FAILED, UNDEFINED);
@@ -228,8 +233,11 @@ impl Asked<'_, '_> {
     fn answer_to(self, alloc: Global, id: &Value<'_>) -> Result<Vec<u8>, AllocError>
         requires { HasNumbers (value_view id.now) }
         ensures answers { IfOk result (λ body. IsAnswer (value_view id.now) body.items) }
-        ensures renames { IfOk result (λ body. get_by_text self.entry.documents.opened.now self.entry.first.uri.now ≡ Some self.entry.first.document.now
-            → IsRenaming (files self.entry.documents.opened.now) (files self.entry.documents.files.now) (value_view id.now) (value_view self.entry.params.now)
+        ensures renames { IfOk result
+            (λ body. get_by_text self.entry.documents.opened.now self.entry.first.uri.now
+            ≡ Some self.entry.first.document.now
+            → IsRenaming (files self.entry.documents.opened.now) (files self.entry.documents.files.now)
+            (value_view id.now) (value_view self.entry.params.now)
             self.entry.first.uri.now (file_of self.entry.first.document.now) body.items) }
     {
         let positions = self.first.document.positions(alloc)?;
@@ -246,8 +254,8 @@ impl Asked<'_, '_> {
     }
 }
 
-/// The answer to rename of the name at the position of the message, in the document with a name, one of those that are open. It gives it another name in all
-/// documents.
+/// The answer to rename of the name at the position of the message, in the document with a name, one of those that are
+/// open. It gives it another name in all documents.
 pub(crate) fn answer_rename(
     alloc: Global,
     id: &Value<'_>,
@@ -259,7 +267,8 @@ pub(crate) fn answer_rename(
     requires { HasNumbers (value_view id.now) }
     ensures answers { IfOk result (λ body. IsAnswer (value_view id.now) body.items) }
     ensures renames { IfOk result (λ body. get_by_text documents.entry.opened.now uri.now ≡ Some document.now
-        → IsRenaming (files documents.entry.opened.now) (files documents.entry.files.now) (value_view id.now) (value_view params.now) uri.now
+        → IsRenaming (files documents.entry.opened.now) (files documents.entry.files.now) (value_view id.now)
+        (value_view params.now) uri.now
         (file_of document.now) body.items) }
 {
     let asked = Asked {

@@ -5,7 +5,8 @@ ghost use Rattle.json.specs.Value.{value_view};
 ghost use Rattle.rpc_messages.specs.Messages.{IsAnswer};
 ghost use Rattle.rpc_messages.specs.Replies.{EndsOnlyIf, Replies};
 ghost use Rattle.rpc_messages.specs.declared.reply.Reply.TheVariants.{Answer};
-ghost use Rattle.gqlls_server.specs.Conversation.{Begins, Changes, Closes, Formats, FormatsRange, HandlesRequest, HandlesNotification, Opens, Publishes, Renames, exit_status};
+ghost use Rattle.gqlls_server.specs.Conversation.{Begins, Changes, Closes, Formats, FormatsRange, HandlesRequest};
+ghost use Rattle.gqlls_server.specs.Conversation.{HandlesNotification, Opens, Publishes, Renames, exit_status};
 ghost use Rattle.gqlls_server.specs.Dialogue.{SetsFile, initial_dialogue};
 ghost use Rattle.gqlls_server.specs.Layout.{IsRefusalOf};
 ghost use Rattle.gqlls_server.specs.declared.server.EditRequest.TheVariants.{Formatting, RangeFormatting, Rename};
@@ -49,7 +50,8 @@ enum EditRequest {
     Rename,
 }
 
-/// The open documents by their names, the files that are not open, how far the conversation is, what the client can do, and the limits of each parse.
+/// The open documents by their names, the files that are not open, how far the conversation is, what the client can do,
+/// and the limits of each parse.
 #[derive(Drop)]
 pub struct Server {
     documents: BTreeMap<String, Document>,
@@ -79,10 +81,11 @@ impl Server {
         }
     }
 
-    /// Has names looked for in a file that is not open, by its URI and its text, in the place of the one with this URI, and gives how many errors its parse
-    /// has. It fails only where memory is refused.
+    /// Has names looked for in a file that is not open, by its URI and its text, in the place of the one with this URI,
+    /// and gives how many errors its parse has. It fails only where memory is refused.
     pub fn keep_file(&mut self, alloc: Global, uri: &str, text: &str) -> Result<usize, AllocError>
-        ensures { IfOk result (λ errors. KeepsFile uri.now text.now errors (dialogue_of self.old) (dialogue_of self.new)) }
+        ensures { IfOk result (λ errors. KeepsFile uri.now text.now errors (dialogue_of self.old)
+            (dialogue_of self.new)) }
     {
         let document = Document::new(alloc, self.encoding, text, None, self.limits)?;
         let errors = document.error_count();
@@ -225,7 +228,9 @@ impl Server {
     ) -> Result<Reply, AllocError>
         ensures replies { IfOk result (Replies None) }
         ensures ends { IfOk result (EndsOnlyIf ⊥) }
-        ensures publishes { IfOk result (λ reply. Publishes uri.now (file_of document) (value_view params.now) reply (dialogue_of self.old) (dialogue_of self.new)) }
+        ensures publishes { IfOk result
+            (λ reply. Publishes uri.now (file_of document) (value_view params.now) reply (dialogue_of self.old)
+            (dialogue_of self.new)) }
     {
         self.documents.remove(uri);
         let notification = diagnostics_notification(
@@ -244,7 +249,8 @@ impl Server {
     fn open(&mut self, alloc: Global, params: &Value<'_>) -> Result<Reply, AllocError>
         ensures replies { IfOk result (Replies None) }
         ensures ends { IfOk result (EndsOnlyIf ⊥) }
-        ensures opens { IfOk result (λ reply. Opens (value_view params.now) reply (dialogue_of self.old) (dialogue_of self.new)) }
+        ensures opens { IfOk result
+            (λ reply. Opens (value_view params.now) reply (dialogue_of self.old) (dialogue_of self.new)) }
     {
         let Some(uri) = uri_of(params) else {
             return Ok(Reply::Nothing);
@@ -262,7 +268,8 @@ impl Server {
     fn change(&mut self, alloc: Global, params: &Value<'_>) -> Result<Reply, AllocError>
         ensures replies { IfOk result (Replies None) }
         ensures ends { IfOk result (EndsOnlyIf ⊥) }
-        ensures changes { IfOk result (λ reply. Changes (value_view params.now) reply (dialogue_of self.old) (dialogue_of self.new)) }
+        ensures changes { IfOk result
+            (λ reply. Changes (value_view params.now) reply (dialogue_of self.old) (dialogue_of self.new)) }
     {
         let Some(uri) = uri_of(params) else {
             return Ok(Reply::Nothing);
@@ -283,7 +290,8 @@ impl Server {
     fn close(&mut self, alloc: Global, params: &Value<'_>) -> Result<Reply, AllocError>
         ensures replies { IfOk result (Replies None) }
         ensures ends { IfOk result (EndsOnlyIf ⊥) }
-        ensures closes { IfOk result (λ reply. Closes (value_view params.now) reply (dialogue_of self.old) (dialogue_of self.new)) }
+        ensures closes { IfOk result
+            (λ reply. Closes (value_view params.now) reply (dialogue_of self.old) (dialogue_of self.new)) }
     {
         let Some(uri) = uri_of(params) else {
             return Ok(Reply::Nothing);
@@ -304,7 +312,9 @@ impl Server {
     ) -> Result<Reply, AllocError>
         ensures replies { IfOk result (Replies None) }
         ensures ends { IfOk result (EndsOnlyIf (method.now ≡ codes "exit")) }
-        ensures step { IfOk result (λ reply. HandlesNotification method.now (value_view params.now) reply (dialogue_of self.old) (dialogue_of self.new)) }
+        ensures step { IfOk result
+            (λ reply. HandlesNotification method.now (value_view params.now) reply (dialogue_of self.old)
+            (dialogue_of self.new)) }
     {
         if method == "exit" {
             return Ok(Reply::Exit(exit_status(self.stage)));
@@ -353,7 +363,8 @@ impl Service for Server {
     ) -> Result<Vec<u8>, AllocError>
         requires { HasNumbers (value_view id.now) }
         ensures answers { IfOk result (λ body. IsAnswer (value_view id.now) body.items) }
-        ensures step { IfOk result (λ body. HandlesRequest (value_view id.now) method.now (value_view params.now) (Answer body)
+        ensures step { IfOk result
+            (λ body. HandlesRequest (value_view id.now) method.now (value_view params.now) (Answer body)
             (dialogue_of self.old) (dialogue_of self.new)) }
     {
         match self.stage {

@@ -113,7 +113,8 @@ fn push_signature<'p>(
     ])
 }
 
-/// The answer to signatureHelp about a call: what its definition takes, and which argument comes next. It fails only where memory is refused.
+/// The answer to signatureHelp about a call: what its definition takes, and which argument comes next. It fails only
+/// where memory is refused.
 pub(crate) fn answer_signature(
     alloc: Global,
     id: &Value<'_>,

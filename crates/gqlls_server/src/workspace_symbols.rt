@@ -83,8 +83,8 @@ fn put_all_found(
     Ok(answer)
 }
 
-/// The answer to `workspace/symbol`: the definitions of all documents whose names have a text. It fails only where memory is
-/// refused.
+/// The answer to `workspace/symbol`: the definitions of all documents whose names have a text. It fails only where
+/// memory is refused.
 pub(crate) fn answer_search(
     alloc: Global,
     id: &Value<'_>,

@@ -1,7 +1,9 @@
--- Texts that begin a sentence. Where tokens at the front of a text, and further tokens with the texts that are listed for the leaves, are
--- those of a derivation, the text of the first goes on to a sentence: by a line feed, and then by the further tokens.
-use Rattle.std.proofs.Common.{◌≡◌, ◌≢◌, ℕ, zero, suc, ◌<◌, Bool, true, false, cond, eqb, List, [], ◌∷◌, ◌++◌, length, map, Option, Some, None, IsUtf8, refl}
-use Rattle.std.proofs.Common.{sym, ap, ap₂, ◌∙◌, subst, inl, inr, eqb-true, ltb-true, append_assoc, arith}
+-- Texts that begin a sentence. Where tokens at the front of a text, and further tokens with the texts that are listed
+-- for the leaves, are those of a derivation, the text of the first goes on to a sentence: by a line feed, and then by
+-- the further tokens.
+use Rattle.std.proofs.Common.{◌≡◌, ◌≢◌, ℕ, zero, suc, ◌<◌, Bool, true, false, cond, eqb, List, [], ◌∷◌, ◌++◌, length}
+use Rattle.std.proofs.Common.{map, Option, Some, None, IsUtf8, refl, sym, ap, ap₂, ◌∙◌, subst, inl, inr, eqb-true}
+use Rattle.std.proofs.Common.{ltb-true, append_assoc, arith}
 use Rattle.std.proofs.lemmas.Bool.{eqb-false}
 use Rattle.std.proofs.lemmas.Str.{IsUtf8-from_ascii}
 use Rattle.std.proofs.Math.Seq.{take-length}
@@ -54,12 +56,18 @@ at-each f g (suc m) n h e = elim (either (eqb n m)) [
   | inr p ↦ (let i : n ≢ m = eqb-false n m p in at-each f g m n (omega arith) (tail-same e))
 ]
 
--- What is known of a leaf's text: the token that it is, its leaf again, whether it is significant, and whether it is ASCII.
+-- What is known of a leaf's text: the token that it is, its leaf again, whether it is significant, and whether it is
+-- ASCII.
 abbrev Facts : Type 0
 Facts = Option (TokenKind × ℕ) × ℕ × Bool × Bool
 
 abbrev facts : ℕ → Facts
-facts leaf_symbol = (token_at (spell leaf_symbol), leaf_number (kind_of leaf_symbol), is_significant_kind (kind_of leaf_symbol), all_ascii (spell leaf_symbol))
+facts leaf_symbol = (
+  token_at (spell leaf_symbol),
+  leaf_number (kind_of leaf_symbol),
+  is_significant_kind (kind_of leaf_symbol),
+  all_ascii (spell leaf_symbol),
+)
 
 abbrev wanted : ℕ → Facts
 wanted leaf_symbol = cond (wordless leaf_symbol) (None, ERROR, false, true) (
@@ -91,7 +99,8 @@ leaf-word leaf_symbol ok =
           (no-word leaf_symbol (class (token leaf_symbol (spell leaf_symbol))) p) ok.1
       | inr p ↦ p
     ] in
-    let all : facts leaf_symbol ≡ (Some (kind_of leaf_symbol, length (spell leaf_symbol)), (token leaf_symbol []).0, true, true) = rw some at
+    let all : facts leaf_symbol
+    ≡ (Some (kind_of leaf_symbol, length (spell leaf_symbol)), (token leaf_symbol []).0, true, true) = rw some at
     (at-each facts wanted DOCUMENT leaf_symbol b leaves-checked) in
     let plain : all_ascii (spell leaf_symbol) ≡ true = ap (λ (p : Facts). p.3) all in
     let number : leaf_number (kind_of leaf_symbol) ≡ (token leaf_symbol []).0 = ap (λ (p : Facts). p.1) all in (
@@ -99,29 +108,38 @@ leaf-word leaf_symbol ok =
       record {
         characters = IsUtf8-from_ascii (spell leaf_symbol) (is-ascii (spell leaf_symbol) plain);
         token = subst (λ (x : List ℕ). Tok (kind_of leaf_symbol) x) (take-length (spell leaf_symbol))
-            (sound (spell leaf_symbol) (kind_of leaf_symbol) (length (spell leaf_symbol)) (ap (λ (p : Facts). p.0) all)).stands.token;
+            (sound (spell leaf_symbol) (kind_of leaf_symbol) (length (spell leaf_symbol))
+            (ap (λ (p : Facts). p.0) all)).stands.token;
         significant = ap (λ (p : Facts). p.2) all;
       },
       ap (λ (n : ℕ). (n, spell leaf_symbol)) number,
     )
 
-listed-words : (tokens : List Token) → AllSpelt tokens → (words : List Word) × AreWords words × (map token_of words ≡ tokens)
+listed-words : (tokens : List Token) → AllSpelt tokens
+    → (words : List Word) × AreWords words × (map token_of words ≡ tokens)
 listed-words [] all_spelt = ([], tt, refl)
 listed-words (this_token ∷ tokens) all_spelt =
     let one = leaf-word all_spelt.0.0 all_spelt.0.1 in
-    let more = listed-words tokens all_spelt.1 in
-    (one.0 ∷ more.0, (one.1, more.1), ap₂ (λ (x : Token) (others : List Token). x ∷ others) (one.2 ∙ sym all_spelt.0.2) more.2)
+    let more = listed-words tokens all_spelt.1 in (
+      one.0 ∷ more.0,
+      (one.1, more.1),
+      ap₂ (λ (x : Token) (others : List Token). x ∷ others) (one.2 ∙ sym all_spelt.0.2) more.2,
+    )
 
-pub begins-text : (sort : Sort) (source : List ℕ) (before : List Item) (item : Item) (more : List Item) (this_tree : Tree) (these_tokens : List Token)
+pub begins-text : (sort : Sort) (source : List ℕ) (before : List Item) (item : Item) (more : List Item)
+    (this_tree : Tree) (these_tokens : List Token)
     → IsUtf8 source
     → Cut source (before ++ item ∷ more) → are_tokens before ≡ true
-    → Spells (map token_of (Significant before) ++ these_tokens) this_tree sort → AllSpelt these_tokens → Begins sort (texts before)
+    → Spells (map token_of (Significant before) ++ these_tokens) this_tree sort → AllSpelt these_tokens
+    → Begins sort (texts before)
 begins-text sort source before item more this_tree these_tokens u cut h spells spelt =
     let w = listed-words these_tokens spelt in
     let may = goes_on-by-words source before item more w.0 cut h w.1 in
-    let utf : IsUtf8 (texts before ++ feed (ends_in_whitespace before) ++ spaced w.0) = words-follow-text source before item more w.0 cut w.1 u in
+    let utf : IsUtf8 (texts before ++ feed (ends_in_whitespace before) ++ spaced w.0) =
+    words-follow-text source before item more w.0 cut w.1 u in
     let e : texts before ++ feed (ends_in_whitespace before) ++ spaced w.0 ≡ texts before
-    ++ (feed (ends_in_whitespace before) ++ spaced w.0) = append_assoc (texts before) (feed (ends_in_whitespace before)) (spaced w.0) in
+    ++ (feed (ends_in_whitespace before) ++ spaced w.0) =
+    append_assoc (texts before) (feed (ends_in_whitespace before)) (spaced w.0) in
     let y : map token_of (Significant (before ++ may.rest)) ≡ map token_of (Significant before) ++ these_tokens =
     ap (λ (l : List Word). map token_of l) may.significant ∙ map-append token_of (Significant before) w.0
     ∙ ap (λ (l : List Token). map token_of (Significant before) ++ l) w.2 in
@@ -139,7 +157,8 @@ begins-text sort source before item more this_tree these_tokens u cut h spells s
     }
 
 -- Wherever the machine comes in the tokens of a text, the text before begins a sentence.
-pub reached-begins-text : (sort : Sort) (source : List ℕ) (before : List Item) (item : Item) (more : List Item) (rest : List Token) (fs : List Frame)
+pub reached-begins-text : (sort : Sort) (source : List ℕ) (before : List Item) (item : Item) (more : List Item)
+    (rest : List Token) (fs : List Frame)
     → IsUtf8 source → Cut source (before ++ item ∷ more) → are_tokens before ≡ true
     → Reached sort (map token_of (Significant before)) rest fs → Begins sort (texts before)
 reached-begins-text sort source before item more rest fs u cut h reached =

@@ -1,9 +1,11 @@
 -- The tables' tests, each answered by computing.
-use Rattle.std.proofs.Common.{◌≡◌, ℕ, zero, suc, ◌+◌, ◌-◌, Bool, true, false, cond, not, eqb, List, [], ◌∷◌, get_or, bit_and, bit_or, refl}
+use Rattle.std.proofs.Common.{◌≡◌, ℕ, zero, suc, ◌+◌, ◌-◌, Bool, true, false, cond, not, eqb, List, [], ◌∷◌, get_or}
+use Rattle.std.proofs.Common.{bit_and, bit_or, refl}
 use Rattle.grammar_machine.specs.Table.{State, state, Entry, entry, rows, firsts}
 use Rattle.grammar_machine.proofs.generated.Follows.{follows}
 use Rattle.document_grammar.specs.Booleans.{◌and◌, ◌or◌}
-use Rattle.grammar_machine.specs.Machine.{holds, is_leaf, at, ends, exit, arcs, entries, state_arcs, state_ends, state_exit}
+use Rattle.grammar_machine.specs.Machine.{holds, is_leaf, at, ends, exit, arcs, entries, state_arcs, state_ends}
+use Rattle.grammar_machine.specs.Machine.{state_exit}
 use Rattle.document_grammar.specs.Kinds.{DOCUMENT}
 
 abbrev pub subset : ℕ → ℕ → Bool
@@ -72,7 +74,8 @@ state_begins v = arcs_mask (state_arcs v)
 
 -- A node that may follow `child` after which the row of `symbol` is in the state `v`.
 abbrev pub follow_test : ℕ → ℕ → ℕ → Bool
-follow_test symbol child row_state = exits child (λ x. subset (state_begins (at symbol (row_state + x))) (follow child x)
+follow_test symbol child row_state =
+    exits child (λ x. subset (state_begins (at symbol (row_state + x))) (follow child x)
     and (not (ends symbol (row_state + x)) or subset (follow symbol (exit symbol (row_state + x))) (follow child x)))
 
 abbrev pub close_test : ℕ → State → Bool
@@ -85,7 +88,8 @@ clear symbol row_state x y = disjoint y (state_begins (at symbol (row_state + x)
 -- Where the symbol `child` leads to the state `row_state`, the symbol `j` does not begin.
 abbrev pub differ : ℕ → ℕ → ℕ → ℕ → Bool
 differ symbol child row_state j = all_entries (entries j) (λ x2 y2 a2. all_entries (entries child)
-    (λ x1 y1 a1. disjoint x1 x2 or (not a2 and disjoint y1 y2 and (not a1 or exits child (λ x. clear symbol row_state x y2)))))
+    (λ x1 y1 a1. disjoint x1 x2
+    or (not a2 and disjoint y1 y2 and (not a1 or exits child (λ x. clear symbol row_state x y2)))))
 
 abbrev pub choice_arcs : ℕ → List (ℕ × ℕ) → Bool
 choice_arcs symbol [] = true
@@ -97,14 +101,16 @@ choice_test symbol v = choice_arcs symbol (state_arcs v)
 -- An entry of the first child, before the state `row_state` of its parent, is in an entry of the parent.
 abbrev pub covered : ℕ → ℕ → ℕ → ℕ → ℕ → Bool → Bool
 covered symbol row_state x x1 y1 a1 = any_entries (entries symbol) (λ x2 y2 a2. subset x1 x2 and subset y1 y2
-    and (not a1 or (subset (state_begins (at symbol (row_state + x))) y2 and (not (ends symbol (row_state + x)) or a2))))
+    and (not a1 or (subset (state_begins (at symbol (row_state + x))) y2
+    and (not (ends symbol (row_state + x)) or a2))))
 
 -- The test of the first state of a row, which does not end there.
 abbrev pub first_arc : ℕ → ℕ → ℕ → Bool
 first_arc symbol child row_state = exits child (λ x. all_entries (entries child) (covered symbol row_state x))
 
 abbrev pub first_test : ℕ → ℕ → State → Bool
-first_test symbol row_state v = not (eqb row_state 0) or (all_arcs (state_arcs v) (first_arc symbol) and not (state_ends v))
+first_test symbol row_state v =
+    not (eqb row_state 0) or (all_arcs (state_arcs v) (first_arc symbol) and not (state_ends v))
 
 abbrev pub leaf_entry : ℕ → Bool
 leaf_entry leaf_symbol = all_entries (entries leaf_symbol) (λ x y a. a and eqb y 0)

@@ -18,7 +18,8 @@ but ks = any - only ks
 -- A class that is in two sets is in their intersection.
 pub holds-and : (a x y : ℕ) → holds a x ≡ true → holds a y ≡ true → holds a (bit_and x y) ≡ true
 unfolding holds
-holds-and a x y h k = let e : bit_at (bit_and x y) a ≡ 1 = omega (arith, bit_at_and x y a, eqb-true _ _ h, eqb-true _ _ k) in rw e refl
+holds-and a x y h k =
+    let e : bit_at (bit_and x y) a ≡ 1 = omega (arith, bit_at_and x y a, eqb-true _ _ h, eqb-true _ _ k) in rw e refl
 
 -- Without the class `c`, the set `set` is in `y`.
 pub holds-but : (a c set y : ℕ) → holds a set ≡ true → a ≢ c → subset set (bit_or (2 ^ c) y) ≡ true → holds a y ≡ true

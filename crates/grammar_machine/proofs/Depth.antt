@@ -1,5 +1,7 @@
--- How deep the trees of the tables nest: the nesting of the open nodes, and of a derivation, is the nesting of the tree in the end.
-use Rattle.std.proofs.Common.{◌≡◌, ℕ, ◌+◌, ◌≤◌, max, List, [], ◌∷◌, ap, arith, refl, ap₂, ◌∙◌, ◌⊎◌, inl, inr, eqb, eqb-true, true}
+-- How deep the trees of the tables nest: the nesting of the open nodes, and of a derivation, is the nesting of the tree
+-- in the end.
+use Rattle.std.proofs.Common.{◌≡◌, ℕ, ◌+◌, ◌≤◌, max, List, [], ◌∷◌, ap, arith, refl, ap₂, ◌∙◌, ◌⊎◌, inl, inr, eqb}
+use Rattle.std.proofs.Common.{eqb-true, true}
 use Rattle.document_grammar.proofs.Booleans.{either, false-true}
 use Rattle.document_grammar.proofs.Nested.{weight, weight-none, weight-no_value, uncounted, belows-append, belows-same}
 use Rattle.document_grammar.specs.Tree.{Token, Tree, leaf, node, Forest, none, ◌▸◌, ◌+++◌, root, Text}
@@ -31,12 +33,13 @@ root-relabel : (tree : Tree) → root (relabel tree) ≡ label (root tree)
 root-relabel (leaf leaf_symbol text) = refl
 root-relabel (node symbol forest) = refl
 
-relabels-append : (forest more_trees : Forest) → relabels (forest +++ more_trees) ≡ relabels forest +++ relabels more_trees
+relabels-append : (forest more_trees : Forest)
+    → relabels (forest +++ more_trees) ≡ relabels forest +++ relabels more_trees
 relabels-append none more_trees = refl
 relabels-append (tree ▸ forest) more_trees = ap (λ (h : Forest). relabel tree ▸ h) (relabels-append forest more_trees)
 
--- Whether a child of the symbol `child` in a node of the symbol `symbol` is counted; how deep the children of such a node nest; and a tree, which
--- counts as a child of a DOCUMENT does.
+-- Whether a child of the symbol `child` in a node of the symbol `symbol` is counted; how deep the children of such a
+-- node nest; and a tree, which counts as a child of a DOCUMENT does.
 abbrev pub count_in : ℕ → ℕ → ℕ
 count_in symbol child = counts (label symbol) (label child)
 
@@ -51,8 +54,10 @@ nestings-then : (symbol : ℕ) (forest : Forest) (tree : Tree) (more_trees : For
     → nestings symbol (forest +++ (tree ▸ more_trees)) ≡ max (nestings symbol forest)
     (max (count_in symbol (root tree) + below (relabel tree)) (nestings symbol more_trees))
 nestings-then symbol forest tree more_trees =
-    ap (belows (label symbol)) (relabels-append forest (tree ▸ more_trees)) ∙ belows-append (label symbol) (relabels forest) (relabels (tree ▸ more_trees))
-    ∙ ap (λ (k : ℕ). max (nestings symbol forest) (max (counts (label symbol) k + below (relabel tree)) (nestings symbol more_trees))) (root-relabel tree)
+    ap (belows (label symbol)) (relabels-append forest (tree ▸ more_trees))
+    ∙ belows-append (label symbol) (relabels forest) (relabels (tree ▸ more_trees))
+    ∙ ap (λ (k : ℕ). max (nestings symbol forest)
+    (max (counts (label symbol) k + below (relabel tree)) (nestings symbol more_trees))) (root-relabel tree)
 
 -- The counted nodes among the open ones and a child of the symbol `child`, and among the open ones alone.
 abbrev pub depth_above : List Frame → ℕ → ℕ
@@ -66,9 +71,11 @@ depth (frame symbol state forest ∷ fs) = depth_above fs symbol
 -- They are at most those of each tree of which the open nodes are the left part.
 upper-depth : (fs : List Frame) (tree : Tree) (rest : List Token) (other_tree : Tree) → Upper fs tree rest other_tree
     → depth_above fs (root tree) + below (relabel tree) ≤ nesting_all other_tree
-upper-depth [] tree rest other_tree upper = let e : nesting_all tree ≡ nesting_all other_tree = ap nesting_all upper.0 in omega arith
+upper-depth [] tree rest other_tree upper =
+    let e : nesting_all tree ≡ nesting_all other_tree = ap nesting_all upper.0 in omega arith
 upper-depth (frame symbol state forest ∷ fs) tree rest other_tree upper =
-    let b : depth_above fs symbol + nestings symbol (forest +++ (tree ▸ upper.0)) ≤ nesting_all other_tree = upper-depth fs
+    let b : depth_above fs symbol + nestings symbol (forest +++ (tree ▸ upper.0)) ≤ nesting_all other_tree =
+    upper-depth fs
     (node symbol (forest +++ (tree ▸ upper.0))) upper.1 other_tree upper.4 in
     omega (arith, nestings-then symbol forest tree upper.0)
 
@@ -89,13 +96,19 @@ type-weights j = (weight-none j NAMED_TYPE refl, weight-none j NON_NULL_TYPE ref
 
 type-weight : (j child : ℕ) → (child ≡ NAMED_TYPE) ⊎ (child ≡ LIST_TYPE) → weight j child ≡ weight NAMED_TYPE child
 unfolding member
-type-weight j child h = elim h [ inl p ↦ weight-no_value j NAMED_TYPE child (rw p refl) | inr p ↦ weight-no_value j NAMED_TYPE child (rw p refl) ]
+type-weight j child h =
+    elim h [
+      | inl p ↦ weight-no_value j NAMED_TYPE child (rw p refl)
+      | inr p ↦
+          weight-no_value j NAMED_TYPE child (rw p refl)
+    ]
 
 type-belows : (forest : Forest) → belows NON_NULL_TYPE forest ≡ belows NAMED_TYPE forest
 unfolding member
 type-belows forest = belows-same NON_NULL_TYPE NAMED_TYPE forest refl refl
 
-type-part : (j : ℕ) (forest : Forest) → OkFrom TYPE 0 forest → belows NAMED_TYPE (shows forest) ≡ belows NAMED_TYPE (relabels forest)
+type-part : (j : ℕ) (forest : Forest) → OkFrom TYPE 0 forest
+    → belows NAMED_TYPE (shows forest) ≡ belows NAMED_TYPE (relabels forest)
     → part_of j (type_of (shows forest)) ≡ weight j NAMED_TYPE + belows NAMED_TYPE (relabels forest)
 unfolding weight
 type-part j none ok_from h = false-true type-end ok_from
@@ -119,7 +132,8 @@ mutual
     | inr e ↦ rw e (ap (λ (n : ℕ). weight j (label symbol) + n) (parts forest symbol 0 ok.1))
   ]
 
-  parts : (forest : Forest) (symbol state : ℕ) → OkFrom symbol state forest → belows (label symbol) (shows forest) ≡ nestings symbol forest
+  parts : (forest : Forest) (symbol state : ℕ) → OkFrom symbol state forest
+      → belows (label symbol) (shows forest) ≡ nestings symbol forest
   parts none symbol state ok_from = refl
   parts (tree ▸ forest) symbol state ok_from = ap₂ (λ (x y : ℕ). max x y) (part tree (label symbol) ok_from.1)
       (parts forest symbol (target symbol state (root tree) + finish tree) ok_from.2)
@@ -128,8 +142,9 @@ pub nest-show : (tree : Tree) → Ok tree → nest (show tree) ≡ nesting_all t
 unfolding weight label labels
 nest-show tree ok = part tree DOCUMENT ok ∙ ap (λ (k : ℕ). counts DOCUMENT k + below (relabel tree)) (root-relabel tree)
 
--- The greatest number of counted nodes that were open at once is the nesting of the tree in the end: a counter that a parser raises
--- to the depth at each node that it opens holds it. Below each open node are the counted nodes of the children that it has so far.
+-- The greatest number of counted nodes that were open at once is the nesting of the tree in the end: a counter that a
+-- parser raises to the depth at each node that it opens holds it. Below each open node are the counted nodes of the
+-- children that it has so far.
 abbrev pub peak : List Frame → ℕ
 peak [] = 0
 peak (frame symbol state forest ∷ fs) = max (depth_above fs symbol + nestings symbol forest) (peak fs)
@@ -144,20 +159,25 @@ pub peak-open : (symbol state child : ℕ) (forest : Forest) (fs : List Frame)
 peak-open symbol state child forest fs = omega arith
 
 pub peak-close : (symbol state p child o : ℕ) (forest more_trees : Forest) (fs : List Frame)
-    → peak (frame symbol p (forest +++ (node child more_trees ▸ none)) ∷ fs) ≡ peak (frame child o more_trees ∷ frame symbol state forest ∷ fs)
-peak-close symbol state p child o forest more_trees fs = omega (arith, nestings-then symbol forest (node child more_trees) none)
+    → peak (frame symbol p (forest +++ (node child more_trees ▸ none)) ∷ fs)
+    ≡ peak (frame child o more_trees ∷ frame symbol state forest ∷ fs)
+peak-close symbol state p child o forest more_trees fs =
+    omega (arith, nestings-then symbol forest (node child more_trees) none)
 
 leaves-checked : all_below DOCUMENT (λ l. uncounted (label l)) ≡ true
 unfolding ◌and◌ label labels member
 leaves-checked = refl
 
-pub peak-shift : (symbol state p leaf_symbol : ℕ) (text : Text) (forest : Forest) (fs : List Frame) → is_leaf leaf_symbol ≡ true
+pub peak-shift : (symbol state p leaf_symbol : ℕ) (text : Text) (forest : Forest) (fs : List Frame)
+    → is_leaf leaf_symbol ≡ true
     → peak (frame symbol p (forest +++ (leaf leaf_symbol text ▸ none)) ∷ fs) ≡ peak (frame symbol state forest ∷ fs)
 unfolding weight
 peak-shift symbol state p l text forest fs i =
-    let z = weight-none (label symbol) (label l) (below-at (λ l. uncounted (label l)) DOCUMENT l (leaf-lt l i) leaves-checked) in
+    let z = weight-none (label symbol) (label l)
+    (below-at (λ l. uncounted (label l)) DOCUMENT l (leaf-lt l i) leaves-checked) in
     omega (arith, z, nestings-then symbol forest (leaf l text) none)
 
 -- At the end it is the nesting of the tree.
-pub peak-end : (symbol state : ℕ) (forest : Forest) → peak (frame symbol state forest ∷ []) ≡ nesting_all (node symbol forest)
+pub peak-end : (symbol state : ℕ) (forest : Forest)
+    → peak (frame symbol state forest ∷ []) ≡ nesting_all (node symbol forest)
 peak-end symbol state forest = omega arith

@@ -1,11 +1,13 @@
--- Each state of a row that can be reached has a list of trees that ends it: they are exhibited, and checked by computing.
+-- Each state of a row that can be reached has a list of trees that ends it: they are exhibited, and checked by
+-- computing.
 use Rattle.std.proofs.Common.{◌≡◌, ℕ, zero, suc, ◌+◌, ◌-◌, ◌^◌, Bool, true, cond, not, eqb, List, [], ◌∷◌, get_or, refl}
 use Rattle.document_grammar.specs.Tree.{Text, Tree, leaf, node, Forest, none, ◌▸◌, root}
 use Rattle.grammar_machine.specs.Table.{rows, firsts, name_leaves}
 use Rattle.grammar_machine.proofs.generated.Follows.{name_classes}
 use Rattle.grammar_machine.proofs.generated.Samples.{endings, spellings}
 use Rattle.document_grammar.specs.Booleans.{◌and◌, ◌or◌}
-use Rattle.grammar_machine.specs.Machine.{holds, is_leaf, at, ends, exit, arcs, has, target, entries, fires, class, token, finish, text_eq}
+use Rattle.grammar_machine.specs.Machine.{holds, is_leaf, at, ends, exit, arcs, has, target, entries, fires, class}
+use Rattle.grammar_machine.specs.Machine.{token, finish, text_eq}
 use Rattle.grammar_machine.proofs.Checks.{subset, exits, all_entries, every_arc, all_below}
 use Rattle.document_grammar.specs.Kinds.{words, DOCUMENT, ERROR}
 
@@ -27,12 +29,15 @@ ending symbol state = plant (λ j. sample 7 j) (get_or (get_or endings (symbol -
 -- Trees that fit the rows, and whose leaves have the texts that are listed for them.
 abbrev mutual
   pub okb : Tree → Bool
-  okb (leaf leaf_symbol text) = is_leaf leaf_symbol and fires leaf_symbol (class (token leaf_symbol text)) 0 and text_eq (spell leaf_symbol) text
+  okb (leaf leaf_symbol text) =
+      is_leaf leaf_symbol and fires leaf_symbol (class (token leaf_symbol text)) 0 and text_eq (spell leaf_symbol) text
   okb (node symbol forest) = not (is_leaf symbol) and okb_from symbol 0 forest
 
   pub okb_from : ℕ → ℕ → Forest → Bool
   okb_from symbol state none = ends symbol state
-  okb_from symbol state (tree ▸ forest) = has symbol state (root tree) and okb tree and okb_from symbol (target symbol state (root tree) + finish tree) forest
+  okb_from symbol state (tree ▸ forest) =
+      has symbol state (root tree) and okb tree
+      and okb_from symbol (target symbol state (root tree) + finish tree) forest
 
 unfoldable pub fillable : ℕ → ℕ → Bool
 fillable symbol state = okb_from symbol state (ending symbol state)
@@ -41,12 +46,14 @@ abbrev pub fill_test : ℕ → ℕ → ℕ → Bool
 fill_test symbol child state = (is_leaf child or fillable child 0) and exits child (λ x. fillable symbol (state + x))
 
 pub fill-checked : every_arc fill_test ≡ true
-unfolding ◌and◌ ◌or◌ holds is_leaf at ends exit arcs has target entries fires class token words rows firsts exits endings spellings ending fillable
+unfolding ◌and◌ ◌or◌ holds is_leaf at ends exit arcs has target entries fires class token words rows firsts exits
+    endings spellings ending fillable
 fill-checked = refl
 
 -- The leaves' classes: those of names, or the leaf's own number.
 abbrev pub leaf_test : ℕ → Bool
-leaf_test leaf_symbol = all_entries (entries leaf_symbol) (λ x y a. cond (holds leaf_symbol name_leaves) (subset x name_classes)
+leaf_test leaf_symbol =
+    all_entries (entries leaf_symbol) (λ x y a. cond (holds leaf_symbol name_leaves) (subset x name_classes)
     (eqb x (2 ^ leaf_symbol) and not (holds leaf_symbol name_classes) and not (eqb leaf_symbol ERROR)))
 
 abbrev pub word_tests : List (ℕ × Text) → Bool

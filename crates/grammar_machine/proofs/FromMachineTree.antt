@@ -1,21 +1,25 @@
 -- A tree of the tables, shown as the tree of syntax kinds, is a derivation.
-use Rattle.std.proofs.Common.{◌≡◌, ℕ, ◌+◌, Bool, true, false, cond, not, eqb, List, [], ◌∷◌, refl, sym, ap, ap₂, ◌∙◌, subst, ◌⊎◌, inl, inr, true≢false}
-use Rattle.std.proofs.Common.{eqb-true}
+use Rattle.std.proofs.Common.{◌≡◌, ℕ, ◌+◌, Bool, true, false, cond, not, eqb, List, [], ◌∷◌, refl, sym, ap, ap₂, ◌∙◌}
+use Rattle.std.proofs.Common.{subst, ◌⊎◌, inl, inr, true≢false, eqb-true}
 use Rattle.std.proofs.lemmas.Bool.{false_from_ne_true}
 use Rattle.document_grammar.specs.Tree.{Tree, leaf, node, Forest, none, ◌▸◌, root}
 use Rattle.document_grammar.specs.Pattern.{Pattern, any_of, nothing, ◌then◌, ◌or_else◌, many, member, Matches}
 use Rattle.grammar_machine.specs.Table.{State, rows}
 use Rattle.grammar_machine.proofs.generated.Labels.{labels}
 use Rattle.document_grammar.specs.Booleans.{◌and◌, ◌or◌}
-use Rattle.grammar_machine.specs.Machine.{is_leaf, at, ends, arcs, has, has_in, target, target_in, state_arcs, finish, Ok, OkFrom}
+use Rattle.grammar_machine.specs.Machine.{is_leaf, at, ends, arcs, has, has_in, target, target_in, state_arcs, finish}
+use Rattle.grammar_machine.specs.Machine.{Ok, OkFrom}
 use Rattle.document_grammar.specs.Derivation.{kinds}
 use Rattle.grammar_machine.proofs.Checks.{exits}
-use Rattle.document_grammar.proofs.Booleans.{false-true, and-l, and-r, or-c, or-l, or-r, implies, either, eqb-refl, same-bool}
+use Rattle.document_grammar.proofs.Booleans.{false-true, and-l, and-r, or-c, or-l, or-r, implies, either, eqb-refl}
+use Rattle.document_grammar.proofs.Booleans.{same-bool}
 use Rattle.grammar_machine.proofs.TableLemmas.{arcs-at, exits-at, state-test, text-same}
 use Rattle.document_grammar.proofs.Nullable.{nullable}
-use Rattle.grammar_machine.proofs.Patterns.{deriv, pattern_eq, pattern_of, label, shown, all_kinds, any_arcs, constant, begin_kinds, no_arc, is_live, agree_at}
-use Rattle.grammar_machine.proofs.Patterns.{agree-checked, nullable-from, from-deriv}
-use Rattle.document_grammar.specs.Kinds.{VARIABLE, NAMED_TYPE, LIST_TYPE, NON_NULL_TYPE, DOCUMENT, SELECTION_SET, DEFAULT_VALUE, FRAGMENT_NAME, ENUM_VALUE}
+use Rattle.grammar_machine.proofs.Patterns.{deriv, pattern_eq, pattern_of, label, shown, all_kinds, any_arcs, constant}
+use Rattle.grammar_machine.proofs.Patterns.{begin_kinds, no_arc, is_live, agree_at, agree-checked, nullable-from}
+use Rattle.grammar_machine.proofs.Patterns.{from-deriv}
+use Rattle.document_grammar.specs.Kinds.{VARIABLE, NAMED_TYPE, LIST_TYPE, NON_NULL_TYPE, DOCUMENT, SELECTION_SET}
+use Rattle.document_grammar.specs.Kinds.{DEFAULT_VALUE, FRAGMENT_NAME, ENUM_VALUE}
 use Rattle.grammar_machine.specs.Symbols.{TYPE, BARE_SELECTIONS}
 
 -- A type's node is shown as its child, or with `!` as a NON_NULL_TYPE.
@@ -41,9 +45,11 @@ pub pattern-same : (pattern other_pattern : Pattern) → pattern_eq pattern othe
 pattern-same (any_of ks) (any_of ls) h = ap any_of (text-same ks ls h)
 pattern-same nothing nothing h = refl
 pattern-same (pattern then other_pattern) (third_pattern then fourth_pattern) h =
-    ap₂ (λ x y. x then y) (pattern-same pattern third_pattern (and-l _ _ h)) (pattern-same other_pattern fourth_pattern (and-r _ _ h))
+    ap₂ (λ x y. x then y) (pattern-same pattern third_pattern (and-l _ _ h))
+    (pattern-same other_pattern fourth_pattern (and-r _ _ h))
 pattern-same (pattern or_else other_pattern) (third_pattern or_else fourth_pattern) h =
-    ap₂ (λ x y. x or_else y) (pattern-same pattern third_pattern (and-l _ _ h)) (pattern-same other_pattern fourth_pattern (and-r _ _ h))
+    ap₂ (λ x y. x or_else y) (pattern-same pattern third_pattern (and-l _ _ h))
+    (pattern-same other_pattern fourth_pattern (and-r _ _ h))
 pattern-same (many pattern) (many other_pattern) h = ap many (pattern-same pattern other_pattern h)
 pattern-same _ _ h = absurd (true≢false (sym h))
 
@@ -64,23 +70,28 @@ pub type-arc : (child : ℕ) → has TYPE 0 child ≡ true → (child ≡ NAMED_
 unfolding has arcs at rows ◌or◌
 type-arc child h = elim (or-c (eqb NAMED_TYPE child) (eqb LIST_TYPE child or false) h) [
   | inl p ↦ inl (sym (eqb-true _ _ p))
-  | inr p ↦ elim (or-c (eqb LIST_TYPE child) false p) [ inl q ↦ inr (sym (eqb-true _ _ q)) | inr q ↦ absurd (true≢false (sym q)) ]
+  | inr p ↦ elim (or-c (eqb LIST_TYPE child) false p)
+      [ inl q ↦ inr (sym (eqb-true _ _ q)) | inr q ↦ absurd (true≢false (sym q)) ]
 ]
 
 pub type-end : ends TYPE 0 ≡ false
 unfolding ends at rows
 type-end = refl
 
-pub show-root : (symbol : ℕ) (forest : Forest) → eqb symbol TYPE ≡ false → show (node symbol forest) ≡ node (label symbol) (shows forest)
+pub show-root : (symbol : ℕ) (forest : Forest) → eqb symbol TYPE ≡ false
+    → show (node symbol forest) ≡ node (label symbol) (shows forest)
 show-root symbol forest e = rw e refl
 
 -- Symbols that are nodes, and what some symbols are shown as.
-pub node-symbols : (is_leaf DOCUMENT ≡ false) × (is_leaf SELECTION_SET ≡ false) × (is_leaf BARE_SELECTIONS ≡ false) × (is_leaf TYPE ≡ false)
+pub node-symbols : (is_leaf DOCUMENT ≡ false) × (is_leaf SELECTION_SET ≡ false) × (is_leaf BARE_SELECTIONS ≡ false)
+    × (is_leaf TYPE ≡ false)
 unfolding is_leaf
 node-symbols = (refl, refl, refl, refl)
 
-pub labels-checked : (label NAMED_TYPE ≡ NAMED_TYPE) × (label LIST_TYPE ≡ LIST_TYPE) × (label TYPE ≡ NAMED_TYPE) × (label DOCUMENT ≡ DOCUMENT)
-    × (label SELECTION_SET ≡ SELECTION_SET) × (label BARE_SELECTIONS ≡ SELECTION_SET) × (label DEFAULT_VALUE ≡ DEFAULT_VALUE)
+pub labels-checked : (label NAMED_TYPE ≡ NAMED_TYPE) × (label LIST_TYPE ≡ LIST_TYPE) × (label TYPE ≡ NAMED_TYPE)
+    × (label DOCUMENT ≡ DOCUMENT)
+    × (label SELECTION_SET ≡ SELECTION_SET) × (label BARE_SELECTIONS ≡ SELECTION_SET)
+    × (label DEFAULT_VALUE ≡ DEFAULT_VALUE)
     × (label FRAGMENT_NAME ≡ FRAGMENT_NAME) × (label ENUM_VALUE ≡ ENUM_VALUE)
 unfolding label labels
 labels-checked = (refl, refl, refl, refl, refl, refl, refl, refl, refl)
@@ -89,9 +100,11 @@ pub shown-one : (child : ℕ) → eqb child TYPE ≡ false → member (label chi
 unfolding shown member
 shown-one child e = rw (e, eqb-refl (label child)) refl
 
-pub type-child : (tree : Tree) → Ok tree → (root tree ≡ NAMED_TYPE) ⊎ (root tree ≡ LIST_TYPE) → (root (show tree) ≡ NAMED_TYPE) ⊎ (root (show tree) ≡ LIST_TYPE)
+pub type-child : (tree : Tree) → Ok tree → (root tree ≡ NAMED_TYPE) ⊎ (root tree ≡ LIST_TYPE)
+    → (root (show tree) ≡ NAMED_TYPE) ⊎ (root (show tree) ≡ LIST_TYPE)
 unfolding is_leaf
-type-child (leaf leaf_symbol text) ok h = elim h [ inl p ↦ false-true refl (rw p at ok.0) | inr p ↦ false-true refl (rw p at ok.0) ]
+type-child (leaf leaf_symbol text) ok h =
+    elim h [ inl p ↦ false-true refl (rw p at ok.0) | inr p ↦ false-true refl (rw p at ok.0) ]
 type-child (node symbol forest) ok h = elim h [
   | inl p ↦ inl (subst (λ (n : ℕ). root (build n (shows forest)) ≡ NAMED_TYPE) (sym p) labels-checked.0)
   | inr p ↦ inr (subst (λ (n : ℕ). root (build n (shows forest)) ≡ LIST_TYPE) (sym p) labels-checked.1)
@@ -100,7 +113,8 @@ type-child (node symbol forest) ok h = elim h [
 type-root : (forest : Forest) → OkFrom TYPE 0 forest → member (root (type_of (shows forest))) (shown TYPE) ≡ true
 unfolding shown member
 type-root none ok_from = false-true type-end ok_from
-type-root (tree ▸ none) ok_from = elim (type-child tree ok_from.1 (type-arc (root tree) ok_from.0)) [ inl p ↦ rw p refl | inr p ↦ rw p refl ]
+type-root (tree ▸ none) ok_from =
+    elim (type-child tree ok_from.1 (type-arc (root tree) ok_from.0)) [ inl p ↦ rw p refl | inr p ↦ rw p refl ]
 type-root (tree ▸ (other_tree ▸ forest)) ok_from = refl
 
 pub shown-root : (tree : Tree) → Ok tree → member (root (show tree)) (shown (root tree)) ≡ true
@@ -131,35 +145,46 @@ unfolding ends
 ends-live symbol state h = or-l _ _ h
 
 -- What the agreement says of the end, of an arc, and of a kind.
-pub agree-ends : (symbol state : ℕ) → agree_at symbol state ≡ true → nullable (pattern_of symbol state) ≡ ends symbol state
+pub agree-ends : (symbol state : ℕ) → agree_at symbol state ≡ true
+    → nullable (pattern_of symbol state) ≡ ends symbol state
 unfolding agree_at
 agree-ends symbol state a = same-bool _ _ (and-l _ _ (and-l _ _ a))
 
-pub agree-arc : (symbol state j : ℕ) (tree : Tree) → agree_at symbol state ≡ true → has symbol state (root tree) ≡ true → Ok tree
+pub agree-arc : (symbol state j : ℕ) (tree : Tree) → agree_at symbol state ≡ true
+    → has symbol state (root tree) ≡ true → Ok tree
     → member j (shown (root tree)) ≡ true
     → deriv (pattern_of symbol state) j ≡ pattern_of symbol (target symbol state (root tree) + finish tree)
 unfolding agree_at has target
 agree-arc symbol state j tree a h ok m =
     let c = arcs-at (arcs symbol state) (λ k p. all_kinds (shown k) (λ j. exits k
-    (λ x. pattern_eq (deriv (pattern_of symbol state) j) (pattern_of symbol (p + x))))) (root tree) (and-r _ _ (and-l _ _ a)) h in
+    (λ x. pattern_eq (deriv (pattern_of symbol state) j) (pattern_of symbol (p + x))))) (root tree)
+    (and-r _ _ (and-l _ _ a)) h in
     let d = kinds-at (shown (root tree)) (λ j. exits (root tree) (λ x. pattern_eq (deriv (pattern_of symbol state) j)
     (pattern_of symbol (target_in (arcs symbol state) (root tree) + x)))) j c m in
-    pattern-same _ _ (exits-at tree (λ x. pattern_eq (deriv (pattern_of symbol state) j) (pattern_of symbol (target_in (arcs symbol state) (root tree) + x))) d
+    pattern-same _ _ (exits-at tree
+    (λ x. pattern_eq (deriv (pattern_of symbol state) j)
+    (pattern_of symbol (target_in (arcs symbol state) (root tree) + x))) d
     ok)
 
-pub agree-kind : (symbol state j : ℕ) → agree_at symbol state ≡ true → member j (begin_kinds (pattern_of symbol state)) ≡ true
+pub agree-kind : (symbol state j : ℕ) → agree_at symbol state ≡ true
+    → member j (begin_kinds (pattern_of symbol state)) ≡ true
     → ((constant symbol and eqb j VARIABLE) or any_arcs (arcs symbol state) (λ k p. member j (shown k))) ≡ true
 unfolding agree_at
 agree-kind symbol state j a m = kinds-at (begin_kinds (pattern_of symbol state))
-    (λ j. (constant symbol and eqb j VARIABLE) or any_arcs (arcs symbol state) (λ k p. member j (shown k))) j (and-r _ _ a) m
+    (λ j. (constant symbol and eqb j VARIABLE) or any_arcs (arcs symbol state) (λ k p. member j (shown k)))
+    j (and-r _ _ a) m
 
 pub row-shown : (symbol state : ℕ) (forest : Forest) → is_leaf symbol ≡ false → OkFrom symbol state forest
     → Matches (pattern_of symbol state) (kinds (shows forest))
 row-shown symbol state none l ok_from = nullable-from (pattern_of symbol state)
     (agree-ends symbol state (agree symbol state l (ends-live symbol state ok_from)) ∙ ok_from)
 row-shown symbol state (tree ▸ forest) l ok_from =
-    let matches : Matches (pattern_of symbol (target symbol state (root tree) + finish tree)) (kinds (shows forest)) = row-shown symbol
+    let matches : Matches (pattern_of symbol (target symbol state (root tree) + finish tree)) (kinds (shows forest)) =
+    row-shown symbol
     (target symbol state (root tree) + finish tree) forest l ok_from.2 in
-    let d : deriv (pattern_of symbol state) (root (show tree)) ≡ pattern_of symbol (target symbol state (root tree) + finish tree) = agree-arc symbol state
-    (root (show tree)) tree (agree symbol state l (has-live symbol state (root tree) ok_from.0)) ok_from.0 ok_from.1 (shown-root tree ok_from.1) in
-    from-deriv (pattern_of symbol state) (root (show tree)) (kinds (shows forest)) (subst (λ (p : Pattern). Matches p (kinds (shows forest))) (sym d) matches)
+    let d : deriv (pattern_of symbol state) (root (show tree))
+    ≡ pattern_of symbol (target symbol state (root tree) + finish tree) = agree-arc symbol state
+    (root (show tree)) tree (agree symbol state l (has-live symbol state (root tree) ok_from.0)) ok_from.0 ok_from.1
+    (shown-root tree ok_from.1) in
+    from-deriv (pattern_of symbol state) (root (show tree)) (kinds (shows forest))
+    (subst (λ (p : Pattern). Matches p (kinds (shows forest))) (sym d) matches)

@@ -1,13 +1,15 @@
 -- The theorems on the tables: acceptance, soundness, one tree, no late fault, no early fault.
-use Rattle.std.proofs.Common.{◌≡◌, ℕ, Bool, true, false, not, List, [], ◌∷◌, ◌++◌, refl, sym, ◌∙◌, subst, append-nil, ap}
+use Rattle.std.proofs.Common.{◌≡◌, ℕ, Bool, true, false, not, List, [], ◌∷◌, ◌++◌, refl, sym, ◌∙◌, subst, append-nil}
+use Rattle.std.proofs.Common.{ap}
 use Rattle.std.proofs.lemmas.List.{append_cancel_right}
 use Rattle.document_grammar.specs.Tree.{Token, Tree, leaf, node, Forest, root}
 use Rattle.grammar_machine.specs.Table.{rows, firsts}
 use Rattle.grammar_machine.proofs.generated.Follows.{follows}
 use Rattle.grammar_machine.proofs.generated.Samples.{endings, spellings}
 use Rattle.document_grammar.specs.Booleans.{◌and◌, ◌or◌}
-use Rattle.grammar_machine.specs.Machine.{holds, is_leaf, at, ends, exit, arcs, has, target, entries, fires, close, stuck, class, first, second, token, yield}
-use Rattle.grammar_machine.specs.Machine.{yields, Ok, Run, Frame, frame, Reach}
+use Rattle.grammar_machine.specs.Machine.{holds, is_leaf, at, ends, exit, arcs, has, target, entries, fires, close}
+use Rattle.grammar_machine.specs.Machine.{stuck, class, first, second, token, yield, yields, Ok, Run, Frame, frame}
+use Rattle.grammar_machine.specs.Machine.{Reach}
 use Rattle.grammar_machine.proofs.Checks.{exits, follow}
 use Rattle.document_grammar.proofs.Booleans.{and-l, and-r, not-c, false-true}
 use Rattle.grammar_machine.proofs.TableLemmas.{exits-at}
@@ -24,16 +26,20 @@ Parse start_symbol tree tokens = Ok tree × (root tree ≡ start_symbol) × (yie
 
 -- The symbols with which a parse may begin: no leaf, with an end, and with the end of the text after it.
 unfoldable pub begins_parse : ℕ → Bool
-begins_parse start_symbol = not (is_leaf start_symbol) and fillable start_symbol 0 and exits start_symbol (λ x. holds 0 (follow start_symbol x))
+begins_parse start_symbol =
+    not (is_leaf start_symbol) and fillable start_symbol 0 and exits start_symbol (λ x. holds 0 (follow start_symbol x))
 
 pub document-begins : begins_parse DOCUMENT ≡ true
-unfolding begins_parse ◌and◌ ◌or◌ holds is_leaf at ends exit arcs has target entries fires class token words rows firsts follows follow exits endings spellings
+unfolding begins_parse ◌and◌ ◌or◌ holds is_leaf at ends exit arcs has target entries fires class token words rows firsts
+    follows follow exits endings spellings
     ending fillable
 document-begins = refl
 
 -- The same of a selection set, of one without braces, and of a type.
-pub fragments-begin : (begins_parse SELECTION_SET ≡ true) × (begins_parse BARE_SELECTIONS ≡ true) × (begins_parse TYPE ≡ true)
-unfolding begins_parse ◌and◌ ◌or◌ holds is_leaf at ends exit arcs has target entries fires class token words rows firsts follows follow exits endings spellings
+pub fragments-begin : (begins_parse SELECTION_SET ≡ true) × (begins_parse BARE_SELECTIONS ≡ true)
+    × (begins_parse TYPE ≡ true)
+unfolding begins_parse ◌and◌ ◌or◌ holds is_leaf at ends exit arcs has target entries fires class token words rows firsts
+    follows follow exits endings spellings
     ending fillable
 fragments-begin = (refl, refl, refl)
 
@@ -51,51 +57,69 @@ module _ (start_symbol : ℕ) (b : begins_parse start_symbol ≡ true) where
   unfolding begins_parse
   can-end = and-r _ _ (and-l _ _ b)
 
-  pub on-the-way : (tree : Tree) (tokens : List Token) (fs : List Frame) (rest : List Token) → Parse start_symbol tree tokens
+  pub on-the-way : (tree : Tree) (tokens : List Token) (fs : List Frame) (rest : List Token)
+      → Parse start_symbol tree tokens
       → Reach start_symbol tokens fs rest → Left fs rest tree
-  on-the-way (leaf leaf_symbol text) tokens fs rest parse reach = false-true no-leaf (subst (λ (n : ℕ). is_leaf n ≡ true) parse.1 parse.0.0)
-  on-the-way (node symbol forest) tokens fs rest parse reach = subst (λ (n : ℕ). Left fs rest (node n forest)) (sym parse.1)
-      (reach-left reach forest (subst (λ (n : ℕ). Run (node n forest) []) parse.1 (runs (node symbol forest) tokens parse)) parse.2)
+  on-the-way (leaf leaf_symbol text) tokens fs rest parse reach =
+      false-true no-leaf (subst (λ (n : ℕ). is_leaf n ≡ true) parse.1 parse.0.0)
+  on-the-way (node symbol forest) tokens fs rest parse reach =
+      subst (λ (n : ℕ). Left fs rest (node n forest)) (sym parse.1)
+      (reach-left reach forest
+      (subst (λ (n : ℕ). Run (node n forest) []) parse.1 (runs (node symbol forest) tokens parse)) parse.2)
 
   -- One derivation.
-  pub one-tree : (tree other_tree : Tree) (tokens : List Token) → Parse start_symbol tree tokens → Parse start_symbol other_tree tokens → tree ≡ other_tree
-  one-tree tree other_tree tokens parse second_parse = (same-tree tree other_tree [] [] (parse.1 ∙ sym second_parse.1) (runs tree tokens parse)
-      (runs other_tree tokens second_parse) (append-nil (yield tree) ∙ (parse.2 ∙ (sym second_parse.2 ∙ sym (append-nil (yield other_tree)))))).0
+  pub one-tree : (tree other_tree : Tree) (tokens : List Token) → Parse start_symbol tree tokens
+      → Parse start_symbol other_tree tokens → tree ≡ other_tree
+  one-tree tree other_tree tokens parse second_parse =
+      (same-tree tree other_tree [] [] (parse.1 ∙ sym second_parse.1) (runs tree tokens parse)
+      (runs other_tree tokens second_parse)
+      (append-nil (yield tree) ∙ (parse.2 ∙ (sym second_parse.2 ∙ sym (append-nil (yield other_tree)))))).0
 
   -- Acceptance: on the way through the tokens of a tree the machine is never stuck.
-  pub never-stuck : (tree : Tree) (tokens : List Token) (symbol state : ℕ) (forest : Forest) (fs : List Frame) (rest : List Token)
+  pub never-stuck : (tree : Tree) (tokens : List Token) (symbol state : ℕ) (forest : Forest)
+      (fs : List Frame) (rest : List Token)
       → Parse start_symbol tree tokens
       → Reach start_symbol tokens (frame symbol state forest ∷ fs) rest → next symbol state rest ≡ stuck → ⊥
   never-stuck tree tokens symbol state forest fs rest parse reach m = left-stuck symbol state forest fs rest tree
       (on-the-way tree tokens (frame symbol state forest ∷ fs) rest parse reach) m
 
   -- Soundness: where the first symbol's node ends, it is a tree of the tokens before.
-  pub done : (tokens : List Token) (state : ℕ) (forest : Forest) (rest : List Token) → Reach start_symbol tokens (frame start_symbol state forest ∷ []) rest
+  pub done : (tokens : List Token) (state : ℕ) (forest : Forest) (rest : List Token)
+      → Reach start_symbol tokens (frame start_symbol state forest ∷ []) rest
       → next start_symbol state rest ≡ close
       → (tokens ≡ yields forest ++ rest) × Parse start_symbol (node start_symbol forest) (yields forest)
   done tokens state forest rest reach m =
-      let h = reach-sound no-leaf reach in
-      (reach-spent reach, ((h.0, path-ok start_symbol 0 state forest h.1 (move-ends start_symbol state _ _ m)), refl, refl))
+      let h = reach-sound no-leaf reach in (
+        reach-spent reach,
+        (
+          (h.0, path-ok start_symbol 0 state forest h.1 (move-ends start_symbol state _ _ m)),
+          refl,
+          refl,
+        ),
+      )
 
   -- Over the tokens of a tree it ends after all of them, and is that tree.
-  pub done-all : (tree : Tree) (tokens : List Token) (state : ℕ) (forest : Forest) (rest : List Token) → Parse start_symbol tree tokens
+  pub done-all : (tree : Tree) (tokens : List Token) (state : ℕ) (forest : Forest) (rest : List Token)
+      → Parse start_symbol tree tokens
       → Reach start_symbol tokens (frame start_symbol state forest ∷ []) rest
       → next start_symbol state rest ≡ close → (rest ≡ []) × (node start_symbol forest ≡ tree)
   done-all tree tokens state forest rest parse reach m = left-done start_symbol state forest rest tree
       (on-the-way tree tokens (frame start_symbol state forest ∷ []) rest parse reach) m
 
-  -- What is said of the first fault, before the tokens `rest`: the tokens before it begin a tree, and no tree's tokens begin with
-  -- them and go on with the next two.
+  -- What is said of the first fault, before the tokens `rest`: the tokens before it begin a tree, and no tree's tokens
+  -- begin with them and go on with the next two.
   pub record Fault (tokens rest : List Token) : Type 0 where
     pub before : List Token
     pub split : tokens ≡ before ++ rest
     pub not_late : Whole start_symbol before
-    pub not_early : (tree : Tree) (these_tokens : List Token) → Parse start_symbol tree (before ++ these_tokens) → first rest ≡ first these_tokens
+    pub not_early : (tree : Tree) (these_tokens : List Token) → Parse start_symbol tree (before ++ these_tokens)
+        → first rest ≡ first these_tokens
         → second rest ≡ second these_tokens → ⊥
 
   -- a fault wherever no tree goes on so
   faulty : (tokens : List Token) (fs : List Frame) (rest : List Token) → Reach start_symbol tokens fs rest
-      → ((tree : Tree) (more others : List Token) → Parse start_symbol tree (more ++ others) → Reach start_symbol (more ++ others) fs others
+      → ((tree : Tree) (more others : List Token) → Parse start_symbol tree (more ++ others)
+      → Reach start_symbol (more ++ others) fs others
       → first rest ≡ first others → second rest ≡ second others → ⊥) → Fault tokens rest
   faulty tokens fs rest reach none =
       let o = reach-other reach in
@@ -123,4 +147,5 @@ module _ (start_symbol : ℕ) (b : begins_parse start_symbol ≡ true) where
 
   -- So there is no fault before the end of the tokens of a tree.
   pub no-fault : (tree : Tree) (tokens rest : List Token) → Parse start_symbol tree tokens → Fault tokens rest → ⊥
-  no-fault tree tokens rest parse h = h.not_early tree rest (subst (λ (z : List Token). Parse start_symbol tree z) h.split parse) refl refl
+  no-fault tree tokens rest parse h =
+      h.not_early tree rest (subst (λ (z : List Token). Parse start_symbol tree z) h.split parse) refl refl

@@ -1,13 +1,15 @@
--- Worked texts: sentences with the nesting of their derivations, near misses that are not, and tokens that start no sentence.
+-- Worked texts: sentences with the nesting of their derivations, near misses that are not, and tokens that start no
+-- sentence.
 use Rattle.std.proofs.Common.{ℕ, List, [], ◌∷◌, refl}
 use Prim.Native.String.{String}
 use Rattle.std.specs.Prelude.{codes}
 use Rattle.std.specs.Str.{chars}
 use Rattle.lexical_grammar.specs.Reads.{items_from}
 use Rattle.document_grammar.specs.Tree.{Token, leaf, node, none, ◌▸◌}
-use Rattle.document_grammar.specs.Kinds.{L_PAREN, R_PAREN, L_CURLY, R_CURLY, IDENT, STRING, query_KW, fragment_KW, on_KW, extend_KW, type_KW, words, DOCUMENT}
-use Rattle.document_grammar.specs.Kinds.{OPERATION_DEFINITION, SELECTION_SET, FIELD, NAME, UNION_TYPE_DEFINITION, union_KW, NON_NULL_TYPE, LIST_TYPE}
-use Rattle.document_grammar.specs.Kinds.{NAMED_TYPE, L_BRACK, R_BRACK, BANG}
+use Rattle.document_grammar.specs.Kinds.{L_PAREN, R_PAREN, L_CURLY, R_CURLY, IDENT, STRING, query_KW, fragment_KW}
+use Rattle.document_grammar.specs.Kinds.{on_KW, extend_KW, type_KW, words, DOCUMENT, OPERATION_DEFINITION}
+use Rattle.document_grammar.specs.Kinds.{SELECTION_SET, FIELD, NAME, UNION_TYPE_DEFINITION, union_KW, NON_NULL_TYPE}
+use Rattle.document_grammar.specs.Kinds.{LIST_TYPE, NAMED_TYPE, L_BRACK, R_BRACK, BANG}
 use Rattle.document_grammar.specs.Pattern.{member}
 use Rattle.grammar_machine.specs.Table.{rows, firsts}
 use Rattle.grammar_machine.proofs.generated.Samples.{spellings}
@@ -15,16 +17,18 @@ use Rattle.grammar_machine.proofs.generated.Labels.{labels}
 use Rattle.document_grammar.specs.Derivation.{document, selections, type, word, end}
 use Rattle.document_grammar.specs.Beginnings.{Starts}
 use Rattle.document_grammar.specs.Booleans.{◌and◌, ◌or◌}
-use Rattle.grammar_machine.specs.Machine.{holds, is_leaf, at, ends, exit, arcs, has, target, entries, fires, move, class, first, second}
+use Rattle.grammar_machine.specs.Machine.{holds, is_leaf, at, ends, exit, arcs, has, target, entries, fires, move}
+use Rattle.grammar_machine.specs.Machine.{class, first, second}
 use Rattle.document_grammar.specs.Sentence.{Sentence}
 use Rattle.grammar_machine.proofs.Endings.{spell}
 use Rattle.grammar_machine.proofs.Patterns.{label}
-use Rattle.grammar_machine.proofs.Worked.{walked, tree_read, is_read, is_refused, refused, AllWorked, NoSentences, works, fails, all_work, all_fail}
-use Rattle.grammar_machine.proofs.Worked.{is-sentence, all-worked, no-sentences}
+use Rattle.grammar_machine.proofs.Worked.{walked, tree_read, is_read, is_refused, refused, AllWorked, NoSentences}
+use Rattle.grammar_machine.proofs.Worked.{works, fails, all_work, all_fail, is-sentence, all-worked, no-sentences}
 
 -- All that reading computes with, under one name.
 unfoldable running : Unit {0}
-unfolding ◌and◌ ◌or◌ holds is_leaf at ends exit arcs has target entries fires move class first second rows firsts spellings words member label labels walked
+unfolding ◌and◌ ◌or◌ holds is_leaf at ends exit arcs has target entries fires move class first second rows firsts
+    spellings words member label labels walked
     tree_read is_read is_refused works fails all_work all_fail items_from chars
 running = tt
 
@@ -36,12 +40,14 @@ unfolding running
 braces = is-sentence document 30 (codes "{a}") refl
 
 union-tree : Sentence (codes "union A")
-    (node DOCUMENT (node UNION_TYPE_DEFINITION (leaf union_KW (codes "union") ▸ node NAME (leaf IDENT (codes "A") ▸ none) ▸ none) ▸ none)) document
+    (node DOCUMENT (node UNION_TYPE_DEFINITION
+    (leaf union_KW (codes "union") ▸ node NAME (leaf IDENT (codes "A") ▸ none) ▸ none) ▸ none)) document
 unfolding running
 union-tree = is-sentence document 30 (codes "union A") refl
 
 type-tree : Sentence (codes "[A]!")
-    (node NON_NULL_TYPE (node LIST_TYPE (leaf L_BRACK (codes "[") ▸ node NAMED_TYPE (node NAME (leaf IDENT (codes "A") ▸ none) ▸ none) ▸ leaf R_BRACK
+    (node NON_NULL_TYPE (node LIST_TYPE
+    (leaf L_BRACK (codes "[") ▸ node NAMED_TYPE (node NAME (leaf IDENT (codes "A") ▸ none) ▸ none) ▸ leaf R_BRACK
     (codes "]") ▸ none) ▸ leaf BANG (codes "!") ▸ none)) type
 unfolding running
 type-tree = is-sentence type 30 (codes "[A]!") refl
@@ -176,9 +182,11 @@ abbrev T : Token
 T = (IDENT, codes "T")
 
 -- `query("" )` before `{`; `"" {`; `"" fragment on T`; `extend a`; `type T { a }` and the end: these begin no document.
-variable-not-started : Starts document (word (kw query_KW) ∷ word (t L_PAREN) ∷ word (t STRING) ∷ word (t R_PAREN) ∷ word (t L_CURLY) ∷ []) → ⊥
+variable-not-started : Starts document
+    (word (kw query_KW) ∷ word (t L_PAREN) ∷ word (t STRING) ∷ word (t R_PAREN) ∷ word (t L_CURLY) ∷ []) → ⊥
 unfolding running
-variable-not-started = refused document 30 (kw query_KW ∷ t L_PAREN ∷ t STRING ∷ []) (t R_PAREN ∷ t L_CURLY ∷ []) refl refl
+variable-not-started = refused document 30 (kw query_KW ∷ t L_PAREN ∷ t STRING ∷ []) (t R_PAREN ∷ t L_CURLY ∷ [])
+    refl refl
 
 description-not-started : Starts document (word (t STRING) ∷ word (t L_CURLY) ∷ []) → ⊥
 unfolding running
@@ -192,6 +200,7 @@ extend-name-not-started : Starts document (word (kw extend_KW) ∷ word a ∷ []
 unfolding running
 extend-name-not-started = refused document 30 [] (kw extend_KW ∷ a ∷ []) refl refl
 
-no-type-not-started : Starts document (word (kw type_KW) ∷ word T ∷ word (t L_CURLY) ∷ word a ∷ word (t R_CURLY) ∷ end ∷ []) → ⊥
+no-type-not-started : Starts document
+    (word (kw type_KW) ∷ word T ∷ word (t L_CURLY) ∷ word a ∷ word (t R_CURLY) ∷ end ∷ []) → ⊥
 unfolding running
 no-type-not-started = refused document 40 (kw type_KW ∷ T ∷ t L_CURLY ∷ a ∷ []) (t R_CURLY ∷ []) refl refl

@@ -1,5 +1,7 @@
--- The machine's node of a type: where no `!` follows it, it is shown as its one child, and else as a NON_NULL_TYPE, which fits its row.
-use Rattle.std.proofs.Common.{◌≡◌, ℕ, ◌+◌, true, eqb, List, ◌∷◌, ◌++◌, refl, sym, ap₂, ◌∙◌, subst, inl, inr, arith, eqb-true}
+-- The machine's node of a type: where no `!` follows it, it is shown as its one child, and else as a NON_NULL_TYPE,
+-- which fits its row.
+use Rattle.std.proofs.Common.{◌≡◌, ℕ, ◌+◌, true, eqb, List, ◌∷◌, ◌++◌, refl, sym, ap₂, ◌∙◌, subst, inl, inr, arith}
+use Rattle.std.proofs.Common.{eqb-true}
 use Rattle.document_grammar.specs.Tree.{Tree, Forest, none, ◌▸◌, root}
 use Rattle.document_grammar.specs.Pattern.{Pattern, member, Matches}
 use Rattle.document_grammar.specs.Rows.{Row}
@@ -38,7 +40,8 @@ two-children a b w v e matches = elim matches.4 [
   | inr x ↦ no-cons (sym (tail-same (sym e ∙ (matches.2 ∙ ap₂ (λ (x y : List ℕ). x ++ y) matches.3.2 x))))
 ]
 
-rules-non_null_type : (forest : Forest) → NameRule NON_NULL_TYPE forest × ConstantRule NON_NULL_TYPE forest × (◌≡◌ {A = ℕ} NON_NULL_TYPE DOCUMENT
+rules-non_null_type : (forest : Forest)
+    → NameRule NON_NULL_TYPE forest × ConstantRule NON_NULL_TYPE forest × (◌≡◌ {A = ℕ} NON_NULL_TYPE DOCUMENT
     → BraceRule forest)
 unfolding member
 rules-non_null_type forest = (
@@ -54,7 +57,8 @@ type-fits (tree ▸ (other_tree ▸ forest)) ok_from all_fit =
     let matches : Matches type_row (kinds (shows (tree ▸ (other_tree ▸ forest)))) = subst
     (λ (p : Pattern). Matches p (kinds (shows (tree ▸ (other_tree ▸ forest))))) type-pattern
     (row-shown TYPE 0 (tree ▸ (other_tree ▸ forest)) node-symbols.3 ok_from) in
-    let second_matches : Matches (Row NON_NULL_TYPE) (kinds (shows (tree ▸ (other_tree ▸ forest)))) = two-children (root (show tree))
+    let second_matches : Matches (Row NON_NULL_TYPE) (kinds (shows (tree ▸ (other_tree ▸ forest)))) =
+    two-children (root (show tree))
     (root (show other_tree)) _ _ refl matches in
     let r = rules-non_null_type (show tree ▸ (show other_tree ▸ shows forest)) in
     (second_matches, r.0, r.1, r.2, all_fit)

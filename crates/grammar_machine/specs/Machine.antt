@@ -1,5 +1,6 @@
 -- The machine that reads a list of significant tokens by the rows, with two tokens of lookahead.
-use Rattle.std.specs.Prelude.{◌≡◌, ℕ, ◌+◌, ◌-◌, Bool, true, false, cond, eqb, ltb, List, [], ◌∷◌, ◌++◌, get_or, IsTrue, IsFalse}
+use Rattle.std.specs.Prelude.{◌≡◌, ℕ, ◌+◌, ◌-◌, Bool, true, false, cond, eqb, ltb, List, [], ◌∷◌, ◌++◌, get_or, IsTrue}
+use Rattle.std.specs.Prelude.{IsFalse}
 use Rattle.std.specs.Int.{bit_at}
 use Rattle.document_grammar.specs.Booleans.{◌and◌, ◌or◌}
 use Rattle.document_grammar.specs.Tree.{Text, Token, Tree, leaf, node, Forest, none, ◌▸◌, ◌+++◌, root}
@@ -85,8 +86,8 @@ unfoldable pub move : ℕ → ℕ → ℕ → ℕ → Move
 unfolding arcs ends
 move symbol row_state near far = choose (arcs symbol row_state) (ends symbol row_state) near far
 
--- Classes of tokens: a Name that is a word has the word's class, another Name the class of IDENT, any other token its kind's. The end
--- has class 0.
+-- Classes of tokens: a Name that is a word has the word's class, another Name the class of IDENT, any other token its
+-- kind's. The end has class 0.
 abbrev pub text_eq : Text → Text → Bool
 text_eq [] [] = true
 text_eq [] (b ∷ bs) = false
@@ -98,7 +99,8 @@ word_class [] text = IDENT
 word_class (w ∷ more) text = cond (text_eq w.1 text) w.0 (word_class more text)
 
 unfoldable pub class : Token → ℕ
-class this_token = cond (eqb this_token.0 IDENT) (word_class words this_token.1) (cond (holds this_token.0 token_kinds) this_token.0 ERROR)
+class this_token = cond (eqb this_token.0 IDENT) (word_class words this_token.1)
+    (cond (holds this_token.0 token_kinds) this_token.0 ERROR)
 
 -- The classes of the next token and of the one after it, 0 at the end.
 unfoldable pub first : List Token → ℕ
@@ -135,7 +137,8 @@ abbrev mutual
 abbrev pub after : ℕ → ℕ → Tree → ℕ
 after symbol row_state tree = target symbol row_state (root tree) + finish tree
 
--- The symbol with which a parse of the sort begins, before a token of the class `near`: a selection set without braces is one of its own.
+-- The symbol with which a parse of the sort begins, before a token of the class `near`: a selection set without braces
+-- is one of its own.
 abbrev pub opening : Sort → ℕ → ℕ
 opening document near = DOCUMENT
 opening selections near = cond (eqb near L_CURLY) SELECTION_SET BARE_SELECTIONS
@@ -144,7 +147,8 @@ opening type near = TYPE
 -- Trees that fit the rows.
 abbrev mutual
   pub Ok : Tree → Type 0
-  Ok (leaf leaf_symbol text) = IsTrue (is_leaf leaf_symbol) × IsTrue (fires leaf_symbol (class (token leaf_symbol text)) 0)
+  Ok (leaf leaf_symbol text) =
+      IsTrue (is_leaf leaf_symbol) × IsTrue (fires leaf_symbol (class (token leaf_symbol text)) 0)
   Ok (node symbol forest) = IsFalse (is_leaf symbol) × OkFrom symbol 0 forest
 
   -- The list of trees leads from state `row_state` of the row of `symbol` to a state where the row may end.
@@ -167,31 +171,41 @@ abbrev mutual
   pub RunFrom : ℕ → ℕ → Forest → List Token → Type 0
   RunFrom symbol row_state none rest = move symbol row_state (first rest) (second rest) ≡ close
   RunFrom symbol row_state (tree ▸ forest) rest =
-      (move symbol row_state (first (yields (tree ▸ forest) ++ rest)) (second (yields (tree ▸ forest) ++ rest)) ≡ go (root tree))
+      (move symbol row_state (first (yields (tree ▸ forest) ++ rest)) (second (yields (tree ▸ forest) ++ rest))
+      ≡ go (root tree))
       × Run tree (yields forest ++ rest)
       × RunFrom symbol (target symbol row_state (root tree) + finish tree) forest rest
 
--- The machine's configurations: the open nodes, innermost first, each with its symbol, its state and its closed children.
+-- The machine's configurations: the open nodes, innermost first, each with its symbol, its state and its closed
+-- children.
 pub data Frame : Type 0 where
   frame : ℕ → ℕ → Forest → Frame
 
--- `Reach symbol tokens fs rest`: from the symbol `symbol` before the tokens `tokens`, the machine reaches the open nodes `fs` before the tokens `rest`.
+-- `Reach symbol tokens fs rest`: from the symbol `symbol` before the tokens `tokens`, the machine reaches the open
+-- nodes `fs` before the tokens `rest`.
 pub data Reach (start_symbol : ℕ) (tokens : List Token) : List Frame → List Token → Type 0 where
   start : Reach start_symbol tokens (frame start_symbol 0 none ∷ []) tokens
-  shift : {symbol row_state leaf_symbol : ℕ} {forest : Forest} {fs : List Frame} {this_token : Token} {rest : List Token}
+  shift : {symbol row_state leaf_symbol : ℕ} {forest : Forest} {fs : List Frame}
+      {this_token : Token} {rest : List Token}
       → Reach start_symbol tokens (frame symbol row_state forest ∷ fs) (this_token ∷ rest)
-      → move symbol row_state (first (this_token ∷ rest)) (second (this_token ∷ rest)) ≡ go leaf_symbol → IsTrue (is_leaf leaf_symbol)
-      → Reach start_symbol tokens (frame symbol (target symbol row_state leaf_symbol) (forest +++ (leaf leaf_symbol this_token.1 ▸ none)) ∷ fs) rest
+      → move symbol row_state (first (this_token ∷ rest)) (second (this_token ∷ rest)) ≡ go leaf_symbol
+      → IsTrue (is_leaf leaf_symbol)
+      → Reach start_symbol tokens
+      (frame symbol (target symbol row_state leaf_symbol) (forest +++ (leaf leaf_symbol this_token.1 ▸ none)) ∷ fs) rest
   open' : {symbol row_state child : ℕ} {forest : Forest} {fs : List Frame} {rest : List Token}
-      → Reach start_symbol tokens (frame symbol row_state forest ∷ fs) rest → move symbol row_state (first rest) (second rest) ≡ go child
+      → Reach start_symbol tokens (frame symbol row_state forest ∷ fs) rest
+      → move symbol row_state (first rest) (second rest) ≡ go child
       → IsFalse (is_leaf child)
       → Reach start_symbol tokens (frame child 0 none ∷ frame symbol row_state forest ∷ fs) rest
   closed : {symbol row_state child child_state : ℕ} {forest more_trees : Forest} {fs : List Frame} {rest : List Token}
       → Reach start_symbol tokens (frame child child_state more_trees ∷ frame symbol row_state forest ∷ fs) rest
       → move child child_state (first rest) (second rest) ≡ close
-      → Reach start_symbol tokens (frame symbol (target symbol row_state child + exit child child_state) (forest +++ (node child more_trees ▸ none)) ∷ fs) rest
+      → Reach start_symbol tokens
+      (frame symbol (target symbol row_state child + exit child child_state) (forest +++ (node child more_trees ▸ none))
+      ∷ fs) rest
 
--- The machine has read the tokens `before`, from the start symbol of the sort, and is in these open nodes before the tokens `rest`.
+-- The machine has read the tokens `before`, from the start symbol of the sort, and is in these open nodes before the
+-- tokens `rest`.
 abbrev pub Reached : Sort → List Token → List Token → List Frame → Type 0
 Reached sort before rest frames = Reach (opening sort (first (before ++ rest))) (before ++ rest) frames rest
 

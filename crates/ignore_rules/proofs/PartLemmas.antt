@@ -1,7 +1,6 @@
 -- The parts of a text, one after another.
-use Rattle.std.proofs.Common.{◌≡◌, ℕ, suc, ◌+◌, ◌<◌, ◌≤◌, Bool, List, [], ◌∷◌, length, take, drop, Option, Some, None, Bor}
-use Rattle.std.proofs.Common.{refl, ap, arith, inl, inr}
-use Rattle.std.proofs.Common.{subst, ltb}
+use Rattle.std.proofs.Common.{◌≡◌, ℕ, suc, ◌+◌, ◌<◌, ◌≤◌, Bool, List, [], ◌∷◌, length, take, drop, Option, Some, None}
+use Rattle.std.proofs.Common.{Bor, refl, ap, arith, inl, inr, subst, ltb}
 use Rattle.std.specs.Prelude.{◌==◌, MatchOption}
 use Rattle.std.proofs.lemmas.Bool.{cases_Bool, ltb-true, ltb-false}
 use Rattle.std.proofs.lemmas.List.Splits.{slice_split_first}
@@ -49,7 +48,8 @@ parts_whole b text is =
 
 -- the first part, and the parts that are left
 pub parts_cut : (b : ℕ) (text first : List ℕ) (rest : Option (Bor (List ℕ)))
-    → MatchOption rest (parts b text ≡ first ∷ []) (λ r. (parts b text ≡ first ∷ parts b r.now) × (length r.now < length text))
+    → MatchOption rest (parts b text ≡ first ∷ [])
+    (λ r. (parts b text ≡ first ∷ parts b r.now) × (length r.now < length text))
     → parts b text ≡ first ∷ parts_left b rest
 parts_cut b text first None is = is
 parts_cut b text first (Some rest) is = is.0

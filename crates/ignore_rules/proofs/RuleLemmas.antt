@@ -6,8 +6,10 @@ use Rattle.ignore_rules.specs.Fits.{Sign}
 use Rattle.ignore_rules.specs.Lines.{Rule, rule_of}
 
 -- the rule of one line more
-pub rules_more : {X : Type 0} (folder : List Sign) (view : X → Rule) (items new : List X) (x : X) (line : List ℕ) (rest left : List (List ℕ)) (all : List Rule)
-    → all ≡ map view items ++ filter_map (rule_of folder) left → left ≡ line ∷ rest → Some (view x) ≡ rule_of folder line → new ≡ items ++ x ∷ []
+pub rules_more : {X : Type 0} (folder : List Sign) (view : X → Rule) (items new : List X) (x : X) (line : List ℕ)
+    (rest left : List (List ℕ)) (all : List Rule)
+    → all ≡ map view items ++ filter_map (rule_of folder) left → left ≡ line ∷ rest
+    → Some (view x) ≡ rule_of folder line → new ≡ items ++ x ∷ []
     → all ≡ map view new ++ filter_map (rule_of folder) rest
 rules_more {X = X} folder view items new x line rest left all so_far cut is pushed =
     so_far ∙ ap (λ (ps : List (List ℕ)). map view items ++ filter_map (rule_of folder) ps) cut
@@ -17,7 +19,8 @@ rules_more {X = X} folder view items new x line rest left all so_far cut is push
     ∙ ap (λ (xs : List X). map view xs ++ filter_map (rule_of folder) rest) (sym pushed)
 
 -- a line without a rule
-pub no_rule : {X : Type 0} (folder : List Sign) (view : X → Rule) (items : List X) (line : List ℕ) (rest left : List (List ℕ)) (all : List Rule)
+pub no_rule : {X : Type 0} (folder : List Sign) (view : X → Rule) (items : List X) (line : List ℕ)
+    (rest left : List (List ℕ)) (all : List Rule)
     → all ≡ map view items ++ filter_map (rule_of folder) left → left ≡ line ∷ rest → None ≡ rule_of folder line
     → all ≡ map view items ++ filter_map (rule_of folder) rest
 no_rule folder view items line rest left all so_far cut is =

@@ -5,8 +5,8 @@ use Rattle.ignore_rules.specs.declared.pattern.Range.{Range}
 use Rattle.ignore_rules.specs.declared.pattern.Sign as declared
 use Rattle.ignore_rules.specs.declared.pattern.Sign.TheVariants as sign
 
--- What a pattern is written with: a byte; `?`, any byte but a slash; a set in brackets, or all bytes but those and the slash; `*`, any bytes but slashes;
--- `**/`, any folders, each with its slash; and what fits nothing.
+-- What a pattern is written with: a byte; `?`, any byte but a slash; a set in brackets, or all bytes but those and the
+-- slash; `*`, any bytes but slashes; `**/`, any folders, each with its slash; and what fits nothing.
 pub data Sign : Type 0 where
   byte : ℕ → Sign
   one : Sign

@@ -1,5 +1,6 @@
 -- What the rules of an ignore file leave out (gitignore(5), "PATTERN FORMAT").
-use Rattle.std.specs.Prelude.{◌==◌, ◌&&◌, ◌||◌, ◌++◌, not, ℕ, Bool, true, false, List, [], ◌∷◌, map, Option, Some, None, if◌then◌else◌}
+use Rattle.std.specs.Prelude.{◌==◌, ◌&&◌, ◌||◌, ◌++◌, not, ℕ, Bool, true, false, List, [], ◌∷◌, map, Option, Some, None}
+use Rattle.std.specs.Prelude.{if◌then◌else◌}
 use Rattle.ignore_rules.specs.declared.rules.Rules.{Rules}
 use Rattle.ignore_rules.specs.Fits.{fits}
 use Rattle.ignore_rules.specs.Lines.{Rule, as_rule}
@@ -15,12 +16,15 @@ is_about is_folder path rule = (is_folder || not rule.folders_only) && fits rule
 -- Whether a path is left out: the last rule about it decides, or if there is none, the answer before these rules.
 abbrev pub decided : Bool → List ℕ → Bool → List Rule → Bool
 decided is_folder path before [] = before
-decided is_folder path before (rule ∷ rules) = decided is_folder path (if is_about is_folder path rule then not rule.keeps else before) rules
+decided is_folder path before (rule ∷ rules) =
+    decided is_folder path (if is_about is_folder path rule then not rule.keeps else before) rules
 
--- Whether one of the folders above a path is left out. The path is in two parts, and these are the folders that end in the second.
+-- Whether one of the folders above a path is left out. The path is in two parts, and these are the folders that end in
+-- the second.
 abbrev pub is_below : List Rule → List ℕ → List ℕ → Bool
 is_below rules before [] = false
-is_below rules before (b ∷ path) = (b == 47 && decided true before false rules) || is_below rules (before ++ b ∷ []) path
+is_below rules before (b ∷ path) =
+    (b == 47 && decided true before false rules) || is_below rules (before ++ b ∷ []) path
 
 -- A folder that is left out leaves out all below it.
 abbrev pub leave_out : List Rule → Bool → Option (List ℕ) → Bool

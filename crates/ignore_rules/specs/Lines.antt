@@ -1,6 +1,6 @@
 -- The lines of an ignore file (gitignore(5), "PATTERN FORMAT").
-use Rattle.std.specs.Prelude.{◌==◌, ◌++◌, ◌+◌, ◌-◌, ◌%◌, eqb, ℕ, Bool, true, false, List, [], ◌∷◌, length, take, drop, map, codes}
-use Rattle.std.specs.Prelude.{Option, Some, None, filter_map, if◌then◌else◌}
+use Rattle.std.specs.Prelude.{◌==◌, ◌++◌, ◌+◌, ◌-◌, ◌%◌, eqb, ℕ, Bool, true, false, List, [], ◌∷◌, length, take, drop}
+use Rattle.std.specs.Prelude.{map, codes, Option, Some, None, filter_map, if◌then◌else◌}
 use Rattle.std.specs.List.{starts_with, ends_with, list_any, suffix_len}
 use Rattle.ignore_rules.specs.declared.lines.Rule as declared
 use Rattle.ignore_rules.specs.Fits.{Sign, byte, folders, as_sign}
@@ -21,7 +21,8 @@ as_rule rule = record { keeps = rule.keeps; folders_only = rule.folders_only; si
 abbrev pub ending : ℕ → List ℕ → ℕ
 ending b text = suffix_len (λ c. c == b) text
 
--- The line without the spaces that end it (32), but for one that a backslash quotes (92): before it is an odd number of them.
+-- The line without the spaces that end it (32), but for one that a backslash quotes (92): before it is an odd number of
+-- them.
 abbrev pub without_spaces : List ℕ → List ℕ
 without_spaces line =
     let front = take (length line - ending 32 line) line in
@@ -41,8 +42,8 @@ spelled keeps folders_only before text =
     if length text == 0 then None
     else Some (record { keeps = keeps; folders_only = folders_only; signs = before ++ signs_of text })
 
--- A pattern with a slash at its beginning or in its middle is about paths from the folder of the file on; another is about names at any depth. Before it
--- are the signs of that folder.
+-- A pattern with a slash at its beginning or in its middle is about paths from the folder of the file on; another is
+-- about names at any depth. Before it are the signs of that folder.
 abbrev pub anchored : List Sign → Bool → Bool → List ℕ → Option Rule
 anchored folder keeps folders_only text =
     if list_any (λ b. b == 47) text then spelled keeps folders_only folder (without_slash text)
@@ -51,7 +52,8 @@ anchored folder keeps folders_only text =
 -- one with a slash at its end is about folders alone
 abbrev pub pattern : List Sign → Bool → List ℕ → Option Rule
 pattern folder keeps text =
-    if ends_with eqb text (codes "/") then anchored folder keeps true (take (length text - 1) text) else anchored folder keeps false text
+    if ends_with eqb text (codes "/") then anchored folder keeps true (take (length text - 1) text) else anchored
+    folder keeps false text
 
 -- A line that begins with a hash is a comment, and a pattern after an exclamation mark takes back.
 abbrev pub rule_in : List Sign → List ℕ → Option Rule
@@ -67,6 +69,7 @@ rule_of folder line = rule_in folder (without_spaces (without_return line))
 abbrev pub folder_signs : List ℕ → List Sign
 folder_signs folder = map byte (before_names (inner_path folder))
 
--- The rules of an ignore file in a folder, by the file's text. Lines end with a line feed (10), and maybe a carriage return before it.
+-- The rules of an ignore file in a folder, by the file's text. Lines end with a line feed (10), and maybe a carriage
+-- return before it.
 abbrev pub rules_in : List ℕ → List ℕ → List Rule
 rules_in folder text = filter_map (rule_of (folder_signs folder)) (parts 10 text)

@@ -1,6 +1,7 @@
 -- The signs of a pattern, by its bytes (gitignore(5), "PATTERN FORMAT"; sets of bytes as in glob(7)).
-use Rattle.std.specs.Prelude.{◌≡◌, ◌==◌, ◌&&◌, ◌||◌, ◌++◌, not, eqb, ℕ, zero, suc, Bool, true, false, List, [], ◌∷◌, length, drop, codes, bytes_eq}
-use Rattle.std.specs.Prelude.{Option, Some, None, option_map, option_and_then, if◌then◌else◌}
+use Rattle.std.specs.Prelude.{◌≡◌, ◌==◌, ◌&&◌, ◌||◌, ◌++◌, not, eqb, ℕ, zero, suc, Bool, true, false, List, [], ◌∷◌}
+use Rattle.std.specs.Prelude.{length, drop, codes, bytes_eq, Option, Some, None, option_map, option_and_then}
+use Rattle.std.specs.Prelude.{if◌then◌else◌}
 use Rattle.std.specs.List.{starts_with}
 use Rattle.ignore_rules.specs.declared.pattern.Range.{Range}
 use Rattle.ignore_rules.specs.Fits.{Sign, byte, one, one_of, none_of, many, folders, nothing}
@@ -14,12 +15,14 @@ pub record Front (X : Type 0) : Type 0 where
 abbrev pub byte_in : List ℕ → Option (Front ℕ)
 byte_in [] = None
 byte_in (b ∷ []) = Some (record { value = b; after = [] })
-byte_in (b ∷ c ∷ text) = if b == 92 then Some (record { value = c; after = text }) else Some (record { value = b; after = c ∷ text })
+byte_in (b ∷ c ∷ text) =
+    if b == 92 then Some (record { value = c; after = text }) else Some (record { value = b; after = c ∷ text })
 
 abbrev pub range_to : ℕ → Front ℕ → Front Range
 range_to first it = record { value = record { first = first; last = it.value }; after = it.after }
 
--- A byte, or all from a byte to another with a hyphen between them. The hyphen is a byte itself where a closing bracket follows.
+-- A byte, or all from a byte to another with a hyphen between them. The hyphen is a byte itself where a closing bracket
+-- follows.
 abbrev pub range_from : Front ℕ → Option (Front Range)
 range_from it =
     if starts_with eqb it.after (codes "-") && not (starts_with eqb it.after (codes "-]"))
@@ -40,7 +43,8 @@ joined before it = record { value = before ++ it.value; after = it.after }
 abbrev pub closes_at : Bool → List ℕ → Bool
 closes_at closes text = closes && starts_with eqb text (codes "]")
 
--- The bytes before the bracket that closes them, if one does: at most n ranges. A bracket that comes first closes nothing.
+-- The bytes before the bracket that closes them, if one does: at most n ranges. A bracket that comes first closes
+-- nothing.
 abbrev pub ranges_in : ℕ → Bool → List ℕ → Option (Front (List Range))
 ranges_in zero closes text = None
 ranges_in (suc n) closes text =
@@ -62,7 +66,8 @@ set_in text =
     then closed none_of (ranges_in (length text) false (drop 1 text))
     else closed one_of (ranges_in (length text) false text)
 
--- After an asterisk. Where a name begins, two asterisks and a slash are any folders, and two at the end are any folders and a name in them.
+-- After an asterisk. Where a name begins, two asterisks and a slash are any folders, and two at the end are any folders
+-- and a name in them.
 abbrev pub asterisk_in : Bool → List ℕ → Front Sign
 asterisk_in begins text =
     if begins && starts_with eqb text (codes "*/") then record { value = folders; after = drop 2 text }
@@ -74,7 +79,8 @@ abbrev pub quoted_in : List ℕ → Front Sign
 quoted_in [] = record { value = nothing; after = [] }
 quoted_in (b ∷ text) = record { value = byte b; after = text }
 
--- The sign that begins with a byte, where a name begins or not: an asterisk, a question mark, an opening bracket, a backslash, or another byte.
+-- The sign that begins with a byte, where a name begins or not: an asterisk, a question mark, an opening bracket, a
+-- backslash, or another byte.
 abbrev pub sign_in : Bool → ℕ → List ℕ → Front Sign
 sign_in begins b text =
     if b == 42 then asterisk_in begins text
@@ -97,7 +103,8 @@ ends_name nothing = false
 abbrev pub signs_in : ℕ → Bool → List ℕ → List Sign
 signs_in zero begins text = []
 signs_in (suc n) begins [] = []
-signs_in (suc n) begins (b ∷ text) = let it = sign_in begins b text in it.value ∷ signs_in n (ends_name it.value) it.after
+signs_in (suc n) begins (b ∷ text) = let it = sign_in begins b text in
+    it.value ∷ signs_in n (ends_name it.value) it.after
 
 -- each of which has a byte
 abbrev pub signs_of : List ℕ → List Sign

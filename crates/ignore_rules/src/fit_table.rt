@@ -1,5 +1,6 @@
-// Whether a pattern fits a path. A table says which ends of the path the last signs of the pattern fit. The signs are put before one another, the last one
-// first. A window says where the ends are that pass. After a sign or two they are mostly few, and no more than the window is looked at.
+// Whether a pattern fits a path. A table says which ends of the path the last signs of the pattern fit. The signs are
+// put before one another, the last one first. A window says where the ends are that pass. After a sign or two they are
+// mostly few, and no more than the window is looked at.
 ghost use Rattle.std.specs.Prelude.{◌≡◌, ◌+◌, ◌<◌, ◌≤◌, ℕ, List, [], Bool, false, length, map, slice_index_or};
 ghost use Rattle.ignore_rules.specs.Fits.{after_byte, after_bytes, after_sign, as_sign, fits, folders, is_in, takes};
 ghost use Rattle.ignore_rules.specs.Tables.{IsClear, IsWindow, IsWithin};
@@ -36,12 +37,14 @@ fn takes<A: Allocator>(sign: &Sign<A>, byte: u8) -> bool
     }
 }
 
-// Puts a sign for one byte before signs, of which a table says which ends of the path they fit, and gives the new window.
+// Puts a sign for one byte before signs, of which a table says which ends of the path they fit, and gives the new
+// window.
 fn put_byte<A: Allocator>(table: &mut [bool], window: Window, sign: &Sign<A>, path: &[u8]) -> Window
     requires room { length path.now < length table.old }
     requires some { window.first < window.end }
     requires end { window.end ≤ length path.now + 1 }
-    ensures places { (test : List ℕ → Bool) → IsWindow test path.now window table.old → IsWindow (after_byte (as_sign sign.now) test) path.now result table.new }
+    ensures places { (test : List ℕ → Bool) → IsWindow test path.now window table.old
+        → IsWindow (after_byte (as_sign sign.now) test) path.now result table.new }
     ensures end { result.end ≤ length path.now + 1 }
 {
     let first = window.first.saturating_sub(1);
@@ -57,7 +60,8 @@ fn put_byte<A: Allocator>(table: &mut [bool], window: Window, sign: &Sign<A>, pa
 fn put_many(table: &mut [bool], window: Window, path: &[u8]) -> Window
     requires room { length path.now < length table.old }
     requires end { window.end ≤ length path.now + 1 }
-    ensures places { (test : List ℕ → Bool) → IsWindow test path.now window table.old → IsWindow (after_bytes test) path.now result table.new }
+    ensures places { (test : List ℕ → Bool) → IsWindow test path.now window table.old
+        → IsWindow (after_bytes test) path.now result table.new }
     ensures end { result.end ≤ length path.now + 1 }
 {
     let end = window.end;
@@ -77,7 +81,8 @@ fn put_many(table: &mut [bool], window: Window, path: &[u8]) -> Window
 fn put_folders(table: &mut [bool], window: Window, path: &[u8]) -> Window
     requires room { length path.now < length table.old }
     requires end { window.end ≤ length path.now + 1 }
-    ensures places { (test : List ℕ → Bool) → IsWindow test path.now window table.old → IsWindow (after_sign folders test) path.now result table.new }
+    ensures places { (test : List ℕ → Bool) → IsWindow test path.now window table.old
+        → IsWindow (after_sign folders test) path.now result table.new }
     ensures end { result.end ≤ length path.now + 1 }
 {
     let end = window.end;
@@ -94,7 +99,8 @@ fn put<A: Allocator>(table: &mut [bool], window: Window, sign: &Sign<A>, path: &
     requires room { length path.now < length table.old }
     requires some { window.first < window.end }
     requires end { window.end ≤ length path.now + 1 }
-    ensures places { (test : List ℕ → Bool) → IsWindow test path.now window table.old → IsWindow (after_sign (as_sign sign.now) test) path.now result table.new }
+    ensures places { (test : List ℕ → Bool) → IsWindow test path.now window table.old
+        → IsWindow (after_sign (as_sign sign.now) test) path.now result table.new }
     ensures end { result.end ≤ length path.now + 1 }
 {
     match sign {
@@ -159,7 +165,8 @@ fn trimmed(table: &[bool], window: Window) -> Window
 // Puts these signs before none, by the table of none, and gives the window that is left.
 fn fit_in<A: Allocator>(table: &mut [bool], signs: &[Sign<A>], path: &[u8]) -> Window
     requires room { length path.now < length table.old }
-    ensures places { IsWindow (fits []) path.now (record { first = length path.now; end = length path.now + 1 }) table.old → IsWindow (fits (map as_sign signs.now)) path.now result table.new }
+    ensures places { IsWindow (fits []) path.now (record { first = length path.now; end = length path.now + 1 })
+        table.old → IsWindow (fits (map as_sign signs.now)) path.now result table.new }
     ensures end { result.end ≤ length path.now + 1 }
 {
     let mut window = Window {
@@ -186,7 +193,8 @@ fn clear(table: &mut [bool], window: Window)
     }
 }
 
-/// Whether these signs fit the whole path. The table, which has a place more than the path and is clear, is clear again afterwards.
+/// Whether these signs fit the whole path. The table, which has a place more than the path and is clear, is clear again
+/// afterwards.
 pub fn fit<A: Allocator>(table: &mut [bool], signs: &[Sign<A>], path: &[u8]) -> bool
     requires room { length path.now < length table.old }
     requires clear { IsClear table.old }

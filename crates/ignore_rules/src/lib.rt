@@ -1,7 +1,7 @@
 //! Which paths an ignore file leaves out, by gitignore(5), "PATTERN FORMAT".
 //!
-//! `unignored_files` asks the `Rules` of the ignore files that it reads about paths. Nothing here knows files. A `?`, a `*` and a set in brackets take
-//! bytes, and not characters; classes, as `[:alpha:]`, are unknown.
+//! `unignored_files` asks the `Rules` of the ignore files that it reads about paths. Nothing here knows files. A `?`, a
+//! `*` and a set in brackets take bytes, and not characters; classes, as `[:alpha:]`, are unknown.
 #![tactic(auto)]
 
 mod fit_table;

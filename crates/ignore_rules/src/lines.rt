@@ -1,7 +1,8 @@
 // The lines of an ignore file.
 ghost use Rattle.std.specs.Prelude.{◌≡◌, ◌≤◌, IfOk, length, map, option_map};
 ghost use Rattle.ignore_rules.specs.Fits.{as_sign, byte};
-ghost use Rattle.ignore_rules.specs.Lines.{anchored, as_rule, ending, pattern, rule_of, spelled, without_return, without_slash, without_spaces};
+ghost use Rattle.ignore_rules.specs.Lines.{anchored, as_rule, ending, pattern, rule_of, spelled, without_return};
+ghost use Rattle.ignore_rules.specs.Lines.{without_slash, without_spaces};
 
 use crate::parts::SLASH;
 use crate::pattern::Sign;
@@ -60,7 +61,8 @@ fn spelled<A: Allocator + Copy>(
     mut rule: Rule<A>,
     text: &[u8],
 ) -> Result<Option<Rule<A>>, AllocError>
-    ensures { IfOk result (λ it. option_map as_rule it ≡ spelled rule.keeps rule.folders_only (as_rule rule).signs text.now) }
+    ensures { IfOk result (λ it. option_map as_rule it
+        ≡ spelled rule.keeps rule.folders_only (as_rule rule).signs text.now) }
 {
     if text.len() == 0 {
         return Ok(None);
@@ -80,7 +82,8 @@ fn folder_signs<A: Allocator>(alloc: A, folder: &[u8]) -> Result<Vec<Sign<A>, A>
     Ok(signs)
 }
 
-// A pattern with a slash at its beginning or in its middle is about paths from the folder of the file on; another is about names at any depth.
+// A pattern with a slash at its beginning or in its middle is about paths from the folder of the file on; another is
+// about names at any depth.
 fn anchored<A: Allocator + Copy>(
     alloc: A,
     folder: &[u8],
@@ -88,7 +91,8 @@ fn anchored<A: Allocator + Copy>(
     folders_only: bool,
     text: &[u8],
 ) -> Result<Option<Rule<A>>, AllocError>
-    ensures { IfOk result (λ rule. option_map as_rule rule ≡ anchored (map byte folder.now) keeps folders_only text.now) }
+    ensures { IfOk result (λ rule. option_map as_rule rule
+        ≡ anchored (map byte folder.now) keeps folders_only text.now) }
 {
     let mut signs = folder_signs(alloc, folder)?;
     if text.contains(&SLASH) {
@@ -125,7 +129,8 @@ fn pattern<A: Allocator + Copy>(
     }
 }
 
-/// The rule of a line, if it is neither blank nor a comment. The pattern is about paths in a folder, whose path is before their names.
+/// The rule of a line, if it is neither blank nor a comment. The pattern is about paths in a folder, whose path is
+/// before their names.
 pub fn rule_of<A: Allocator + Copy>(
     alloc: A,
     folder: &[u8],

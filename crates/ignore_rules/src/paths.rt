@@ -15,7 +15,8 @@ fn put_name<A: Allocator>(path: &mut Vec<u8, A>, name: &[u8]) -> Result<(), Allo
     path.extend_from_slice(name)
 }
 
-/// The names of a path, with a slash between them: `/a//./b` is `a/b`. There are none for the root, and where a name is `..`.
+/// The names of a path, with a slash between them: `/a//./b` is `a/b`. There are none for the root, and where a name is
+/// `..`.
 pub fn inner_path<A: Allocator>(alloc: A, path: &[u8]) -> Result<Option<Vec<u8, A>>, AllocError>
     ensures { IfOk result (λ inner. option_map (λ it. it.items) inner ≡ inner_path path.now) }
 {

@@ -41,8 +41,8 @@ impl<A: Allocator + Copy> Rules<A> {
         }
     }
 
-    /// Adds the rules of an ignore file in a folder, by the path of the folder from the root on and the text of the file. Lines end with a line feed, and
-    /// maybe a carriage return before it.
+    /// Adds the rules of an ignore file in a folder, by the path of the folder from the root on and the text of the
+    /// file. Lines end with a line feed, and maybe a carriage return before it.
     pub fn add(&mut self, folder: &str, text: &[u8]) -> Result<(), AllocError>
         ensures { OnOk result (as_rules self.new ≡ as_rules self.old ++ rules_in folder.now text.now) }
     {
@@ -89,8 +89,8 @@ impl<A: Allocator + Copy> Rules<A> {
         false
     }
 
-    /// Whether the rules leave out the file or the folder at a path from the root on, or a folder above it. One with a name `..`, or the root, is not
-    /// left out.
+    /// Whether the rules leave out the file or the folder at a path from the root on, or a folder above it. One with a
+    /// name `..`, or the root, is not left out.
     pub fn ignore(&self, path: &str, is_folder: bool) -> Result<bool, AllocError>
         ensures { IfOk result (λ it. it ≡ ignores (as_rules self.now) path.now is_folder) }
     {

@@ -1,7 +1,9 @@
 // The signs of a pattern.
-ghost use Rattle.std.specs.Prelude.{◌≡◌, ◌<◌, ◌++◌, IfOk, IsTrue, MatchOption, OnOk, drop, false, length, map, option_map, true};
+ghost use Rattle.std.specs.Prelude.{◌≡◌, ◌<◌, ◌++◌, IfOk, IsTrue, MatchOption, OnOk, drop, false, length, map};
+ghost use Rattle.std.specs.Prelude.{option_map, true};
 ghost use Rattle.ignore_rules.specs.Fits.{as_sign};
-ghost use Rattle.ignore_rules.specs.Reading.{IsPut, asterisk_in, byte_in, closes_at, ends_name, is_inverse, joined, quoted_in, range_in, ranges_in, set_in, sign_in, signs_of};
+ghost use Rattle.ignore_rules.specs.Reading.{IsPut, asterisk_in, byte_in, closes_at, ends_name, is_inverse, joined};
+ghost use Rattle.ignore_rules.specs.Reading.{quoted_in, range_in, ranges_in, set_in, sign_in, signs_of};
 
 use crate::parts::SLASH;
 use crate::pattern::{Range, Sign};
@@ -33,7 +35,8 @@ fn range_in(text: &[u8]) -> Option<(Range, &[u8])>
 
 // What follows the bracket that closes a set here, if one may and does.
 fn closing(closes: bool, text: &[u8]) -> Option<&[u8]>
-    ensures { MatchOption result (closes_at closes text.now ≡ false) (λ after. (closes_at closes text.now ≡ true) × (after.now ≡ drop 1 text.now)) }
+    ensures { MatchOption result (closes_at closes text.now ≡ false)
+        (λ after. (closes_at closes text.now ≡ true) × (after.now ≡ drop 1 text.now)) }
 {
     if closes && text.starts_with(b"]") {
         Some(&text[1..])
@@ -49,7 +52,8 @@ fn read_ranges<'t, A: Allocator>(
     most: usize,
 ) -> Result<Option<&'t [u8]>, AllocError>
     ensures { IfOk result (λ after. MatchOption after (ranges_in most false text.now ≡ None)
-        (λ it. option_map (joined ranges.old.items) (ranges_in most false text.now) ≡ Some (record { value = ranges.new.items; after = it.now }))) }
+        (λ it. option_map (joined ranges.old.items) (ranges_in most false text.now)
+        ≡ Some (record { value = ranges.new.items; after = it.now }))) }
 {
     let mut closes = false;
     let mut rest = text;
@@ -84,7 +88,8 @@ fn put<'t, A: Allocator>(
     sign: Sign<A>,
     after: &'t [u8],
 ) -> Result<(bool, &'t [u8]), AllocError>
-    ensures { IfOk result (λ it. IsPut (record { value = as_sign sign; after = after.now }) (map as_sign signs.old.items) (map as_sign signs.new.items) it.0 it.1.now) }
+    ensures { IfOk result (λ it. IsPut (record { value = as_sign sign; after = after.now })
+        (map as_sign signs.old.items) (map as_sign signs.new.items) it.0 it.1.now) }
 {
     let begins = ends_name(&sign);
     signs.push(sign)?;
@@ -105,7 +110,8 @@ fn put_set<'t, A: Allocator + Copy>(
     signs: &mut Vec<Sign<A>, A>,
     text: &'t [u8],
 ) -> Result<(bool, &'t [u8]), AllocError>
-    ensures { IfOk result (λ it. IsPut (set_in text.now) (map as_sign signs.old.items) (map as_sign signs.new.items) it.0 it.1.now) }
+    ensures { IfOk result (λ it. IsPut (set_in text.now) (map as_sign signs.old.items)
+        (map as_sign signs.new.items) it.0 it.1.now) }
 {
     let mut ranges = Vec::new(alloc);
     if is_inverse(text) {
@@ -127,7 +133,8 @@ fn put_asterisk<'t, A: Allocator>(
     begins: bool,
     text: &'t [u8],
 ) -> Result<(bool, &'t [u8]), AllocError>
-    ensures { IfOk result (λ it. IsPut (asterisk_in begins text.now) (map as_sign signs.old.items) (map as_sign signs.new.items) it.0 it.1.now) }
+    ensures { IfOk result (λ it. IsPut (asterisk_in begins text.now) (map as_sign signs.old.items)
+        (map as_sign signs.new.items) it.0 it.1.now) }
 {
     if begins && text.starts_with(b"*/") {
         put(signs, Sign::Folders, &text[2..])
@@ -143,7 +150,8 @@ fn put_quoted<'t, A: Allocator>(
     signs: &mut Vec<Sign<A>, A>,
     text: &'t [u8],
 ) -> Result<(bool, &'t [u8]), AllocError>
-    ensures { IfOk result (λ it. IsPut (quoted_in text.now) (map as_sign signs.old.items) (map as_sign signs.new.items) it.0 it.1.now) }
+    ensures { IfOk result (λ it. IsPut (quoted_in text.now) (map as_sign signs.old.items)
+        (map as_sign signs.new.items) it.0 it.1.now) }
 {
     match text.split_first() {
         Some((byte, after)) => put(signs, Sign::Byte(*byte), after),
@@ -159,7 +167,8 @@ fn put_sign<'t, A: Allocator + Copy>(
     first: u8,
     text: &'t [u8],
 ) -> Result<(bool, &'t [u8]), AllocError>
-    ensures { IfOk result (λ it. IsPut (sign_in begins first text.now) (map as_sign signs.old.items) (map as_sign signs.new.items) it.0 it.1.now) }
+    ensures { IfOk result (λ it. IsPut (sign_in begins first text.now) (map as_sign signs.old.items)
+        (map as_sign signs.new.items) it.0 it.1.now) }
 {
     match first {
         b'*' => put_asterisk(signs, begins, text),

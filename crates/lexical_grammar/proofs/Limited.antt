@@ -1,12 +1,14 @@
 -- What a limited reader of items answers: the first items, as many as are allowed, and where there are more the limit.
-use Rattle.std.proofs.Common.{◌≡◌, ℕ, zero, suc, ◌<◌, ◌≤◌, true, List, [], ◌∷◌, ◌++◌, length, take, Option, Some, None, refl, sym, ap, ◌∙◌, arith, subst}
+use Rattle.std.proofs.Common.{◌≡◌, ℕ, zero, suc, ◌<◌, ◌≤◌, true, List, [], ◌∷◌, ◌++◌, length, take, Option, Some, None}
+use Rattle.std.proofs.Common.{refl, sym, ap, ◌∙◌, arith, subst}
 use Rattle.std.specs.Prelude.{map}
 use Rattle.std.specs.List.{list_all}
 use Rattle.lexical_grammar.specs.declared.TokenKind.{TokenKind}
 use Rattle.lexical_grammar.specs.declared.TokenKind.TheVariants.{Eof}
 use Rattle.lexical_grammar.specs.Tokens.{Tok}
 use Rattle.lexical_grammar.specs.Cut.{Item, IsItem, CutFrom, Cut, texts}
-use Rattle.lexical_grammar.specs.Answers.{Answer, gives, limit_at, limited, is_given, is_end, IsTokenText, IsItemText, IsLast, AreAnswers, answers_text}
+use Rattle.lexical_grammar.specs.Answers.{Answer, gives, limit_at, limited, is_given, is_end, IsTokenText, IsItemText}
+use Rattle.lexical_grammar.specs.Answers.{IsLast, AreAnswers, answers_text}
 
 pub limited-end : (allowed : ℕ) → limited allowed [] ≡ []
 limited-end zero = refl
@@ -28,12 +30,14 @@ beyond-limit (suc allowed) (item ∷ items) lt =
     (more.0, ap (λ l. gives item ∷ l) more.1)
 
 -- no limit error is answered exactly where no more than the allowed items are there
-pub all_given : (allowed : ℕ) (items : List Item) → length items ≤ allowed → list_all is_given (limited allowed items) ≡ true
+pub all_given : (allowed : ℕ) (items : List Item) → length items ≤ allowed
+    → list_all is_given (limited allowed items) ≡ true
 all_given allowed [] le = ap (list_all is_given) (limited-end allowed)
 all_given zero (item ∷ items) le = absurd (omega arith)
 all_given (suc allowed) (item ∷ items) le = all_given allowed items (omega arith)
 
-pub given-within : (allowed : ℕ) (items : List Item) → list_all is_given (limited allowed items) ≡ true → length items ≤ allowed
+pub given-within : (allowed : ℕ) (items : List Item) → list_all is_given (limited allowed items) ≡ true
+    → length items ≤ allowed
 given-within allowed [] e = omega arith
 given-within zero (item ∷ items) e = absurd (cc)
 given-within (suc allowed) (item ∷ items) e = let le = given-within allowed items e in omega arith
@@ -46,12 +50,14 @@ limited-text zero (item ∷ items) = refl
 limited-text (suc allowed) (item ∷ items) = ap (λ l. item.text ++ l) (limited-text allowed items)
 
 -- where no more are there, all of the text
-pub whole-text : (allowed : ℕ) (items : List Item) → length items ≤ allowed → answers_text (limited allowed items) ≡ texts items
+pub whole-text : (allowed : ℕ) (items : List Item) → length items ≤ allowed
+    → answers_text (limited allowed items) ≡ texts items
 whole-text allowed [] le = ap answers_text (limited-end allowed)
 whole-text zero (item ∷ items) le = absurd (omega arith)
 whole-text (suc allowed) (item ∷ items) le = ap (λ l. item.text ++ l) (whole-text allowed items (omega arith))
 
-pub cut-text : (allowed : ℕ) (source : List ℕ) (items : List Item) → Cut source items → length items ≤ allowed → answers_text (limited allowed items) ≡ source
+pub cut-text : (allowed : ℕ) (source : List ℕ) (items : List Item) → Cut source items → length items ≤ allowed
+    → answers_text (limited allowed items) ≡ source
 cut-text allowed source items cut le = whole-text allowed items le ∙ cut.joined
 
 -- a token is not the end
@@ -67,7 +73,8 @@ item-text : (kind : Option TokenKind) (text after : List ℕ) → IsItem kind te
 item-text None text after item = tt
 item-text (Some kind) text after item = token_text kind text item.token
 
-item-not-last : (kind : Option TokenKind) (text after : List ℕ) (rest : List Answer) → IsItem kind text after → IsLast kind rest
+item-not-last : (kind : Option TokenKind) (text after : List ℕ) (rest : List Answer)
+    → IsItem kind text after → IsLast kind rest
 item-not-last None text after rest item = tt
 item-not-last (Some kind) text after rest item = λ e. not-last kind text rest item.token e
 
@@ -88,5 +95,6 @@ answers-from (suc allowed) offset (item ∷ next ∷ items) cut = (
 )
 
 -- token texts are of their kind, and nothing comes after the end or the limit error
-pub limited-answers : (allowed : ℕ) (source : List ℕ) (items : List Item) → Cut source items → AreAnswers (limited allowed items)
+pub limited-answers : (allowed : ℕ) (source : List ℕ) (items : List Item) → Cut source items
+    → AreAnswers (limited allowed items)
 limited-answers allowed source items cut = answers-from allowed 0 items cut.each

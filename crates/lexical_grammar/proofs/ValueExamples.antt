@@ -53,7 +53,8 @@ surrogates = refl
 
 -- a surrogate pair represents one character
 pair-value : StringCharacter (codes "\\uD83D\\uDCA9") (encode_utf8 0x1F4A9)
-pair-value = pair {high = codes "\\uD83D"} {high_digits = codes "D83D"} {low = codes "\\uDCA9"} {low_digits = codes "DCA9"}
+pair-value = pair {high = codes "\\uD83D"} {high_digits = codes "D83D"} {low = codes "\\uDCA9"}
+    {low_digits = codes "DCA9"}
     (record { spelled = refl; four = refl; hex = refl }) refl (record { spelled = refl; four = refl; hex = refl }) refl
 
 pair-string : Quoted (codes "\"\\uD83D\\uDCA9\"") (240 ∷ 159 ∷ 146 ∷ 169 ∷ [])

@@ -1,7 +1,8 @@
--- Which tokens may follow one another directly, with nothing between them. It depends on how the first ends and the next begins
--- with: a comment goes on to the end of its line, a name takes in letters and digits, a number is followed by no letter, and one more quote
--- after the empty string begins a block string.
-use Rattle.std.specs.Prelude.{ℕ, ◌+◌, Bool, true, not, ◌&&◌, ◌||◌, ◌==◌, List, [], ◌∷◌, Some, length, slice_index, if◌then◌else◌, bytes_eq}
+-- Which tokens may follow one another directly, with nothing between them. It depends on how the first ends and the
+-- next begins with: a comment goes on to the end of its line, a name takes in letters and digits, a number is followed
+-- by no letter, and one more quote after the empty string begins a block string.
+use Rattle.std.specs.Prelude.{ℕ, ◌+◌, Bool, true, not, ◌&&◌, ◌||◌, ◌==◌, List, [], ◌∷◌, Some, length, slice_index}
+use Rattle.std.specs.Prelude.{if◌then◌else◌, bytes_eq}
 use Rattle.std.specs.List.{AllByRecursion, flat_map}
 use Rattle.lexical_grammar.specs.declared.TokenKind.{TokenKind}
 use Rattle.lexical_grammar.specs.declared.TokenKind.TheVariants as token
@@ -58,4 +59,5 @@ joined words = flat_map (λ word. word.text) words
 -- the items of these tokens from the offset on
 abbrev pub items_at : ℕ → List Word → List Item
 items_at offset [] = end_at offset ∷ []
-items_at offset (word ∷ words) = record { kind = Some word.kind; text = word.text; index = offset } ∷ items_at (offset + length word.text) words
+items_at offset (word ∷ words) =
+    record { kind = Some word.kind; text = word.text; index = offset } ∷ items_at (offset + length word.text) words

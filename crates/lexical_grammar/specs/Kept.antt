@@ -1,4 +1,5 @@
--- What a change of layout keeps: the significant tokens and the comments. White space and commas are what it may change.
+-- What a change of layout keeps: the significant tokens and the comments. White space and commas are what it may
+-- change.
 use Rattle.std.specs.Prelude.{◌≡◌, ℕ, Bool, true, List, [], ◌∷◌, Option, Some, None, if◌then◌else◌}
 use Rattle.std.specs.List.{flat_map}
 use Rattle.lexical_grammar.specs.declared.TokenKind.{TokenKind}

@@ -8,8 +8,8 @@ pub record TokenAt (source : List ℕ) (offset : ℕ) (kind : TokenKind) (n : �
   pub within : offset + n ≤ length source
   pub stands : Stands kind (take n (drop offset source)) (drop (offset + n) source)
 
--- The item is at the offset: its index is the offset, its text is what the source has there, and it is the token that is there, or bad
--- text when none is.
+-- The item is at the offset: its index is the offset, its text is what the source has there, and it is the token that
+-- is there, or bad text when none is.
 abbrev pub StandsAs : List ℕ → ℕ → Option TokenKind → List ℕ → Type 0
 StandsAs source offset (Some kind) text = TokenAt source offset kind (length text)
 StandsAs source offset None text = (kind : TokenKind) (n : ℕ) → TokenAt source offset kind n → ⊥

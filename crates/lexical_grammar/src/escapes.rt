@@ -1,5 +1,6 @@
 // Escapes in quoted strings (GraphQL September 2025, "String Value"), read at the front of a text.
-ghost use Rattle.std.specs.Prelude.{◌≡◌, ◌≤◌, ◌&&◌, length, min, slice_index, IsTrue, IfSome, Some, ◌∷◌, [], true, false};
+ghost use Rattle.std.specs.Prelude.{◌≡◌, ◌≤◌, ◌&&◌, length, min, slice_index, IsTrue, IfSome, Some, ◌∷◌, [], true};
+ghost use Rattle.std.specs.Prelude.{false};
 ghost use Rattle.std.specs.List.{prefix_len, list_all};
 ghost use Rattle.std.specs.Char.Utf16.{is_high_surrogate, is_low_surrogate, surrogate_pair_char};
 ghost use Rattle.lexical_grammar.specs.Characters.{is_hex_digit};
@@ -129,8 +130,8 @@ fn escaped(b: u8) -> Option<char>
     }
 }
 
-/// The character that the escape at the front represents, and the escape's length in bytes; `None` when the backslash begins no string
-/// character.
+/// The character that the escape at the front represents, and the escape's length in bytes; `None` when the backslash
+/// begins no string character.
 pub fn escape(bytes: &[u8]) -> Option<(char, usize)>
     requires { slice_index bytes.now 0 ≡ 92 }
     ensures { IsReadEscape bytes.now result }

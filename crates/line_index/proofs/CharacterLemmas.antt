@@ -1,6 +1,6 @@
 -- Characters and their units, in an encoding.
-use Rattle.std.proofs.Common.{◌⊎◌, ◌≡◌, ℕ, ◌+◌, ◌-◌, ◌/◌, ◌%◌, ◌<◌, ◌≤◌, true, false, List, [], ◌∷◌, ◌++◌, length, refl, sym, ap, ◌∙◌, subst, inl, inr, arith}
-use Rattle.std.proofs.Common.{eqb, ltb, length-append}
+use Rattle.std.proofs.Common.{◌⊎◌, ◌≡◌, ℕ, ◌+◌, ◌-◌, ◌/◌, ◌%◌, ◌<◌, ◌≤◌, true, false, List, [], ◌∷◌, ◌++◌, length, refl}
+use Rattle.std.proofs.Common.{sym, ap, ◌∙◌, subst, inl, inr, arith, eqb, ltb, length-append}
 use Rattle.std.specs.Prelude.{slice_index}
 use Rattle.std.specs.List.{flat_map}
 use lib.Utf8.{encode, encodes, scalar, scalars, scalar_cases}
@@ -27,7 +27,10 @@ quiet-utf8 c h = elim (cases_Bool (ltb c 128)) [
   | inr a ↦ elim (cases_Bool (ltb c 2048)) [
     | inl b ↦ rw (a, b) (high (192 + c / 64) (omega arith), (high (128 + c % 64) (omega arith), tt))
     | inr b ↦ elim (cases_Bool (ltb c 65536)) [
-      | inl d ↦ rw (a, b, d) (high (224 + c / 4096) (omega arith), (high (128 + (c / 64) % 64) (omega arith), (high (128 + c % 64) (omega arith), tt)))
+      | inl d ↦ rw (a, b, d) (
+        high (224 + c / 4096) (omega arith),
+        (high (128 + (c / 64) % 64) (omega arith), (high (128 + c % 64) (omega arith), tt)),
+      )
       | inr d ↦ rw (a, b, d) (
         high (240 + c / 262144) (omega arith),
         (
@@ -42,7 +45,10 @@ quiet-utf8 c h = elim (cases_Bool (ltb c 128)) [
 quiet-utf16 : (c : ℕ) → is_line_terminator c ≡ false → Quiet (encode_utf16 c)
 quiet-utf16 c h = elim (cases_Bool (ltb c 65536)) [
   | inl a ↦ rw a (h, tt)
-  | inr a ↦ rw a (high (55296 + (c - 65536) / 1024) (omega arith), (high (56320 + (c - 65536) % 1024) (omega arith), tt))
+  | inr a ↦ rw a (
+    high (55296 + (c - 65536) / 1024) (omega arith),
+    (high (56320 + (c - 65536) % 1024) (omega arith), tt),
+  )
 ]
 
 pub quiet-of : (e : PositionEncoding) (c : ℕ) → is_line_terminator c ≡ false → Quiet (units_of e c)
@@ -94,7 +100,15 @@ no-end x c h k = high x h ∙ sym (high c k)
 begins-utf8 : (c : ℕ) → Begins Utf8 c (encode c)
 unfolding encode
 begins-utf8 c = elim (cases_Bool (ltb c 128)) [
-  | inl a ↦ rw a (record { head = c; rest = []; are = refl; first = ascii8 c (ltb-true c 128 a); tail = tt; feed = refl; ends = refl })
+  | inl a ↦ rw a (record {
+    head = c;
+    rest = [];
+    are = refl;
+    first = ascii8 c (ltb-true c 128 a);
+    tail = tt;
+    feed = refl;
+    ends = refl;
+  })
   | inr a ↦
       let big : 128 ≤ c = ltb-false c 128 a in
       elim (cases_Bool (ltb c 2048)) [
@@ -147,7 +161,15 @@ bounded c (inr h) = h.1
 
 begins-utf16 : (c : ℕ) → scalar c ≡ true → Begins Utf16 c (encode_utf16 c)
 begins-utf16 c s = elim (cases_Bool (ltb c 65536)) [
-  | inl a ↦ rw a (record { head = c; rest = []; are = refl; first = lone16 c (scalar_cases c s); tail = tt; feed = refl; ends = refl })
+  | inl a ↦ rw a (record {
+    head = c;
+    rest = [];
+    are = refl;
+    first = lone16 c (scalar_cases c s);
+    tail = tt;
+    feed = refl;
+    ends = refl;
+  })
   | inr a ↦
       let big : 65536 ≤ c = ltb-false c 65536 a in
       let most : c < 1114112 = bounded c (scalar_cases c s) in
@@ -179,7 +201,8 @@ nothing : (e : PositionEncoding) → continues e 0 ≡ false
 nothing Utf8 = refl
 nothing Utf16 = refl
 
-pub fresh : (e : PositionEncoding) (cs : List ℕ) → scalars cs ≡ true → continues e (slice_index (all_units e cs) 0) ≡ false
+pub fresh : (e : PositionEncoding) (cs : List ℕ) → scalars cs ≡ true
+    → continues e (slice_index (all_units e cs) 0) ≡ false
 fresh e [] s = nothing e
 fresh e (c ∷ cs) s =
     let b = begins-of e c (and_parts (scalar c) (scalars cs) s).0 in
@@ -187,7 +210,8 @@ fresh e (c ∷ cs) s =
     (flat_map-cons (units_of e) c cs ∙ ap (λ (u : List ℕ). u ++ all_units e cs) b.are) in
     ap (continues e) at ∙ b.first
 
-pub first-feed : (e : PositionEncoding) (cs : List ℕ) → scalars cs ≡ true → eqb (slice_index (all_units e cs) 0) 10 ≡ eqb (slice_index cs 0) 10
+pub first-feed : (e : PositionEncoding) (cs : List ℕ) → scalars cs ≡ true
+    → eqb (slice_index (all_units e cs) 0) 10 ≡ eqb (slice_index cs 0) 10
 first-feed e [] s = refl
 first-feed e (c ∷ cs) s =
     let b = begins-of e c (and_parts (scalar c) (scalars cs) s).0 in
@@ -230,18 +254,24 @@ wide c = elim (cases_Bool (ltb c 128)) [
       rw a (record { len = omega (arith, l, n); lead = l ∙ sym n })
   | inr a ↦ elim (cases_Bool (ltb c 2048)) [
     | inl b ↦
-        let l : utf16_units (192 + c / 64) ≡ 1 = lead16 (192 + c / 64) (omega arith) (omega (arith, ltb-true c 2048 b)) in
+        let l : utf16_units (192 + c / 64) ≡ 1 =
+        lead16 (192 + c / 64) (omega arith) (omega (arith, ltb-true c 2048 b)) in
         let n = narrow c (below c 2048 65536 (ltb-true c 2048 b) (omega arith)) in
         rw (a, b) (record { len = omega (arith, l, n, later16 c); lead = l ∙ sym n })
     | inr b ↦ elim (cases_Bool (ltb c 65536)) [
       | inl d ↦
-          let l : utf16_units (224 + c / 4096) ≡ 1 = lead16 (224 + c / 4096) (omega arith) (omega (arith, ltb-true c 65536 d)) in
+          let l : utf16_units (224 + c / 4096) ≡ 1 =
+          lead16 (224 + c / 4096) (omega arith) (omega (arith, ltb-true c 65536 d)) in
           let n = narrow c d in
           rw (a, b, d) (record { len = omega (arith, l, n, later16 (c / 64), later16 c); lead = l ∙ sym n })
       | inr d ↦
           let l : utf16_units (240 + c / 262144) ≡ 2 = top16 (240 + c / 262144) (omega arith) in
           let n = broad c d in
-          rw (a, b, d) (record { len = omega (arith, l, n, later16 (c / 4096), later16 (c / 64), later16 c); lead = l ∙ sym n })
+          rw (a, b, d) (record {
+            len = omega (arith, l, n, later16 (c / 4096), later16 (c / 64), later16 c);
+            lead = l
+                ∙ sym n;
+          })
     ]
   ]
 ]
@@ -249,7 +279,8 @@ wide c = elim (cases_Bool (ltb c 128)) [
 pub utf16-length : (cs : List ℕ) → length (all_units Utf16 cs) ≡ utf16_len (encodes cs)
 utf16-length [] = refl
 utf16-length (c ∷ cs) =
-    let l : length (all_units Utf16 (c ∷ cs)) ≡ length (encode_utf16 c) + length (all_units Utf16 cs) = ap length (flat_map-cons (units_of Utf16) c cs)
+    let l : length (all_units Utf16 (c ∷ cs)) ≡ length (encode_utf16 c) + length (all_units Utf16 cs) =
+    ap length (flat_map-cons (units_of Utf16) c cs)
     ∙ length-append (encode_utf16 c) (all_units Utf16 cs) in
     let w = wide c in
     omega (arith, l, w.len, utf16-length cs, sum_by-append utf16_units (encode c) (encodes cs))

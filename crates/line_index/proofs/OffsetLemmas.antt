@@ -1,6 +1,7 @@
 -- The offset of a position, in the line that it names.
-use Rattle.std.proofs.Common.{◌≡◌, ℕ, zero, suc, ◌+◌, ◌-◌, ◌<◌, ◌≤◌, Bool, true, false, not, List, [], ◌∷◌, ◌++◌, length, take, drop, refl, sym, ap, ◌∙◌, subst}
-use Rattle.std.proofs.Common.{inl, inr, arith, get_or, length-append, length-drop}
+use Rattle.std.proofs.Common.{◌≡◌, ℕ, zero, suc, ◌+◌, ◌-◌, ◌<◌, ◌≤◌, Bool, true, false, not, List, [], ◌∷◌, ◌++◌}
+use Rattle.std.proofs.Common.{length, take, drop, refl, sym, ap, ◌∙◌, subst, inl, inr, arith, get_or, length-append}
+use Rattle.std.proofs.Common.{length-drop}
 use Rattle.std.specs.Prelude.{slice_index, slice_range}
 use Rattle.std.specs.Str.{IsUtf8, IsCharBoundary}
 use Rattle.std.specs.List.{prefix_len}
@@ -39,7 +40,8 @@ passes-more p x xs zero b h more = b
 passes-more p x xs (suc k) b h more = more k (omega arith)
 
 fails-more : (p : ℕ → Bool) (x : ℕ) (xs : List ℕ) (n : ℕ) → p x ≡ true → n ≡ 1 + prefix_len p xs → n < length (x ∷ xs)
-    → ((m : ℕ) → m ≡ prefix_len p xs → m < length xs → p (slice_index xs m) ≡ false) → p (slice_index (x ∷ xs) n) ≡ false
+    → ((m : ℕ) → m ≡ prefix_len p xs → m < length xs → p (slice_index xs m) ≡ false)
+    → p (slice_index (x ∷ xs) n) ≡ false
 fails-more p x xs zero b e h more = absurd (omega arith)
 fails-more p x xs (suc n) b e h more = more n (omega arith) (omega arith)
 
@@ -65,14 +67,17 @@ not-false : (b : Bool) → not b ≡ false → b ≡ true
 not-false true h = refl
 not-false false h = cc
 
-pub line-of : (text line : List ℕ) (number s : ℕ) → s ≤ length text → line_start text s ≡ s → line_at text s ≡ number → IsUtf8 text → line ≡ line_text text s
+pub line-of : (text line : List ℕ) (number s : ℕ) → s ≤ length text → line_start text s ≡ s → line_at text s ≡ number
+    → IsUtf8 text → line ≡ line_text text s
     → IsLine text s (s + length line) number
 line-of text line number s within begin at u is =
     let plain : ℕ → Bool = λ c. not (is_line_terminator c) in
     let n : ℕ = prefix_len plain (drop s text) in
     let most : n ≤ length (drop s text) = prefix_len-le-length plain (drop s text) in
-    let is' : line ≡ take n (drop s text) = is ∙ ap (λ (k : ℕ). take (prefix_len plain (drop k text)) (drop k text)) begin in
-    let len : length line ≡ n = ap length is' ∙ (let l : length (take n (drop s text)) ≡ n = omega (arith, length-take n (drop s text)) in l) in
+    let is' : line ≡ take n (drop s text) =
+    is ∙ ap (λ (k : ℕ). take (prefix_len plain (drop k text)) (drop k text)) begin in
+    let len : length line ≡ n =
+    ap length is' ∙ (let l : length (take n (drop s text)) ≡ n = omega (arith, length-take n (drop s text)) in l) in
     record {
       utf8 = u;
       ordered = omega arith;
@@ -87,12 +92,15 @@ line-of text line number s within begin at u is =
           );
       ends = λ less. (
           let there : s + n ≡ s + length line = omega arith in
-          not-false (is_line_terminator (slice_index text (s + length line))) (ap (λ (j : ℕ). plain (slice_index text j)) (sym there)
-          ∙ ap plain (sym (get_or-drop s text n 0)) ∙ fails plain (drop s text) n refl (omega (arith, length-drop s text)))
+          not-false (is_line_terminator (slice_index text (s + length line)))
+          (ap (λ (j : ℕ). plain (slice_index text j)) (sym there)
+          ∙ ap plain (sym (get_or-drop s text n 0))
+          ∙ fails plain (drop s text) n refl (omega (arith, length-drop s text)))
           );
     }
 
-pub is-line : (inner text starts line : List ℕ) (number s : ℕ) → inner ≡ text → AreStarts inner (length inner) starts → IsUtf8 inner → number < length starts
+pub is-line : (inner text starts line : List ℕ) (number s : ℕ) → inner ≡ text → AreStarts inner (length inner) starts
+    → IsUtf8 inner → number < length starts
     → s ≡ get_or starts number s
     → line ≡ line_text text s → IsLine text s (s + length line) number
 is-line inner text starts line number s view a u some read is =
@@ -110,13 +118,16 @@ small x h = grind (arith, nat_tests)
 pub end-boundary : (text : List ℕ) (start end line : ℕ) → IsLine text start end line → IsCharBoundary text end
 end-boundary text start end line l = elim (cases_lt end (length text)) [
   | inl lt ↦ IsCharBoundary-before_ascii text end lt (small (slice_index text end) (l.ends lt))
-  | inr ge ↦ (let e : length text ≡ end = omega (arith, l.within) in subst (IsCharBoundary text) e (IsCharBoundary-end text))
+  | inr ge ↦ (let e : length text ≡ end = omega (arith, l.within) in
+      subst (IsCharBoundary text) e (IsCharBoundary-end text))
 ]
 
-width-le : (e : PositionEncoding) (text : List ℕ) (start offset : ℕ) → IsUtf8 text → start ≤ offset → offset ≤ length text → IsCharBoundary text start
+width-le : (e : PositionEncoding) (text : List ℕ) (start offset : ℕ) → IsUtf8 text → start ≤ offset
+    → offset ≤ length text → IsCharBoundary text start
     → IsCharBoundary text offset
     → width e (slice_range text start offset) ≤ offset - start
-width-le Utf8 text start offset u le within b d = omega (arith, length-take (offset - start) (drop start text), length-drop start text)
+width-le Utf8 text start offset u le within b d =
+    omega (arith, length-take (offset - start) (drop start text), length-drop start text)
 width-le Utf16 text start offset u le within b d =
     omega (
       arith,
@@ -134,22 +145,26 @@ behind text offset c v s eq =
     let len : length (drop offset text) ≡ length (encode c) + length v = ap length eq ∙ length-append (encode c) v in
     let here : offset + 0 ≡ offset = omega arith in (
       omega (arith, length-drop offset text),
-      ap (slice_index text) (sym here) ∙ sym (get_or-drop offset text 0 0) ∙ ap (λ (u : List ℕ). slice_index u 0) eq ∙ get_or_append_left (encode c) v 0 0 some,
+      ap (slice_index text) (sym here) ∙ sym (get_or-drop offset text 0 0) ∙ ap (λ (u : List ℕ). slice_index u 0) eq
+          ∙ get_or_append_left (encode c) v 0 0 some,
     )
 
-none-behind : (text : List ℕ) (start end line c : ℕ) (v : List ℕ) → IsLine text start end line → scalar c ≡ true → drop end text ≡ encode c ++ v
+none-behind : (text : List ℕ) (start end line c : ℕ) (v : List ℕ) → IsLine text start end line → scalar c ≡ true
+    → drop end text ≡ encode c ++ v
     → is_line_terminator c ≡ false → ⊥
 none-behind text start end line c v l s eq plain =
     let b = behind text end c v s eq in
     let own : is_line_terminator (slice_index (encode c ++ v) 0) ≡ is_line_terminator c = quiet-front c v s in
     let some : 0 < length (encode c) = omega (arith, some-unit Utf8 c s) in
-    let first : is_line_terminator (slice_index text end) ≡ is_line_terminator c = ap is_line_terminator (b.1 ∙ sym (get_or_append_left (encode c) v 0 0 some))
+    let first : is_line_terminator (slice_index text end) ≡ is_line_terminator c =
+    ap is_line_terminator (b.1 ∙ sym (get_or_append_left (encode c) v 0 0 some))
     ∙ own in
     let both : true ≡ false = sym (l.ends b.0) ∙ first ∙ plain in
     cc
 
 -- the end of the line, for a column beyond it
-pub at-end : (e : PositionEncoding) (text : List ℕ) (start end line column : ℕ) → IsLine text start end line → end - start ≤ column
+pub at-end : (e : PositionEncoding) (text : List ℕ) (start end line column : ℕ) → IsLine text start end line
+    → end - start ≤ column
     → length (units e (take end text)) ≡ whole e (units e text) (units_before (lines_of (units e text)) line column)
 at-end e text start end line column l far = found-offset e text start end line column (record {
   utf8 = l.utf8;
@@ -160,7 +175,11 @@ at-end e text start end line column l far = found-offset e text start end line c
   begins = l.begins;
   number = l.number;
   quiet = l.quiet;
-  fits = omega (arith, width-le e text start end l.utf8 l.ordered l.within l.boundary (end-boundary text start end line l));
+  fits = omega (
+    arith,
+    width-le e text start end l.utf8 l.ordered l.within l.boundary
+        (end-boundary text start end line l),
+  );
   stops = λ c zs sc sz eq plain. absurd (none-behind text start end line c (encodes zs) l sc eq plain);
 })
 
@@ -168,26 +187,34 @@ at-end e text start end line column l far = found-offset e text start end line c
 not-range : (x : ℕ) → continues Utf8 x ≡ false → 128 ≤ x → 192 ≤ x
 not-range x h low = grind (arith, nat_tests)
 
-boundary-behind : (text : List ℕ) (offset c : ℕ) (zs : List ℕ) → offset ≤ length text → scalars zs ≡ true → drop offset text ≡ encode c ++ encodes zs
+boundary-behind : (text : List ℕ) (offset c : ℕ) (zs : List ℕ) → offset ≤ length text → scalars zs ≡ true
+    → drop offset text ≡ encode c ++ encodes zs
     → IsCharBoundary text (offset + length (encode c))
 boundary-behind text offset c zs within s eq =
-    let len : length (drop offset text) ≡ length (encode c) + length (encodes zs) = ap length eq ∙ length-append (encode c) (encodes zs) in
+    let len : length (drop offset text) ≡ length (encode c) + length (encodes zs) =
+    ap length eq ∙ length-append (encode c) (encodes zs) in
     let zero-more : length (encode c) + 0 ≡ length (encode c) = omega arith in
     let at : slice_index text (offset + length (encode c)) ≡ slice_index (encodes zs) 0
     = sym (get_or-drop offset text (length (encode c)) 0) ∙ ap (λ (u : List ℕ). slice_index u (length (encode c))) eq
     ∙ ap (slice_index (encode c ++ encodes zs)) (sym zero-more) ∙ get_or-append-add (encode c) (encodes zs) 0 0 in
     let new : continues Utf8 (slice_index text (offset + length (encode c))) ≡ false = ap (continues Utf8) at
-    ∙ ap (λ (u : List ℕ). continues Utf8 (slice_index u 0)) (sym (utf8-units zs)) ∙ fresh Utf8 zs s in
-    (omega (arith, length-drop offset text), λ less low. not-range (slice_index text (offset + length (encode c))) new low)
+    ∙ ap (λ (u : List ℕ). continues Utf8 (slice_index u 0)) (sym (utf8-units zs)) ∙ fresh Utf8 zs s in (
+      omega (arith, length-drop offset text),
+      λ less low. not-range (slice_index text (offset + length (encode c))) new low,
+    )
 
-floor-after : (text : List ℕ) (start to offset : ℕ) → IsCharBoundary text start → start ≤ to → ((i : ℕ) → offset < i → i ≤ to → IsCharBoundary text i → ⊥)
+floor-after : (text : List ℕ) (start to offset : ℕ) → IsCharBoundary text start → start ≤ to
+    → ((i : ℕ) → offset < i → i ≤ to → IsCharBoundary text i → ⊥)
     → start ≤ offset
-floor-after text start to offset b le nearest = elim (cases_lt offset start) [ inl lt ↦ absurd (nearest start lt le b) | inr ge ↦ ge ]
+floor-after text start to offset b le nearest =
+    elim (cases_lt offset start) [ inl lt ↦ absurd (nearest start lt le b) | inr ge ↦ ge ]
 
-pub at-floor : (text : List ℕ) (start end line column offset : ℕ) → IsLine text start end line → start + column < end → offset ≤ start + column
+pub at-floor : (text : List ℕ) (start end line column offset : ℕ) → IsLine text start end line → start + column < end
+    → offset ≤ start + column
     → IsCharBoundary text offset
     → ((i : ℕ) → offset < i → i ≤ start + column → IsCharBoundary text i → ⊥)
-    → length (units Utf8 (take offset text)) ≡ whole Utf8 (units Utf8 text) (units_before (lines_of (units Utf8 text)) line column)
+    → length (units Utf8 (take offset text))
+    ≡ whole Utf8 (units Utf8 text) (units_before (lines_of (units Utf8 text)) line column)
 at-floor text start end line column offset l short bound b nearest =
     let after : start ≤ offset = floor-after text start (start + column) offset l.boundary (omega arith) nearest in
     let within : offset ≤ length text = omega (arith, l.within) in
@@ -203,11 +230,12 @@ at-floor text start end line column offset l short bound b nearest =
       number = l.number;
       quiet = λ k low high. l.quiet k low (omega arith);
       fits = omega arith;
-      stops = λ c zs sc sz eq plain. elim (cases_lt column (length (slice_range text start offset) + length (encode c))) [
-        | inl lt ↦ lt
-        | inr ge ↦ absurd (nearest (offset + length (encode c)) (omega (arith, some-unit Utf8 c sc)) (omega arith)
-            (boundary-behind text offset c zs within sz eq))
-      ];
+      stops = λ c zs sc sz eq
+          plain. elim (cases_lt column (length (slice_range text start offset) + length (encode c))) [
+            | inl lt ↦ lt
+            | inr ge ↦ absurd (nearest (offset + length (encode c)) (omega (arith, some-unit Utf8 c sc)) (omega arith)
+                (boundary-behind text offset c zs within sz eq))
+          ];
     })
 
 -- in units of UTF-16
@@ -216,46 +244,52 @@ counted x h low = grind (arith, nat_tests)
 
 pub units-boundary : (text : List ℕ) (start end line column offset : ℕ) → IsLine text start end line → offset ≤ end
     → utf16_len (slice_range text start offset) ≤ column
-    → (offset < end → column < utf16_len (slice_range text start offset) + utf16_units (slice_index text offset)) → IsCharBoundary text offset
+    → (offset < end → column < utf16_len (slice_range text start offset) + utf16_units (slice_index text offset))
+    → IsCharBoundary text offset
 units-boundary text start end line column offset l to fits full = elim (cases_lt offset end) [
   | inl lt ↦ (omega (arith, l.within), λ less low. counted (slice_index text offset) (omega (arith, full lt)) low)
   | inr ge ↦ (let e : end ≡ offset = omega arith in subst (IsCharBoundary text) e (end-boundary text start end line l))
 ]
 
-pub at-units : (text : List ℕ) (start end line column offset : ℕ) → IsLine text start end line → start ≤ offset → offset ≤ end
+pub at-units : (text : List ℕ) (start end line column offset : ℕ) → IsLine text start end line
+    → start ≤ offset → offset ≤ end
     → utf16_len (slice_range text start offset) ≤ column
     → (offset < end → column < utf16_len (slice_range text start offset) + utf16_units (slice_index text offset))
-    → length (units Utf16 (take offset text)) ≡ whole Utf16 (units Utf16 text) (units_before (lines_of (units Utf16 text)) line column)
-at-units text start end line column offset l from to fits full = found-offset Utf16 text start offset line column (record {
-  utf8 = l.utf8;
-  ordered = from;
-  within = omega (arith, l.within);
-  start_boundary = l.boundary;
-  offset_boundary = units-boundary text start end line column offset l to fits full;
-  begins = l.begins;
-  number = l.number;
-  quiet = λ k low high. l.quiet k low (omega arith);
-  fits = fits;
-  stops = λ c zs sc sz eq plain. elim (cases_lt offset end) [
-    | inl lt ↦ omega (arith, full lt, ap utf16_units (behind text offset c (encodes zs) sc eq).1, (wide c).lead)
-    | inr ge ↦ (let e : offset ≡ end = omega arith in absurd (none-behind text start end line c (encodes zs) l sc
-        (ap (λ (n : ℕ). drop n text) (sym e) ∙ eq) plain))
-  ];
-})
+    → length (units Utf16 (take offset text))
+    ≡ whole Utf16 (units Utf16 text) (units_before (lines_of (units Utf16 text)) line column)
+at-units text start end line column offset l from to fits full =
+    found-offset Utf16 text start offset line column (record {
+      utf8 = l.utf8;
+      ordered = from;
+      within = omega (arith, l.within);
+      start_boundary = l.boundary;
+      offset_boundary = units-boundary text start end line column offset l to fits full;
+      begins = l.begins;
+      number = l.number;
+      quiet = λ k low high. l.quiet k low (omega arith);
+      fits = fits;
+      stops = λ c zs sc sz eq plain. elim (cases_lt offset end) [
+        | inl lt ↦ omega (arith, full lt, ap utf16_units (behind text offset c (encodes zs) sc eq).1, (wide c).lead)
+        | inr ge ↦ (let e : offset ≡ end = omega arith in absurd (none-behind text start end line c (encodes zs) l sc
+            (ap (λ (n : ℕ). drop n text) (sym e) ∙ eq) plain))
+      ];
+    })
 
 -- the position of an offset
-pub named : (e : PositionEncoding) (text : List ℕ) (offset line column : ℕ) → IsUtf8 text → offset ≤ length text → IsCursor text offset
+pub named : (e : PositionEncoding) (text : List ℕ) (offset line column : ℕ) → IsUtf8 text → offset ≤ length text
+    → IsCursor text offset
     → line ≡ line_at text offset → column ≡ width e (slice_range text (line_start text offset) offset)
     → whole e (units e text) (units_before (lines_of (units e text)) line column) ≡ length (units e (take offset text))
-named e text offset line column u within c number is = sym (found-offset e text (line_start text offset) offset line column (record {
-  utf8 = u;
-  ordered = start-le text offset;
-  within = within;
-  start_boundary = start-boundary text offset u within;
-  offset_boundary = c.boundary;
-  begins = start-begins text offset;
-  number = number ∙ start-line text offset;
-  quiet = cursor-quiet text offset c;
-  fits = omega arith;
-  stops = λ d zs sd sz eq plain. omega (arith, some-unit e d sd);
-}))
+named e text offset line column u within c number is =
+    sym (found-offset e text (line_start text offset) offset line column (record {
+      utf8 = u;
+      ordered = start-le text offset;
+      within = within;
+      start_boundary = start-boundary text offset u within;
+      offset_boundary = c.boundary;
+      begins = start-begins text offset;
+      number = number ∙ start-line text offset;
+      quiet = cursor-quiet text offset c;
+      fits = omega arith;
+      stops = λ d zs sd sz eq plain. omega (arith, some-unit e d sd);
+    }))

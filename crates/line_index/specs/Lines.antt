@@ -1,11 +1,14 @@
 -- The lines of a text by its offsets: offset k is in front of byte k, and the last offset is the end of the text.
-use Rattle.std.specs.Prelude.{ℕ, zero, suc, ◌+◌, Bool, true, ◌||◌, ◌&&◌, ◌==◌, not, if◌then◌else◌, List, drop, slice_index, take_while}
+use Rattle.std.specs.Prelude.{ℕ, zero, suc, ◌+◌, Bool, true, ◌||◌, ◌&&◌, ◌==◌, not, if◌then◌else◌, List, drop}
+use Rattle.std.specs.Prelude.{slice_index, take_while}
 use Rattle.lexical_grammar.specs.Characters.{is_line_terminator}
 
--- A line begins at the front of a text, after each LF, and after each CR that no LF follows: LF, CR and CR LF end a line.
+-- A line begins at the front of a text, after each LF, and after each CR that no LF follows: LF, CR and CR LF end a
+-- line.
 abbrev pub begins_line : List ℕ → ℕ → Bool
 begins_line text zero = true
-begins_line text (suc k) = slice_index text k == 10 || (slice_index text k == 13 && not (slice_index text (suc k) == 10))
+begins_line text (suc k) =
+    slice_index text k == 10 || (slice_index text k == 13 && not (slice_index text (suc k) == 10))
 
 -- the number of the line that an offset is in, from 0: how many lines begin after the front and up to the offset
 abbrev pub line_at : List ℕ → ℕ → ℕ

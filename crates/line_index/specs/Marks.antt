@@ -1,4 +1,5 @@
--- The sums of the weights of a text's bytes before every 64th byte. A text in ASCII needs none of them, since each of its bytes counts one.
+-- The sums of the weights of a text's bytes before every 64th byte. A text in ASCII needs none of them, since each of
+-- its bytes counts one.
 use Rattle.std.specs.Prelude.{◌≡◌, ℕ, ◌+◌, ◌*◌, ◌<◌, ◌≤◌, List, length, slice_index, take}
 use Rattle.std.specs.List.{sum_by}
 use Rattle.std.specs.Str.{IsAscii}

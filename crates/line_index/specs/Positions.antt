@@ -1,6 +1,8 @@
--- What a position of the Language Server Protocol means to a client, which has its text as a list of lines, and each line as a list of units:
--- bytes of UTF-8 or units of UTF-16. A position is the number of a line, and a column that counts units.
-use Rattle.std.specs.Prelude.{ℕ, zero, suc, ◌+◌, Bool, true, ◌||◌, ◌&&◌, ◌==◌, not, if◌then◌else◌, List, [], ◌∷◌, length, min, slice_index, encode_utf8, ◌≡◌}
+-- What a position of the Language Server Protocol means to a client, which has its text as a list of lines, and each
+-- line as a list of units: bytes of UTF-8 or units of UTF-16. A position is the number of a line, and a column that
+-- counts units.
+use Rattle.std.specs.Prelude.{ℕ, zero, suc, ◌+◌, Bool, true, ◌||◌, ◌&&◌, ◌==◌, not, if◌then◌else◌, List, [], ◌∷◌}
+use Rattle.std.specs.Prelude.{length, min, slice_index, encode_utf8, ◌≡◌}
 use Rattle.std.specs.List.{flat_map, position_or_len}
 use Rattle.std.specs.Char.Escape.{encode_utf16}
 use Rattle.std.specs.Int.{is_in_range}
@@ -38,8 +40,8 @@ abbrev pub lines_of : List ℕ → List (List ℕ)
 lines_of [] = [] ∷ []
 lines_of (x ∷ xs) = if ends_line x xs then (x ∷ []) ∷ lines_of xs else in_front x (lines_of xs)
 
--- How many units come before a column of a line: "If the character value is greater than the line length it defaults back to the line length". What
--- ends the line isn't counted. After the last line comes the end of the text.
+-- How many units come before a column of a line: "If the character value is greater than the line length it defaults
+-- back to the line length". What ends the line isn't counted. After the last line comes the end of the text.
 abbrev pub units_before : List (List ℕ) → ℕ → ℕ → ℕ
 units_before [] line column = 0
 units_before (first ∷ lines) zero column = min column (position_or_len is_line_terminator first)

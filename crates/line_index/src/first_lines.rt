@@ -27,8 +27,8 @@ fn offset_in_line(encoding: PositionEncoding, text: &str, start: usize, column: 
     }
 }
 
-/// Where the first lines of a text begin, as far as offsets were looked for. It finds offsets in a text that changes between the calls, and reads
-/// what is in front of the change no second time.
+/// Where the first lines of a text begin, as far as offsets were looked for. It finds offsets in a text that changes
+/// between the calls, and reads what is in front of the change no second time.
 #[derive(Drop)]
 pub struct FirstLines {
     starts: Vec<usize>,
@@ -56,7 +56,8 @@ impl FirstLines {
     fn reach(&mut self, text: &str, line: usize) -> Result<bool, AllocError>
         requires { AreFirstStarts text.now self.old }
         ensures known { AreFirstStarts text.now self.new }
-        ensures reached { IfOk result (λ there. MatchBool there (line < length self.new) (line_at text.now (length text.now) < line)) }
+        ensures reached { IfOk result
+            (λ there. MatchBool there (line < length self.new) (line_at text.now (length text.now) < line)) }
     {
         while self.starts.len() <= line {
             let last = self.starts[self.starts.len() - 1];
@@ -78,7 +79,9 @@ impl FirstLines {
         requires { AreFirstStarts text.now self.old }
         ensures known { AreFirstStarts text.now self.new }
         ensures boundary { IfOk result (IsCharBoundary text.now) }
-        ensures position { IfOk result (λ offset. length (units encoding (take offset text.now)) ≡ offset_of encoding (units encoding text.now) position) }
+        ensures position { IfOk result
+            (λ offset. length (units encoding (take offset text.now))
+            ≡ offset_of encoding (units encoding text.now) position) }
     {
         if !self.reach(text, position.line)? {
             return Ok(text.len());
@@ -87,9 +90,11 @@ impl FirstLines {
         Ok(offset_in_line(encoding, text, start, position.column))
     }
 
-    /// Forgets the lines that begin at an offset or behind it: the others are those of each text that is the same up to there.
+    /// Forgets the lines that begin at an offset or behind it: the others are those of each text that is the same up to
+    /// there.
     pub fn forget_from(&mut self, offset: usize)
-        ensures { (old new : List ℕ) → AreFirstStarts old self.old → take offset new ≡ take offset old → AreFirstStarts new self.new }
+        ensures { (old new : List ℕ) → AreFirstStarts old self.old → take offset new ≡ take offset old
+            → AreFirstStarts new self.new }
     {
         let known = self
             .starts

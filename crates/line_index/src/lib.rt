@@ -1,12 +1,13 @@
 //! The position of a byte of a text: its line, and its column in that line.
 //!
-//! `LineIndex` reads a text once and keeps where its lines begin. Columns are counted in bytes, in characters or in units of UTF-16, and lines
-//! end as GraphQL's line terminators do. All numbers count from 0.
+//! `LineIndex` reads a text once and keeps where its lines begin. Columns are counted in bytes, in characters or in
+//! units of UTF-16, and lines end as GraphQL's line terminators do. All numbers count from 0.
 //!
 //! The crates above make one `LineIndex` for each text, and call its `line_column` and `position`.
 #![tactic(auto)]
 
-ghost use Rattle.std.specs.Prelude.{◌≡◌, ℕ, ◌+◌, ◌^◌, ◌<◌, ◌==◌, ◌&&◌, ◌≤◌, length, slice_index, slice_range, take, drop, IfOk, MatchOption, take_while, not};
+ghost use Rattle.std.specs.Prelude.{◌≡◌, ℕ, ◌+◌, ◌^◌, ◌<◌, ◌==◌, ◌&&◌, ◌≤◌, length, slice_index, slice_range, take};
+ghost use Rattle.std.specs.Prelude.{drop, IfOk, MatchOption, take_while, not};
 ghost use Rattle.std.specs.List.{sum_by};
 ghost use Rattle.std.specs.Str.{IsCharBoundary};
 ghost use Rattle.lexical_grammar.specs.Characters.{is_line_terminator};
@@ -42,7 +43,8 @@ fn is_cr_lf(bytes: &[u8], offset: usize) -> bool
 // Where the next line begins after an offset.
 fn next_start(bytes: &[u8], offset: usize) -> Option<usize>
     requires { offset ≤ length bytes.now }
-    ensures { MatchOption result (line_at bytes.now (length bytes.now) ≡ line_at bytes.now offset) (IsNextStart bytes.now offset) }
+    ensures { MatchOption result (line_at bytes.now (length bytes.now) ≡ line_at bytes.now offset)
+        (IsNextStart bytes.now offset) }
 {
     let end = offset + memchr2(b'\n', b'\r', &bytes[offset..])?;
     if is_cr_lf(bytes, end) {
@@ -148,7 +150,8 @@ fn marks<A: Allocator>(alloc: A, counted: Counted, text: &str) -> Result<Vec<usi
 fn fitting(bytes: &[u8], room: usize) -> usize
     ensures within { result ≤ length bytes.now }
     ensures fits { utf16_len (take result bytes.now) ≤ room }
-    ensures full { result < length bytes.now → room < utf16_len (take result bytes.now) + utf16_units (slice_index bytes.now result) }
+    ensures full { result < length bytes.now
+        → room < utf16_len (take result bytes.now) + utf16_units (slice_index bytes.now result) }
 {
     let mut left = room;
     for (offset, byte) in bytes.iter().enumerate() {
@@ -166,7 +169,8 @@ pub fn line_end(bytes: &[u8], offset: usize) -> usize
     requires { offset ≤ length bytes.now }
     ensures from { offset ≤ result }
     ensures within { result ≤ length bytes.now }
-    ensures line { slice_range bytes.now offset result ≡ take_while (λ c. not (is_line_terminator c)) (drop offset bytes.now) }
+    ensures line { slice_range bytes.now offset result
+        ≡ take_while (λ c. not (is_line_terminator c)) (drop offset bytes.now) }
 {
     match memchr2(b'\n', b'\r', &bytes[offset..]) {
         Some(length) => offset + length,
@@ -193,18 +197,21 @@ pub enum PositionEncoding {
     Utf16,
 }
 
-/// A position as the Language Server Protocol gives it: the number of its line, and its column there in units of an encoding, both from 0.
+/// A position as the Language Server Protocol gives it: the number of its line, and its column there in units of an
+/// encoding, both from 0.
 #[derive(Clone, Copy)]
 pub struct Position {
     pub line: usize,
     pub column: usize,
 }
 
-/// The lines of a text, indexed by where they begin. GraphQL's line terminators end them: LF, CR and CR LF. What follows the last of these
-/// is a line too, even when it is empty. It takes one number of memory for each line, and two for every 64 bytes unless the text is ASCII.
+/// The lines of a text, indexed by where they begin. GraphQL's line terminators end them: LF, CR and CR LF. What
+/// follows the last of these is a line too, even when it is empty. It takes one number of memory for each line, and two
+/// for every 64 bytes unless the text is ASCII.
 ///
-/// The calls take a byte offset in the text, which may be the text's length, and find its line and column in the time of the logarithm of the
-/// number of lines. An offset between the CR and the LF of a CR LF is in the line that they end.
+/// The calls take a byte offset in the text, which may be the text's length, and find its line and column in the time
+/// of the logarithm of the number of lines. An offset between the CR and the LF of a CR LF is in the line that they
+/// end.
 #[derive(Drop)]
 pub struct LineIndex<'a, A: Allocator = Global> {
     text: &'a str,
@@ -221,7 +228,8 @@ impl<'a, A: Allocator> Model for LineIndex<'a, A> {
 
     ghost view = { λ index. index.text.now };
 
-    ghost invariant = { λ index. IsIndexed index.text.now index.starts.items index.character_marks.items index.utf16_marks.items };
+    ghost invariant = { λ index. IsIndexed index.text.now index.starts.items index.character_marks.items
+        index.utf16_marks.items };
 }
 
 impl<'a, A: Allocator> LineIndex<'a, A> {
@@ -320,13 +328,14 @@ impl<'a, A: Allocator> LineIndex<'a, A> {
         self.weight_before(Counted::Utf16Units, offset)
     }
 
-    /// The position of a byte offset, as the protocol counts columns in this encoding. The client finds the same byte by it, unless the offset is
-    /// inside a character or between the CR and the LF of a CR LF.
+    /// The position of a byte offset, as the protocol counts columns in this encoding. The client finds the same byte
+    /// by it, unless the offset is inside a character or between the CR and the LF of a CR LF.
     pub fn position(&self, encoding: PositionEncoding, offset: usize) -> Position
         requires { offset ≤ length self.now }
         ensures line { result.line ≡ line_at self.now offset }
         ensures column { result.column ≡ width encoding (slice_range self.now (line_start self.now offset) offset) }
-        ensures names { IsCursor self.now offset → offset_of encoding (units encoding self.now) result ≡ length (units encoding (take offset self.now)) }
+        ensures names { IsCursor self.now offset
+            → offset_of encoding (units encoding self.now) result ≡ length (units encoding (take offset self.now)) }
     {
         let position = self.line_column(offset);
         let part = &self.text.as_bytes()[offset - position.column..offset];
@@ -340,7 +349,8 @@ impl<'a, A: Allocator> LineIndex<'a, A> {
         }
     }
 
-    // The offset in a part of a line at which the units of UTF-16 reach a column, or where a character begins that would exceed it.
+    // The offset in a part of a line at which the units of UTF-16 reach a column, or where a character begins that
+    // would exceed it.
     fn column_end(&self, start: usize, end: usize, column: usize) -> usize
         requires short { start + column < end }
         requires within { end ≤ length self.now }
@@ -348,7 +358,8 @@ impl<'a, A: Allocator> LineIndex<'a, A> {
         ensures from { start ≤ result }
         ensures to { result ≤ end }
         ensures fits { utf16_len (slice_range self.now start result) ≤ column }
-        ensures full { result < end → column < utf16_len (slice_range self.now start result) + utf16_units (slice_index self.now result) }
+        ensures full { result < end
+            → column < utf16_len (slice_range self.now start result) + utf16_units (slice_index self.now result) }
     {
         let marks = self.marks(Counted::Utf16Units);
         if marks.is_empty() {
@@ -365,12 +376,14 @@ impl<'a, A: Allocator> LineIndex<'a, A> {
         from + fitting(&bytes[from..end], room)
     }
 
-    /// The byte offset of a position, whose columns are counted in this encoding: always one at which a character begins or the text ends. A column
-    /// beyond the end of its line is that end, in front of the line terminator; a line beyond the last is the end of the text; a column inside a
-    /// character is where that begins. It takes the time of the logarithm of the text's length, and of a search for the line's end.
+    /// The byte offset of a position, whose columns are counted in this encoding: always one at which a character
+    /// begins or the text ends. A column beyond the end of its line is that end, in front of the line terminator; a
+    /// line beyond the last is the end of the text; a column inside a character is where that begins. It takes the time
+    /// of the logarithm of the text's length, and of a search for the line's end.
     pub fn offset(&self, encoding: PositionEncoding, position: Position) -> usize
         ensures boundary { IsCharBoundary self.now result }
-        ensures position { length (units encoding (take result self.now)) ≡ offset_of encoding (units encoding self.now) position }
+        ensures position { length (units encoding (take result self.now))
+            ≡ offset_of encoding (units encoding self.now) position }
     {
         let bytes = self.text.as_bytes();
         if position.line >= self.starts.len() {

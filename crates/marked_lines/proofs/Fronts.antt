@@ -4,7 +4,8 @@ use Rattle.std.proofs.Common.{refl, ap, subst, append_assoc, arith}
 use Rattle.marked_lines.specs.Places.{BeginsWith, OfFirst}
 
 -- what a beginning of a text begins with
-pub begins_through : (text middle front : List ℕ) → BeginsWith text middle → BeginsWith middle front → BeginsWith text front
+pub begins_through : (text middle front : List ℕ) → BeginsWith text middle → BeginsWith middle front
+    → BeginsWith text front
 begins_through text middle front later first = record {
   rest = first.rest ++ later.rest;
   is = later.is ∙ ap (λ (t : List ℕ). t ++ later.rest) first.is ∙ append_assoc front first.rest later.rest;
@@ -15,14 +16,18 @@ pub begins_added : (text middle part : List ℕ) → text ≡ middle ++ part →
 begins_added text middle part added = record { rest = part; is = added }
 
 -- the same where more was added later
-pub begins_part : (text longer middle part : List ℕ) → longer ≡ middle ++ part → BeginsWith text longer → BeginsWith text middle
-begins_part text longer middle part added later = begins_through text longer middle later (begins_added longer middle part added)
+pub begins_part : (text longer middle part : List ℕ) → longer ≡ middle ++ part → BeginsWith text longer
+    → BeginsWith text middle
+begins_part text longer middle part added later =
+    begins_through text longer middle later (begins_added longer middle part added)
 
 -- ---- texts made of items
 
 -- One item is added. If it is the first, it is put into an empty text; what held of the first before still does.
-pub of_first_more : {X : Type 0} (P : X → List ℕ → Type 0) (xs : List X) (i : ℕ) (d : X) (old new : List ℕ) → i < length xs → (i ≡ 0 → old ≡ [])
-    → OfFirst (λ x. P x old) (take i xs) → ((x : X) → P x old → P x new) → (old ≡ [] → P (get_or xs i d) new) → OfFirst (λ x. P x new) (take (i + 1) xs)
+pub of_first_more : {X : Type 0} (P : X → List ℕ → Type 0) (xs : List X) (i : ℕ) (d : X) (old new : List ℕ)
+    → i < length xs → (i ≡ 0 → old ≡ [])
+    → OfFirst (λ x. P x old) (take i xs) → ((x : X) → P x old → P x new) → (old ≡ [] → P (get_or xs i d) new)
+    → OfFirst (λ x. P x new) (take (i + 1) xs)
 of_first_more P [] i d old new inside none so_far stays first = absurd (omega (arith, inside))
 of_first_more P (x ∷ xs) zero d old new inside none so_far stays first = first (none refl)
 of_first_more P (x ∷ xs) (suc i) d old new inside none so_far stays first =
@@ -30,7 +35,8 @@ of_first_more P (x ∷ xs) (suc i) d old new inside none so_far stays first =
     subst (λ (n : ℕ). OfFirst (λ y. P y new) (take n (x ∷ xs))) more (stays x so_far)
 
 -- the same where each item has a front of its own
-pub of_first_front : {X : Type 0} (front : X → List ℕ) (xs : List X) (i : ℕ) (d : X) (old new : List ℕ) → i < length xs → (i ≡ 0 → old ≡ [])
+pub of_first_front : {X : Type 0} (front : X → List ℕ) (xs : List X) (i : ℕ) (d : X) (old new : List ℕ)
+    → i < length xs → (i ≡ 0 → old ≡ [])
     → OfFirst (λ x. BeginsWith old (front x)) (take i xs) → BeginsWith new (old ++ front (get_or xs i d))
     → OfFirst (λ x. BeginsWith new (front x)) (take (i + 1) xs)
 of_first_front front xs i d old new inside none so_far added =

@@ -23,4 +23,5 @@ one-more report report' rest rest' all c utf8 begins put h =
     let first : shown rest ≡ encode_utf8_all (shown_char c) ++ shown rest' =
     ap (λ cs. encode_utf8_all (flat_map shown_char cs)) (chars_past_char rest rest' c utf8 begins)
     ∙ encodes-append (shown_char c) (flat_map shown_char (chars rest')) in
-    ap (λ s. s ++ shown rest') put ∙ append_assoc report (encode_utf8_all (shown_char c)) (shown rest') ∙ ap (λ s. report ++ s) (sym first) ∙ h
+    ap (λ s. s ++ shown rest') put ∙ append_assoc report (encode_utf8_all (shown_char c)) (shown rest')
+    ∙ ap (λ s. report ++ s) (sym first) ∙ h

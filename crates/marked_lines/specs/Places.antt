@@ -14,7 +14,8 @@ column_number text offset = char_count (slice_range text (line_start text offset
 -- `NAME:LINE:COLUMN: `, as `a.graphql:3:7: `
 abbrev pub place : List ℕ → List ℕ → ℕ → List ℕ
 place name text offset =
-    shown name ++ codes ":" ++ decimal (line_number text offset) ++ codes ":" ++ decimal (column_number text offset) ++ codes ": "
+    shown name ++ codes ":" ++ decimal (line_number text offset) ++ codes ":"
+    ++ decimal (column_number text offset) ++ codes ": "
 
 -- The text begins with this front. What follows is not stated.
 pub record BeginsWith (text front : List ℕ) : Type 0 where

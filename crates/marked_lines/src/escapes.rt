@@ -7,7 +7,8 @@ use std::alloc::{AllocError, Allocator};
 use ucd_category::GeneralCategory;
 use unicode_width::UnicodeWidthChar;
 
-/// Whether a character would not be seen, or would move others: a control character but a tab, a format character, or a separator of lines or paragraphs.
+/// Whether a character would not be seen, or would move others: a control character but a tab, a format character, or a
+/// separator of lines or paragraphs.
 pub fn is_unseen(c: char) -> bool
     ensures { result ≡ is_unseen c }
 {
@@ -23,7 +24,8 @@ pub fn is_unseen(c: char) -> bool
 
 // Puts an escape for a character, as `\u{202e}`.
 fn push_escape<A: Allocator>(report: &mut String<A>, c: char) -> Result<(), AllocError>
-    ensures { IfOk result (λ _. string_bytes report.new ≡ string_bytes report.old ++ encode_utf8_all (escape_unicode c)) }
+    ensures { IfOk result (λ _. string_bytes report.new ≡ string_bytes report.old
+        ++ encode_utf8_all (escape_unicode c)) }
 {
     for part in c.escape_unicode() {
         report.push(part)?;
@@ -42,7 +44,8 @@ fn push_shown<A: Allocator>(report: &mut String<A>, c: char) -> Result<(), Alloc
     }
 }
 
-/// Puts a text at the end of another as it is shown: with escapes, as `\u{202e}`, for the characters that would not be seen or would move others.
+/// Puts a text at the end of another as it is shown: with escapes, as `\u{202e}`, for the characters that would not be
+/// seen or would move others.
 pub fn push_escaped<A: Allocator>(report: &mut String<A>, text: &str) -> Result<(), AllocError>
     ensures { IfOk result (λ _. string_bytes report.new ≡ string_bytes report.old ++ shown text.now) }
 {

@@ -10,7 +10,8 @@ const BEFORE: usize = 60;
 
 const AFTER: usize = 100;
 
-// As many columns of blanks as a character takes: a tab for a tab, so that what follows is below what follows the character.
+// As many columns of blanks as a character takes: a tab for a tab, so that what follows is below what follows the
+// character.
 fn push_blank<A: Allocator>(text: &mut String<A>, c: char) -> Result<(), AllocError>
     ensures { IfOk result (λ _. BeginsWith (string_bytes text.new) (string_bytes text.old)) }
 {
@@ -77,8 +78,9 @@ fn push_marks<A: Allocator>(
     report.push('\n')
 }
 
-/// Puts a line of a text at the end of a report, and below it a line that marks as many characters from the column on as are in `marked`.
-/// The column is in bytes. Of a long line the part around the column is shown, and nothing of an empty one.
+/// Puts a line of a text at the end of a report, and below it a line that marks as many characters from the column on
+/// as are in `marked`. The column is in bytes. Of a long line the part around the column is shown, and nothing of an
+/// empty one.
 #[tactic(auto, using(crate::proofs::Fronts::begins_through))]
 pub fn push_excerpt<A: Allocator>(
     report: &mut String<A>,

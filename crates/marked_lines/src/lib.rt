@@ -1,7 +1,8 @@
-//! Messages about places of a text, as programs show them: the place, the message, and the line of the text with the place marked.
+//! Messages about places of a text, as programs show them: the place, the message, and the line of the text with the
+//! place marked.
 //!
-//! `gqlfmt_run` and `gqlcheck_run` call `push_message`, and `complaint` where there is no place to show. The names that other programs read are quoted by
-//! `gqlfmt_run`, which has `is_unseen` from here.
+//! `gqlfmt_run` and `gqlcheck_run` call `push_message`, and `complaint` where there is no place to show. The names that
+//! other programs read are quoted by `gqlfmt_run`, which has `is_unseen` from here.
 #![tactic(auto)]
 
 ghost use Rattle.std.specs.Prelude.{◌≡◌, ◌≤◌, ◌++◌, IfOk, codes, length, string_bytes};
@@ -26,8 +27,8 @@ pub struct Remark<'m> {
     pub marked: &'m str,
 }
 
-/// Puts `NAME:LINE:COLUMN: ` at the end of a report, for a byte offset of the text. Lines and columns count from 1, columns in characters. The name is
-/// escaped.
+/// Puts `NAME:LINE:COLUMN: ` at the end of a report, for a byte offset of the text. Lines and columns count from 1,
+/// columns in characters. The name is escaped.
 pub fn push_place<A: Allocator>(
     report: &mut String<A>,
     name: &str,
@@ -44,9 +45,10 @@ pub fn push_place<A: Allocator>(
     write!(report, ":{line}:{column}: ")
 }
 
-/// Puts a line `NAME:LINE:COLUMN: MESSAGE` at the end of a report, and below it the line of the text that has the byte offset, with as many characters
-/// marked from the offset on as it has in common with `marked`, at least one. Lines and columns count from 1, columns in characters. Marks are below
-/// what they mark on a terminal, and characters that would not be seen there, or would move others, are escaped.
+/// Puts a line `NAME:LINE:COLUMN: MESSAGE` at the end of a report, and below it the line of the text that has the byte
+/// offset, with as many characters marked from the offset on as it has in common with `marked`, at least one. Lines and
+/// columns count from 1, columns in characters. Marks are below what they mark on a terminal, and characters that would
+/// not be seen there, or would move others, are escaped.
 pub fn push_message<A: Allocator>(
     report: &mut String<A>,
     name: &str,
@@ -54,7 +56,8 @@ pub fn push_message<A: Allocator>(
     remark: &Remark<'_>,
 ) -> Result<(), AllocError>
     requires { remark.now.offset ≤ length index.now }
-    ensures { IfOk result (λ _. BeginsWith (string_bytes report.new) (string_bytes report.old ++ place name.now index.now remark.now.offset)) }
+    ensures { IfOk result (λ _. BeginsWith (string_bytes report.new)
+        (string_bytes report.old ++ place name.now index.now remark.now.offset)) }
 {
     push_place(report, name, index, remark.offset)?;
     push_escaped(report, remark.message.0)?;
@@ -77,7 +80,8 @@ pub fn complaint<A: Allocator>(
     name: &str,
     reason: &str,
 ) -> Result<String<A>, AllocError>
-    ensures { IfOk result (λ line. string_bytes line ≡ program.now ++ codes ": " ++ shown name.now ++ codes ": " ++ reason.now ++ codes "\n") }
+    ensures { IfOk result (λ line. string_bytes line ≡ program.now ++ codes ": " ++ shown name.now ++ codes ": "
+        ++ reason.now ++ codes "\n") }
 {
     let mut line = String::from_str(alloc, program)?;
     line.push_str(": ")?;

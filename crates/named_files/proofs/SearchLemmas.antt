@@ -18,8 +18,10 @@ cons-append (Some y) rest = refl
 pub filter_map_last : {X Y Z : Type 0} (f : X → Y) (h : Y → Option Z) (items : List X) (x : X) (rest : List Z)
     → filter_map h (map f (items ++ x ∷ [])) ++ rest ≡ filter_map h (map f items) ++ cons_option (h (f x)) rest
 filter_map_last f h items x rest =
-    ap (λ ys. filter_map h ys ++ rest) (map-append f items (x ∷ [])) ∙ ap (λ zs. zs ++ rest) (filter_map-append h (map f items) (f x ∷ []))
-    ∙ append_assoc (filter_map h (map f items)) (cons_option (h (f x)) []) rest ∙ ap (λ zs. filter_map h (map f items) ++ zs) (cons-append (h (f x)) rest)
+    ap (λ ys. filter_map h ys ++ rest) (map-append f items (x ∷ []))
+    ∙ ap (λ zs. zs ++ rest) (filter_map-append h (map f items) (f x ∷ []))
+    ∙ append_assoc (filter_map h (map f items)) (cons_option (h (f x)) []) rest
+    ∙ ap (λ zs. filter_map h (map f items) ++ zs) (cons-append (h (f x)) rest)
 
 -- a search, from some paths that wait to others
 module _ {S : Type 0} (lists : S → List ℕ → Listing → S → Type 0) where
@@ -35,12 +37,14 @@ module _ {S : Type 0} (lists : S → List ℕ → Listing → S → Type 0) wher
         added = cons_option one [];
         is = is;
         onward = λ rest final h.
-            subst (λ (fs : List FoundPath). Finds lists (found_path ∷ waiting) fs old final) (sym (cons-append one rest))
+            subst (λ (fs : List FoundPath). Finds lists (found_path ∷ waiting) fs old final)
+            (sym (cons-append one rest))
             (step rest final (subst (λ (ps : List FoundPath). Finds lists ps rest new final) same h));
       }) adds
 
   -- it goes into a folder
-  pub advances_into : {T E : Type 0} (r : Result T E) (path : List ℕ) (has : List Entry) (waiting found waiting' found' : List FoundPath) (old new : S)
+  pub advances_into : {T E : Type 0} (r : Result T E) (path : List ℕ) (has : List Entry)
+      (waiting found waiting' found' : List FoundPath) (old new : S)
       → lists old path (entries has) new
       → OnOk r (waiting' ≡ filter_map (found_path_in path) has ++ waiting) → found' ≡ found
       → OnOk r (Advances lists (folder path ∷ waiting) found old waiting' found' new)
@@ -56,8 +60,10 @@ module _ {S : Type 0} (lists : S → List ℕ → Listing → S → Type 0) wher
   stays waiting found old = record { added = []; is = sym (append-nil found); onward = λ rest final h. h }
 
   -- it goes on
-  pub goes_on : (waiting found : List FoundPath) (old : S) (waiting' found' : List FoundPath) (middle : S) (waiting'' found'' : List FoundPath) (new : S)
-      → Advances lists waiting found old waiting' found' middle → Advances lists waiting' found' middle waiting'' found'' new
+  pub goes_on : (waiting found : List FoundPath) (old : S) (waiting' found' : List FoundPath) (middle : S)
+      (waiting'' found'' : List FoundPath) (new : S)
+      → Advances lists waiting found old waiting' found' middle
+      → Advances lists waiting' found' middle waiting'' found'' new
       → Advances lists waiting found old waiting'' found'' new
   goes_on waiting found old waiting' found' middle waiting'' found'' new a b = record {
     added = a.added ++ b.added;
@@ -68,10 +74,12 @@ module _ {S : Type 0} (lists : S → List ℕ → Listing → S → Type 0) wher
   }
 
   -- it ends
-  pub ends : (waiting : List FoundPath) (old : S) (found : List FoundPath) (new : S) → Advances lists waiting [] old [] found new
+  pub ends : (waiting : List FoundPath) (old : S) (found : List FoundPath) (new : S)
+      → Advances lists waiting [] old [] found new
       → Finds lists waiting found old new
   ends waiting old found new a =
-      subst (λ (fs : List FoundPath). Finds lists waiting fs old new) (append-nil a.added ∙ sym a.is) (a.onward [] new nothing)
+      subst (λ (fs : List FoundPath). Finds lists waiting fs old new) (append-nil a.added ∙ sym a.is)
+      (a.onward [] new nothing)
 
 module _ {S : Type 0} (lists : S → List ℕ → Listing → S → Type 0) where
   pub lists_on : (old middle new : S) → Lists lists old middle → Lists lists middle new → Lists lists old new

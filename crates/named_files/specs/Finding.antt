@@ -24,8 +24,8 @@ path_of (file path) = path
 path_of (folder path) = path
 path_of (unreadable path) = path
 
--- What is looked at, by a path, a name and its kind: a folder that package managers do not fill, or a file whose name is a GraphQL file's.
--- Symbolic links, pipes and devices never are looked at.
+-- What is looked at, by a path, a name and its kind: a folder that package managers do not fill, or a file whose name
+-- is a GraphQL file's. Symbolic links, pipes and devices never are looked at.
 abbrev pub found_path_of : List ℕ → List ℕ → Kind → Option FoundPath
 found_path_of path name kind.File = if is_graphql name then Some (file path) else None
 found_path_of path name kind.Folder = if is_of_others name then None else Some (folder path)
@@ -34,7 +34,8 @@ found_path_of path name (kind.Failed error) = Some (unreadable path)
 
 -- the same of an entry of a folder, if it is not hidden
 abbrev pub found_path_in : List ℕ → Entry → Option FoundPath
-found_path_in path entry = if is_hidden entry.name then None else found_path_of (path_in path entry.name) entry.name entry.kind
+found_path_in path entry =
+    if is_hidden entry.name then None else found_path_of (path_in path entry.name) entry.name entry.kind
 
 -- What is found at a path. Where that is nothing, the path counts as unreadable.
 abbrev pub named : List ℕ → List FoundPath → List FoundPath
@@ -43,7 +44,8 @@ named path (found_path ∷ found) = found_path ∷ found
 
 -- the folders, as a trait tells what listing one does
 module _ {S : Type 0} (lists : S → List ℕ → Listing → S → Type 0) where
-  -- `Finds waiting found old new`: what is found at the paths that wait, one after the other, and below them: files, and what could not be read.
+  -- `Finds waiting found old new`: what is found at the paths that wait, one after the other, and below them: files,
+  -- and what could not be read.
   pub data Finds : List FoundPath → List FoundPath → S → S → Type 0 where
     nothing : {state : S} → Finds [] [] state state
     at_file : {path : List ℕ} {waiting found : List FoundPath} {old new : S}
@@ -52,7 +54,8 @@ module _ {S : Type 0} (lists : S → List ℕ → Listing → S → Type 0) wher
         → Finds waiting found old new → Finds (unreadable path ∷ waiting) (unreadable path ∷ found) old new
     at_folder : {path : List ℕ} {has : List Entry} {waiting found : List FoundPath} {old middle new : S}
         → lists old path (entries has) middle
-        → Finds (filter_map (found_path_in path) has ++ waiting) found middle new → Finds (folder path ∷ waiting) found old new
+        → Finds (filter_map (found_path_in path) has ++ waiting) found middle new
+        → Finds (folder path ∷ waiting) found old new
     at_no_folder : {path : List ℕ} {waiting found : List FoundPath} {old middle new : S}
         → lists old path no_folder middle → Finds waiting found middle new
         → Finds (folder path ∷ waiting) (file path ∷ found) old new
@@ -70,4 +73,5 @@ module _ {S : Type 0} (lists : S → List ℕ → Listing → S → Type 0) wher
   -- Folders were listed, and nothing else was done.
   pub data Lists : S → S → Type 0 where
     none : {state : S} → Lists state state
-    more : {old middle new : S} {path : List ℕ} {listing : Listing} → Lists old middle → lists middle path listing new → Lists old new
+    more : {old middle new : S} {path : List ℕ} {listing : Listing} → Lists old middle
+        → lists middle path listing new → Lists old new

@@ -34,7 +34,8 @@ desk state = record { files = state.files; output = state.output; complaints = s
 
 -- `IsOutput text outcome output` is the output for a text, by its outcome
 module _ {T : Type 0} (IsOutput : List ℕ → T → List ℕ → Type 0) where
-  -- What is written after a read: the output for the text that it gave, and nothing where it gave none. The file was not read only where the read failed.
+  -- What is written after a read: the output for the text that it gave, and nothing where it gave none. The file was
+  -- not read only where the read failed.
   abbrev pub FollowsRead : Result (List ℕ) Error → Result T FileFault → Account → Account → Type 0
   FollowsRead (Ok text) (Ok outcome) old new = Writes IsOutput (Ok outcome) text old new
   FollowsRead (Ok text) (Err (Device fault)) old new = (fault ≢ Read) × Writes IsOutput (Err fault) text old new
@@ -44,7 +45,8 @@ module _ {T : Type 0} (IsOutput : List ℕ → T → List ℕ → Type 0) where
   FollowsRead (Err error) ended old new = ⊥
 
   -- The file at a path is read once, and this is written of it. Nothing else is done with files.
-  pub record ReadsAndWrites {S : Type 0} (reads : S → List ℕ → Result (List ℕ) Error → S → Type 0) (path : List ℕ) (ended : Result T FileFault)
+  pub record ReadsAndWrites {S : Type 0} (reads : S → List ℕ → Result (List ℕ) Error → S → Type 0) (path : List ℕ)
+      (ended : Result T FileFault)
       (old : S) (output : Account) (new : S) (output' : Account) : Type 0 where
     pub given : Result (List ℕ) Error
     pub read : reads old path given new
@@ -58,12 +60,14 @@ module _ {I D : Type 0} (handles : I → ℕ → D → D → Type 0) where
   abbrev pub InTurn : List I → ℕ → D → D → Type 0
   InTurn [] status old new = (status ≡ 0) × (new ≡ old)
   InTurn (item ∷ items) status old new =
-      (one : ℕ) × (rest : ℕ) × (next : D) × (status ≡ max one rest) × handles item one old next × InTurn items rest next new
+      (one : ℕ) × (rest : ℕ) × (next : D) × (status ≡ max one rest) × handles item one old next
+      × InTurn items rest next new
 
 -- the files that a path names, as a trait tells what listing a folder does
 module _ {S : Type 0} (lists : S → List ℕ → Listing → S → Type 0) where
   -- They are found, and then handled.
-  pub record FindsAndHandles (handles : FoundPath → ℕ → Desk S → Desk S → Type 0) (path : List ℕ) (status : ℕ) (old new : Desk S) : Type 0 where
+  pub record FindsAndHandles (handles : FoundPath → ℕ → Desk S → Desk S → Type 0) (path : List ℕ) (status : ℕ)
+      (old new : Desk S) : Type 0 where
     pub found : List FoundPath
     pub middle : S
     pub named : IsNamed lists path found old.files middle
@@ -77,4 +81,5 @@ module _ {S : Type 0} (lists : S → List ℕ → Listing → S → Type 0) wher
     pub tells : Tells program path Memory old.complaints new.complaints
 
   abbrev pub HandlesNamed : List ℕ → (FoundPath → ℕ → Desk S → Desk S → Type 0) → List ℕ → ℕ → Desk S → Desk S → Type 0
-  HandlesNamed program handles path status old new = FindsAndHandles handles path status old new ⊎ GivesUp program path status old new
+  HandlesNamed program handles path status old new =
+      FindsAndHandles handles path status old new ⊎ GivesUp program path status old new

@@ -10,9 +10,11 @@ abbrev pub is_of_others : List ℕ → Bool
 is_of_others name = bytes_eq name (codes "node_modules")
 
 abbrev pub is_graphql : List ℕ → Bool
-is_graphql name = ends_with eqb name (codes ".graphql") || ends_with eqb name (codes ".graphqls") || ends_with eqb name (codes ".gql")
+is_graphql name = ends_with eqb name (codes ".graphql") || ends_with eqb name (codes ".graphqls")
+    || ends_with eqb name (codes ".gql")
 
--- The path of a name in a folder. In the working folder it is the name. Where a name could not be read, it is the folder's.
+-- The path of a name in a folder. In the working folder it is the name. Where a name could not be read, it is the
+-- folder's.
 abbrev pub path_in : List ℕ → List ℕ → List ℕ
 path_in folder name =
     if bytes_eq name (codes "") then folder

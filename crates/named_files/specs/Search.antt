@@ -17,9 +17,11 @@ waiting_of search = reverse (map as_found_path search.waiting.items)
 abbrev pub found_by : {A : Type 0} → Search A → List FoundPath
 found_by search = map as_named search.found.items
 
--- From paths that wait and what was found before, a search came to others and has found more: what is found from there on is found after that.
+-- From paths that wait and what was found before, a search came to others and has found more: what is found from there
+-- on is found after that.
 pub record Advances {S : Type 0} (lists : S → List ℕ → Listing → S → Type 0)
     (waiting found : List FoundPath) (old : S) (waiting' found' : List FoundPath) (new : S) : Type 0 where
   pub added : List FoundPath
   pub is : found' ≡ found ++ added
-  pub onward : (rest : List FoundPath) (final : S) → Finds lists waiting' rest new final → Finds lists waiting (added ++ rest) old final
+  pub onward : (rest : List FoundPath) (final : S) → Finds lists waiting' rest new final
+      → Finds lists waiting (added ++ rest) old final

@@ -26,7 +26,8 @@ pub fn is_graphql(name: &str) -> bool
     name.ends_with(b".graphql") || name.ends_with(b".graphqls") || name.ends_with(b".gql")
 }
 
-/// The path of a name in a folder. In the working folder it is the name. Where a name could not be read, it is the folder's.
+/// The path of a name in a folder. In the working folder it is the name. Where a name could not be read, it is the
+/// folder's.
 pub fn path_in<A: Allocator>(alloc: A, folder: &str, name: &str) -> Result<String<A>, AllocError>
     ensures { IfOk result (λ path. string_bytes path ≡ path_in folder.now name.now) }
 {

@@ -2,7 +2,8 @@
 ghost use Rattle.std.specs.Prelude.{◌≡◌, ◌++◌, [], ◌∷◌, map, IfOk, OnOk, option_map, string_bytes};
 ghost use Rattle.std.specs.List.{cons_option, filter_map};
 ghost use Rattle.file_access.specs.Listing.{as_entry};
-ghost use Rattle.named_files.specs.Finding.{Finds, IsNamed, Lists, as_named, folder, named, path_of, found_path_in, found_path_of};
+ghost use Rattle.named_files.specs.Finding.{Finds, IsNamed, Lists, as_named, folder, named, path_of, found_path_in};
+ghost use Rattle.named_files.specs.Finding.{found_path_of};
 ghost use Rattle.named_files.specs.Search.{Advances, as_found_path, found_by, waiting_of};
 
 use crate::names::{is_graphql, is_hidden, is_of_others, path_in};
@@ -57,7 +58,8 @@ fn found_path_in<A: Allocator + Copy, B: Allocator>(
     folder: &str,
     entry: &Entry<B>,
 ) -> Result<Option<FoundPath<A>>, AllocError>
-    ensures { IfOk result (λ found_path. option_map as_found_path found_path ≡ found_path_in folder.now (as_entry entry.now)) }
+    ensures { IfOk result (λ found_path. option_map as_found_path found_path
+        ≡ found_path_in folder.now (as_entry entry.now)) }
 {
     let name = entry.name.as_str();
     if is_hidden(name) {
@@ -129,7 +131,8 @@ impl<A: Allocator + Copy> Search<A> {
 
     // Looks at a path: adds what is found there, or has the entries of a folder looked at next.
     fn look<F: Files>(&mut self, files: &mut F, found_path: FoundPath<A>) -> Result<(), AllocError>
-        ensures ok { OnOk result (Advances F.lists (as_found_path found_path ∷ waiting_of self.old) (found_by self.old) files.old
+        ensures ok { OnOk result
+            (Advances F.lists (as_found_path found_path ∷ waiting_of self.old) (found_by self.old) files.old
             (waiting_of self.new) (found_by self.new) files.new) }
         ensures lists { Lists F.lists files.old files.new }
     {
@@ -151,7 +154,8 @@ fn find<F: Files, A: Allocator + Copy>(
     files: &mut F,
     path: &str,
 ) -> Result<Vec<Named<A>, A>, AllocError>
-    ensures ok { IfOk result (λ found. Finds F.lists (folder path.now ∷ []) (map as_named found.items) files.old files.new) }
+    ensures ok { IfOk result
+        (λ found. Finds F.lists (folder path.now ∷ []) (map as_named found.items) files.old files.new) }
     ensures lists { Lists F.lists files.old files.new }
 {
     let mut search = Search::from(alloc, path)?;
@@ -182,8 +186,9 @@ fn or_failed<A: Allocator + Copy>(
     Ok(found)
 }
 
-/// The files that a path names: its own, or the GraphQL files below a folder in the order of their paths, one name after the other. What could not be
-/// read is among them, and the path itself where there are none. Hidden names, `node_modules` and symbolic links below the folder are left out.
+/// The files that a path names: its own, or the GraphQL files below a folder in the order of their paths, one name
+/// after the other. What could not be read is among them, and the path itself where there are none. Hidden names,
+/// `node_modules` and symbolic links below the folder are left out.
 pub fn named_files<F: Files, A: Allocator + Copy>(
     alloc: A,
     files: &mut F,

@@ -1,4 +1,5 @@
--- Each node's rule, checked by computing: the one place where a wrong rule fails. What is refused there is named with its node.
+-- Each node's rule, checked by computing: the one place where a wrong rule fails. What is refused there is named with
+-- its node.
 use Rattle.std.proofs.Common.{◌≡◌, ℕ, ◌*◌, zero, suc, Bool, true, false, cond, List, [], ◌∷◌, refl}
 use Rattle.document_grammar.specs.declared.kind.SyntaxKind.TheVariants as kind
 use Rattle.document_grammar.specs.Kinds.{DOCUMENT}
@@ -12,7 +13,8 @@ use Rattle.grammar_machine.proofs.Checks.{exits, row_of}
 use Rattle.grammar_machine.proofs.Steps.{goes, closes, sticks}
 use Rattle.grammar_machine.proofs.Patterns.{label}
 use Rattle.parser_rules.specs.declared.constness.Constness.TheVariants.{Const, NotConst}
-use Rattle.parser_rules.specs.Nodes.{Node, Arguments, Argument, Directives, Directive, ListValue, ObjectValue, ObjectField, symbol, Document, Definition}
+use Rattle.parser_rules.specs.Nodes.{Node, Arguments, Argument, Directives, Directive, ListValue, ObjectValue}
+use Rattle.parser_rules.specs.Nodes.{ObjectField, symbol, Document, Definition}
 use Rattle.grammar_machine.proofs.Sound.{any}
 use Rattle.parser_rules.specs.RuleLanguage.{Rule, Seq, When, While, Nested, Typed, Call, Ready}
 use Rattle.parser_rules.specs.Rules.{inside, body}
@@ -20,9 +22,11 @@ use Rattle.parser_rules.proofs.runs.Fuel.{rules_deep, rules_deep_for_sizes}
 use Rattle.parser_rules.proofs.runs.Progress.{consuming}
 use Rattle.parser_rules.proofs.lookahead.Split.{split, divide}
 use Rattle.parser_rules.proofs.lookahead.FirstSets.{first_of, first_in, second_of, looks, inlined}
-use Rattle.parser_rules.proofs.soundness.TableCheck.{counts_itself, covered, turns, levels_agree, leaf_of, may_be_cut_off, may_lack_block, exit_is_right}
-use Rattle.parser_rules.proofs.soundness.TableCheck.{takes_token, ends_at, after_inlined, child_begins, child_while_stuck, child_at, may_report_limit}
-use Rattle.parser_rules.proofs.soundness.TableCheck.{enters_level, after_type, type_at, may_report, is_node, keeps_to_table, node_may_end, follows_table}
+use Rattle.parser_rules.proofs.soundness.TableCheck.{counts_itself, covered, turns, levels_agree, leaf_of}
+use Rattle.parser_rules.proofs.soundness.TableCheck.{may_be_cut_off, may_lack_block, exit_is_right, takes_token}
+use Rattle.parser_rules.proofs.soundness.TableCheck.{ends_at, after_inlined, child_begins, child_while_stuck, child_at}
+use Rattle.parser_rules.proofs.soundness.TableCheck.{may_report_limit, enters_level, after_type, type_at, may_report}
+use Rattle.parser_rules.proofs.soundness.TableCheck.{is_node, keeps_to_table, node_may_end, follows_table}
 use Rattle.parser_rules.proofs.soundness.TableCheck.{document_may_end, part_may_end, document_follows, turns_follow}
 use Rattle.parser_rules.proofs.leaves.LeafCheck.{belongs, anything, leaf_check}
 use Rattle.parser_rules.proofs.nesting.LevelCheck.{at_first, level_check}
@@ -30,12 +34,15 @@ use Rattle.parser_rules.proofs.nesting.TokenCheck.{untaken, token_check}
 use Rattle.parser_rules.proofs.reports.LimitCheck.{unknown as unknown_token, limit_check}
 use Rattle.document_grammar.proofs.Nested.{weight}
 use Rattle.parser_rules.proofs.runs.Walk.{walk, checks, checks_with, always}
-use Rattle.parser_rules.proofs.recovery.RecoveryCheck.{pop_check, row_check, tidy_check, of_row, leaf_of_row, unknown, any_token}
-use Rattle.parser_rules.proofs.sizes.SizeCheck.{walk as size_walk, saved, pays_for_itself, root_pays, PaysForAll, element_rates, report_rates}
+use Rattle.parser_rules.proofs.recovery.RecoveryCheck.{pop_check, row_check, tidy_check, of_row, leaf_of_row, unknown}
+use Rattle.parser_rules.proofs.recovery.RecoveryCheck.{any_token}
+use Rattle.parser_rules.proofs.sizes.SizeCheck.{walk as size_walk, saved, pays_for_itself, root_pays, PaysForAll}
+use Rattle.parser_rules.proofs.sizes.SizeCheck.{element_rates, report_rates}
 
 -- what can be wrong with a rule
 data Fault : Type 0 where
-  -- the checks look no deeper than `rules_deep` rules that call one another, or `rules_deep_for_sizes`, and this one goes deeper
+  -- the checks look no deeper than `rules_deep` rules that call one another, or `rules_deep_for_sizes`, and this one
+  -- goes deeper
   TooManyRulesDeep : Fault
   -- it takes or reports a token where the machine does otherwise
   AgainstTheTable : Fault
@@ -91,19 +98,25 @@ abbrev blamed : List Fault → Bool → List Fault → List Fault
 blamed found true (fault ∷ more) = found
 blamed found _ _ = TooManyRulesDeep ∷ []
 
--- The faults of a node's rule. A check fails too where its fuel runs out. So where faults are found, they are looked for with twice as much.
+-- The faults of a node's rule. A check fails too where its fuel runs out. So where faults are found, they are looked
+-- for with twice as much.
 unfoldable faults : Node → List Fault
 faults node = elim (faults_with rules_deep rules_deep_for_sizes node) [
   | [] ↦ []
-  | fault ∷ more ↦ blamed (fault ∷ more) (calls_end (2 * rules_deep) (inside node)) (faults_with (2 * rules_deep) (2 * rules_deep_for_sizes) node)
+  | fault ∷ more ↦ blamed (fault ∷ more) (calls_end (2 * rules_deep) (inside node))
+      (faults_with (2 * rules_deep) (2 * rules_deep_for_sizes) node)
 ]
 
 -- all that the checks compute with
 unfoldable pub computing : Unit {0}
-unfolding ◌and◌ ◌or◌ is_leaf at ends exit arcs target entries rows firsts goes closes sticks label labels member Row symbol consuming split divide first_of
-    first_in second_of looks inlined counts_itself covered turns levels_agree leaf_of may_be_cut_off may_lack_block exit_is_right exits row_of takes_token
-    ends_at after_inlined child_begins child_while_stuck child_at may_report_limit enters_level after_type type_at may_report is_node keeps_to_table
-    node_may_end document_may_end part_may_end belongs leaf_check weight walk pop_check row_check tidy_check of_row leaf_of_row follows_table level_check
+unfolding ◌and◌ ◌or◌ is_leaf at ends exit arcs target entries rows firsts goes closes sticks label labels member Row
+    symbol consuming split divide first_of
+    first_in second_of looks inlined counts_itself covered turns levels_agree leaf_of may_be_cut_off may_lack_block
+    exit_is_right exits row_of takes_token
+    ends_at after_inlined child_begins child_while_stuck child_at may_report_limit enters_level after_type type_at
+    may_report is_node keeps_to_table
+    node_may_end document_may_end part_may_end belongs leaf_check weight walk pop_check row_check tidy_check of_row
+    leaf_of_row follows_table level_check
     limit_check token_check document_follows turns_follow size_walk saved pays_for_itself root_pays
 computing = tt
 
@@ -144,7 +157,8 @@ pub record SoundRule (node : Node) : Type 0 where
   pub elements : pays_for_itself rules_deep_for_sizes element_rates node ≡ true
   pub reports : pays_for_itself rules_deep_for_sizes report_rates node ≡ true
 
-none-found : (found other : List Fault) (end : Bool) → ◌≡◌ {A = List Fault} (elim found [ [] ↦ [] | fault ∷ more ↦ blamed (fault ∷ more) end other ]) []
+none-found : (found other : List Fault) (end : Bool)
+    → ◌≡◌ {A = List Fault} (elim found [ [] ↦ [] | fault ∷ more ↦ blamed (fault ∷ more) end other ]) []
     → found ≡ []
 none-found [] other end h = refl
 none-found (fault ∷ more) [] true h = absurd cc
@@ -153,7 +167,8 @@ none-found (fault ∷ more) other false h = absurd cc
 
 found-none : (node : Node) → faults_with rules_deep rules_deep_for_sizes node ≡ []
 unfolding faults
-found-none node = none-found (faults_with rules_deep rules_deep_for_sizes node) (faults_with (2 * rules_deep) (2 * rules_deep_for_sizes) node)
+found-none node = none-found (faults_with rules_deep rules_deep_for_sizes node)
+    (faults_with (2 * rules_deep) (2 * rules_deep_for_sizes) node)
     (calls_end (2 * rules_deep) (inside node)) (no-faults node)
 
 pub node-passes : (node : Node) → SoundRule node
@@ -169,7 +184,18 @@ node-passes node =
     let i = no-fault _ _ _ h.1 in
     let j = no-fault _ _ _ i.1 in
     let k = no-fault _ _ _ j.1 in
-    record { table = a.0; leaves = b.0; levels = d.0; limits = e.0; tokens = f.0; errors = g.0; row = h.0; ignored = i.0; elements = j.0; reports = k.0 }
+    record {
+      table = a.0;
+      leaves = b.0;
+      levels = d.0;
+      limits = e.0;
+      tokens = f.0;
+      errors = g.0;
+      row = h.0;
+      ignored = i.0;
+      elements = j.0;
+      reports = k.0;
+    }
 
 document-elements : root_pays element_rates any (Call Document) ≡ true
 unfolding computing
@@ -188,7 +214,8 @@ pub record DocumentRule : Type 0 where
   pub limits : walk limit_check rules_deep (Call Document) unknown_token always ≡ true
   pub tokens : walk token_check rules_deep (Call Document) (untaken false) always ≡ true
   pub errors : walk pop_check rules_deep (Call Document) (unknown any_token) always ≡ true
-  pub row : walk row_check rules_deep (Call Document) (record { own = DOCUMENT; later = DOCUMENT }) (row_check.ends kind.DOCUMENT) ≡ true
+  pub row : walk row_check rules_deep (Call Document) (record { own = DOCUMENT; later = DOCUMENT })
+      (row_check.ends kind.DOCUMENT) ≡ true
   pub ignored : walk tidy_check rules_deep (Call Document) false always ≡ true
   pub sizes : PaysForAll any (Call Document)
 

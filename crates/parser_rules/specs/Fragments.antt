@@ -8,7 +8,8 @@ use Rattle.document_grammar.specs.Builds.{nothing, built_count}
 use Rattle.parser_rules.specs.declared.message.Message.TheVariants as message
 use Rattle.parser_rules.specs.State.{State, fresh, read_on, begun, flush, closed, wrapped_from}
 use Rattle.parser_rules.specs.Nodes.{SelectionSet, Selections, ListType, NamedType}
-use Rattle.parser_rules.specs.RuleLanguage.{Here, At, holds, Bump, Note, Rule, Skip, Do, When, Nested, Call, ◌>◌, expect, refuse}
+use Rattle.parser_rules.specs.RuleLanguage.{Here, At, holds, Bump, Note, Rule, Skip, Do, When, Nested, Call, ◌>◌}
+use Rattle.parser_rules.specs.RuleLanguage.{expect, refuse}
 use Rattle.parser_rules.specs.Rules.{type_start, inside, nullable_type}
 use Rattle.parser_rules.specs.Runs.{Runs}
 
@@ -52,18 +53,22 @@ pub data IsTypeRoot (state : State) : SyntaxKind → Rule → Type 0 where
   not_null : true ≡ holds (Here type_start) state → IsTypeRoot state kind.NON_NULL_TYPE non_null_root
   no_type : false ≡ holds (Here type_start) state → IsTypeRoot state kind.ERROR no_type_root
 
--- the root opened around all that was built: one of the kind, or where `!` came next a NON_NULL_TYPE around a type of the kind, from the index
--- on, and the `!`
+-- the root opened around all that was built: one of the kind, or where `!` came next a NON_NULL_TYPE around a type of
+-- the kind, from the index on, and the `!`
 pub data ClosesType (index : ℕ) (this_kind : SyntaxKind) (state after : State) : Type 0 where
-  nullable : false ≡ holds (At token.Bang) state → after ≡ wrapped_from 0 this_kind state → ClosesType index this_kind state after
-  non_null : {later : State} → true ≡ holds (At token.Bang) state → Runs (Do (Bump kind.BANG)) (closed (wrapped_from index this_kind state)) later
+  nullable : false ≡ holds (At token.Bang) state → after ≡ wrapped_from 0 this_kind state
+      → ClosesType index this_kind state after
+  non_null : {later : State} → true ≡ holds (At token.Bang) state
+      → Runs (Do (Bump kind.BANG)) (closed (wrapped_from index this_kind state)) later
       → after ≡ wrapped_from 0 kind.NON_NULL_TYPE later → ClosesType index this_kind state after
 
 -- a type's rule ran where no root is open, and the root opened around the trees that were built; or there is no type
 pub data RunsTypeRoot (state after : State) : Type 0 where
   makes_list : {later : State} → true ≡ holds (At token.LBracket) state → Runs (inside ListType) state later
       → ClosesType (built_count state.tree) kind.LIST_TYPE later after → RunsTypeRoot state after
-  makes_name : {later : State} → false ≡ holds (At token.LBracket) state → true ≡ holds (At token.Name) state → Runs (inside NamedType) state later
+  makes_name : {later : State} → false ≡ holds (At token.LBracket) state → true ≡ holds (At token.Name) state
+      → Runs (inside NamedType) state later
       → ClosesType (built_count state.tree) kind.NAMED_TYPE later after → RunsTypeRoot state after
-  makes_none : {later : State} → false ≡ holds (Here type_start) state → Runs no_type_root state later → after ≡ wrapped_from 0 kind.ERROR later
+  makes_none : {later : State} → false ≡ holds (Here type_start) state → Runs no_type_root state later
+      → after ≡ wrapped_from 0 kind.ERROR later
       → RunsTypeRoot state after

@@ -58,8 +58,10 @@ description message.ExpectedValidLocation = codes "expected valid Directive Loca
 description message.ExpectedLocation = codes "expected Directive Location"
 description message.ExpectedSchemaExtension = codes "expected directives or Root Operation Type Definition"
 description message.ExpectedScalarExtension = codes "expected Directives"
-description message.ExpectedObjectExtension = codes "expected an Implements Interface, Directives or a Fields Definition"
-description message.ExpectedInterfaceExtension = codes "exptected an Implements Interfaces, Directives, or a Fields Definition"
+description message.ExpectedObjectExtension =
+    codes "expected an Implements Interface, Directives or a Fields Definition"
+description message.ExpectedInterfaceExtension =
+    codes "exptected an Implements Interfaces, Directives, or a Fields Definition"
 description message.ExpectedUnionExtension = codes "expected Directives or Union Member Types"
 description message.ExpectedEnumExtension = codes "expected Directive or Enum Values Definition"
 description message.ExpectedInputExtension = codes "expected Directives or an Input Fields Definition"
@@ -86,7 +88,9 @@ found_text at_limit = []
 
 -- the whole message
 abbrev pub message_text : Message → Found → Text
-message_text this_message found = if names_found this_message then description this_message ++ codes ", got " ++ found_text found else description this_message
+message_text this_message found =
+    if names_found this_message then description this_message ++ codes ", got "
+    ++ found_text found else description this_message
 
 abbrev pub recursion_limit_message : Text
 recursion_limit_message = codes "parser recursion limit reached"

@@ -32,4 +32,5 @@ IsInside state = 0 < state.depth
 
 -- the root alone is open, and nothing comes before it
 abbrev pub IsRoot : Building → Type 0
-IsRoot building = (this_kind : SyntaxKind) × (is_free this_kind ≡ true) × (building.above ≡ record { before = none; kind = this_kind } ∷ [])
+IsRoot building = (this_kind : SyntaxKind) × (is_free this_kind ≡ true)
+    × (building.above ≡ record { before = none; kind = this_kind } ∷ [])

@@ -1,6 +1,7 @@
--- The grammar of the parser: a rule for each node, and for each part that works within the open node. Above each is the production of the
--- standard (GraphQL October 2021) with its section. A rule also says what is reported, and what becomes an ERROR leaf. The nodes and parts
--- are made from the left sides (specs/Nodes.antt); a node's parameter says whether its place is constant.
+-- The grammar of the parser: a rule for each node, and for each part that works within the open node. Above each is the
+-- production of the standard (GraphQL October 2021) with its section. A rule also says what is reported, and what
+-- becomes an ERROR leaf. The nodes and parts are made from the left sides (specs/Nodes.antt); a node's parameter says
+-- whether its place is constant.
 use Rattle.std.specs.Prelude.{Bool, true, false, List, [], ◌∷◌}
 use Rattle.lexical_grammar.specs.declared.TokenKind.{TokenKind}
 use Rattle.document_grammar.specs.declared.kind.SyntaxKind.{SyntaxKind}
@@ -10,22 +11,30 @@ use Rattle.document_grammar.specs.declared.kind.SyntaxKind.TheVariants as kind
 use Rattle.parser_rules.specs.declared.constness.Constness.{Constness}
 use Rattle.parser_rules.specs.declared.constness.Constness.TheVariants.{Const, NotConst}
 use Rattle.parser_rules.specs.declared.message.Message.TheVariants as message
-use Rattle.parser_rules.specs.RuleLanguage.{TokenTest, Kind, Keyword, Or, Test, Here, At, Word, Next, Ready, HasNext, Deep, Not, Both, Bump, Note, TooDeep}
-use Rattle.parser_rules.specs.RuleLanguage.{Rule, Skip, Do, Seq, When, While, Child, Nested, Call, Typed, ◌>◌, expect, want, refuse, expect_word, maybe}
-use Rattle.parser_rules.specs.Nodes.{Node, OperationDefinition, QueryShorthand, OperationType, SelectionSet, Field, Alias, Name, FragmentSpread}
-use Rattle.parser_rules.specs.Nodes.{InlineFragment, FragmentDefinition, FragmentName, NameForFragment, TypeCondition, Arguments, Argument, Directives}
-use Rattle.parser_rules.specs.Nodes.{Directive, VariableDefinitions, VariableDefinition, Variable, DefaultValue, IntValue, FloatValue, StringValue}
-use Rattle.parser_rules.specs.Nodes.{BooleanValue, NullValue, EnumValue, NameForEnum, ListValue, ObjectValue, ObjectField, NamedType, ListType, Description}
-use Rattle.parser_rules.specs.Nodes.{SchemaDefinition, RootOperationTypeDefinition, ScalarTypeDefinition, ObjectTypeDefinition, ImplementsInterfaces}
-use Rattle.parser_rules.specs.Nodes.{FieldsDefinition, FieldDefinition, ArgumentsDefinition, InputValueDefinition, InterfaceTypeDefinition}
-use Rattle.parser_rules.specs.Nodes.{UnionTypeDefinition, UnionMemberTypes, EnumTypeDefinition, EnumValuesDefinition, EnumValueDefinition}
-use Rattle.parser_rules.specs.Nodes.{InputObjectTypeDefinition, InputFieldsDefinition, DirectiveDefinition, DirectiveLocations, DirectiveLocation}
-use Rattle.parser_rules.specs.Nodes.{SchemaExtension, ScalarTypeExtension, ObjectTypeExtension, InterfaceTypeExtension, UnionTypeExtension, EnumTypeExtension}
-use Rattle.parser_rules.specs.Nodes.{InputObjectTypeExtension, Part, Document, Definition, DescribedDefinition, Extensions, OptionalName, Selections}
-use Rattle.parser_rules.specs.Nodes.{Selection, Spread, AliasedName, RequiredName, OptionalArguments, OptionalDirectives, OptionalVariableDefinitions}
-use Rattle.parser_rules.specs.Nodes.{TypedVariable, OptionalDescription, OptionalArgumentsDefinition, TypeName, RootType, FieldType, OptionalImplements}
-use Rattle.parser_rules.specs.Nodes.{InterfaceName, UnionMember, DirectiveName, OnLocations, Location, VariableType, OptionalDefaultValue}
-use Rattle.parser_rules.specs.Nodes.{OptionalTypeCondition, Value, WordValue, NestedValue, ListItems, Ty, ItemType}
+use Rattle.parser_rules.specs.RuleLanguage.{TokenTest, Kind, Keyword, Or, Test, Here, At, Word, Next, Ready, HasNext}
+use Rattle.parser_rules.specs.RuleLanguage.{Deep, Not, Both, Bump, Note, TooDeep, Rule, Skip, Do, Seq, When, While}
+use Rattle.parser_rules.specs.RuleLanguage.{Child, Nested, Call, Typed, ◌>◌, expect, want, refuse, expect_word, maybe}
+use Rattle.parser_rules.specs.Nodes.{Node, OperationDefinition, QueryShorthand, OperationType, SelectionSet, Field}
+use Rattle.parser_rules.specs.Nodes.{Alias, Name, FragmentSpread, InlineFragment, FragmentDefinition, FragmentName}
+use Rattle.parser_rules.specs.Nodes.{NameForFragment, TypeCondition, Arguments, Argument, Directives, Directive}
+use Rattle.parser_rules.specs.Nodes.{VariableDefinitions, VariableDefinition, Variable, DefaultValue, IntValue}
+use Rattle.parser_rules.specs.Nodes.{FloatValue, StringValue, BooleanValue, NullValue, EnumValue, NameForEnum}
+use Rattle.parser_rules.specs.Nodes.{ListValue, ObjectValue, ObjectField, NamedType, ListType, Description}
+use Rattle.parser_rules.specs.Nodes.{SchemaDefinition, RootOperationTypeDefinition, ScalarTypeDefinition}
+use Rattle.parser_rules.specs.Nodes.{ObjectTypeDefinition, ImplementsInterfaces, FieldsDefinition, FieldDefinition}
+use Rattle.parser_rules.specs.Nodes.{ArgumentsDefinition, InputValueDefinition, InterfaceTypeDefinition}
+use Rattle.parser_rules.specs.Nodes.{UnionTypeDefinition, UnionMemberTypes, EnumTypeDefinition, EnumValuesDefinition}
+use Rattle.parser_rules.specs.Nodes.{EnumValueDefinition, InputObjectTypeDefinition, InputFieldsDefinition}
+use Rattle.parser_rules.specs.Nodes.{DirectiveDefinition, DirectiveLocations, DirectiveLocation, SchemaExtension}
+use Rattle.parser_rules.specs.Nodes.{ScalarTypeExtension, ObjectTypeExtension, InterfaceTypeExtension}
+use Rattle.parser_rules.specs.Nodes.{UnionTypeExtension, EnumTypeExtension, InputObjectTypeExtension, Part, Document}
+use Rattle.parser_rules.specs.Nodes.{Definition, DescribedDefinition, Extensions, OptionalName, Selections, Selection}
+use Rattle.parser_rules.specs.Nodes.{Spread, AliasedName, RequiredName, OptionalArguments, OptionalDirectives}
+use Rattle.parser_rules.specs.Nodes.{OptionalVariableDefinitions, TypedVariable, OptionalDescription}
+use Rattle.parser_rules.specs.Nodes.{OptionalArgumentsDefinition, TypeName, RootType, FieldType, OptionalImplements}
+use Rattle.parser_rules.specs.Nodes.{InterfaceName, UnionMember, DirectiveName, OnLocations, Location, VariableType}
+use Rattle.parser_rules.specs.Nodes.{OptionalDefaultValue, OptionalTypeCondition, Value, WordValue, NestedValue}
+use Rattle.parser_rules.specs.Nodes.{ListItems, Ty, ItemType}
 
 -- a selection starts with the token
 abbrev pub selection_start : TokenTest
@@ -154,7 +163,8 @@ extended token_kind block this_message = When (At token.At) (Call (OptionalDirec
 -- the same, after ImplementsInterfaces?
 abbrev pub implementing : Message → Rule
 implementing this_message =
-    When (Word kind.implements_KW) (Child ImplementsInterfaces > Call (OptionalDirectives Const) > maybe token.LCurly FieldsDefinition)
+    When (Word kind.implements_KW)
+    (Child ImplementsInterfaces > Call (OptionalDirectives Const) > maybe token.LCurly FieldsDefinition)
     (extended token.LCurly FieldsDefinition this_message)
 
 -- { RootOperationTypeDefinition+ }, with the report where there is none
@@ -167,7 +177,8 @@ root_operations this_message =
 
 -- a definition's description, where it has one, and the keyword after it
 abbrev pub described_keyword : SyntaxKind → Rule
-described_keyword this_kind = Call OptionalDescription > When (Word this_kind) (Do (Bump this_kind)) (refuse message.ExpectedDefinition)
+described_keyword this_kind =
+    Call OptionalDescription > When (Word this_kind) (Do (Bump this_kind)) (refuse message.ExpectedDefinition)
 
 -- ImplementsInterfaces? Directives[Const]? FieldsDefinition?
 abbrev pub type_parts : Rule
@@ -195,7 +206,8 @@ definitions first item none close leaf this_message =
 
 -- the separator, if it is there, and names between separators
 abbrev pub separated : TokenKind → SyntaxKind → Part → Rule
-separated token_kind leaf name = When (At token_kind) (Do (Bump leaf)) Skip > Call name > While (At token_kind) (Do (Bump leaf) > Call name)
+separated token_kind leaf name =
+    When (At token_kind) (Do (Bump leaf)) Skip > Call name > While (At token_kind) (Do (Bump leaf) > Call name)
 
 -- TypeDefinition (3.4), by the keyword where the test looks; the other rule where there is none
 abbrev pub type_definition_at : (TokenTest → Test) → Rule → Rule
@@ -247,9 +259,11 @@ inside QueryShorthand = Child SelectionSet
 -- OperationType (2.3) : one of `query` `mutation` `subscription`
 inside OperationType = operation_word
 -- SelectionSet (2.4) : { Selection+ }
-inside SelectionSet = Do (Bump kind.L_CURLY) > Nested (Call Selections) (expect token.RCurly kind.R_CURLY message.ExpectedRCurly)
+inside SelectionSet = Do (Bump kind.L_CURLY)
+    > Nested (Call Selections) (expect token.RCurly kind.R_CURLY message.ExpectedRCurly)
 -- Field (2.5) : Alias? Name Arguments? Directives? SelectionSet?
-inside Field = Call AliasedName > Call (OptionalArguments NotConst) > Call (OptionalDirectives NotConst) > maybe token.LCurly SelectionSet
+inside Field = Call AliasedName > Call (OptionalArguments NotConst) > Call (OptionalDirectives NotConst)
+    > maybe token.LCurly SelectionSet
 -- Alias (2.7) : Name :
 inside Alias = Child Name > Do (Bump kind.COLON)
 -- Name (2.1.9)
@@ -275,7 +289,8 @@ inside FragmentName =
     (When (At token.Name) (Child NameForFragment) (Do (Note message.ExpectedFragmentName)))
 inside NameForFragment = Do (Bump kind.IDENT)
 -- TypeCondition (2.8.1) : `on` NamedType
-inside TypeCondition = expect_word kind.on_KW message.ExpectedOn > When (At token.Name) (Child NamedType) (Do (Note message.ExpectedConditionName))
+inside TypeCondition = expect_word kind.on_KW message.ExpectedOn
+    > When (At token.Name) (Child NamedType) (Do (Note message.ExpectedConditionName))
 -- Arguments[Const] (2.6) : ( Argument[?Const]+ )
 inside (Arguments c) =
     Do (Bump kind.L_PAREN)
@@ -283,7 +298,8 @@ inside (Arguments c) =
     > While (At token.Name) (Child (Argument c))
     > expect token.RParen kind.R_PAREN message.ExpectedRParen
 -- Argument[Const] (2.6) : Name : Value[?Const]
-inside (Argument c) = Child Name > When (At token.Colon) (Do (Bump kind.COLON) > Call (Value c false)) (Do (Note message.ExpectedColon))
+inside (Argument c) = Child Name
+    > When (At token.Colon) (Do (Bump kind.COLON) > Call (Value c false)) (Do (Note message.ExpectedColon))
 -- Directives[Const] (2.12) : Directive[?Const]+
 inside (Directives c) = While (At token.At) (Child (Directive c))
 -- Directive[Const] (2.12) : @ Name Arguments[?Const]?
@@ -295,7 +311,9 @@ inside VariableDefinitions =
     > While (Here variable_start) (Child VariableDefinition)
     > expect token.RParen kind.R_PAREN message.ExpectedRParen
 -- VariableDefinition (2.10) : Description? Variable : Type DefaultValue? Directives[Const]?
-inside VariableDefinition = When (At token.StringValue) (Child Description > When (At token.Dollar) (Call TypedVariable) (Do (Note message.ExpectedVariable)))
+inside VariableDefinition =
+    When (At token.StringValue)
+    (Child Description > When (At token.Dollar) (Call TypedVariable) (Do (Note message.ExpectedVariable)))
     (Call TypedVariable)
 -- Variable (2.10) : $ Name
 inside Variable = Do (Bump kind.DOLLAR) > Call RequiredName
@@ -319,13 +337,17 @@ inside NameForEnum = Do (Bump kind.IDENT)
 -- ListValue[Const] (2.9.7) : [ ], or [ Value[?Const]+ ]
 inside (ListValue c) = Do (Bump kind.L_BRACK) > Call (ListItems c)
 -- ObjectValue[Const] (2.9.8) : { }, or { ObjectField[?Const]+ }
-inside (ObjectValue c) = Do (Bump kind.L_CURLY) > While (At token.Name) (Child (ObjectField c)) > expect token.RCurly kind.R_CURLY message.ExpectedRCurly
+inside (ObjectValue c) =
+    Do (Bump kind.L_CURLY) > While (At token.Name) (Child (ObjectField c))
+    > expect token.RCurly kind.R_CURLY message.ExpectedRCurly
 -- ObjectField[Const] (2.9.8) : Name : Value[?Const]
-inside (ObjectField c) = Child Name > When (At token.Colon) (Do (Bump kind.COLON) > Call (NestedValue c)) (Do (Note message.ExpectedColon))
+inside (ObjectField c) =
+    Child Name > When (At token.Colon) (Do (Bump kind.COLON) > Call (NestedValue c)) (Do (Note message.ExpectedColon))
 -- NamedType (2.11) : Name
 inside NamedType = Call RequiredName
 -- ListType (2.11) : [ Type ]
-inside ListType = Do (Bump kind.L_BRACK) > Nested (Call ItemType) (expect token.RBracket kind.R_BRACK message.ExpectedRBracket)
+inside ListType = Do (Bump kind.L_BRACK)
+    > Nested (Call ItemType) (expect token.RBracket kind.R_BRACK message.ExpectedRBracket)
 -- Description (3) : StringValue
 inside Description = Child StringValue
 -- SchemaDefinition (3.3) : Description? `schema` Directives[Const]? { RootOperationTypeDefinition+ }
@@ -351,7 +373,9 @@ inside ObjectTypeDefinition =
 -- ImplementsInterfaces (3.6) : `implements` &? NamedType, or ImplementsInterfaces & NamedType
 inside ImplementsInterfaces = Do (Bump kind.implements_KW) > separated token.Amp kind.AMP InterfaceName
 -- FieldsDefinition (3.6) : { FieldDefinition+ }
-inside FieldsDefinition = definitions kind.L_CURLY FieldDefinition message.ExpectedFieldDefinition token.RCurly kind.R_CURLY message.ExpectedRCurly
+inside FieldsDefinition =
+    definitions kind.L_CURLY FieldDefinition message.ExpectedFieldDefinition token.RCurly kind.R_CURLY
+    message.ExpectedRCurly
 -- FieldDefinition (3.6) : Description? Name ArgumentsDefinition? : Type Directives[Const]?
 inside FieldDefinition =
     Call OptionalDescription
@@ -360,7 +384,8 @@ inside FieldDefinition =
     > When (At token.Colon) (Do (Bump kind.COLON) > Call FieldType) (Do (Note message.ExpectedFieldType))
 -- ArgumentsDefinition (3.6.1) : ( InputValueDefinition+ )
 inside ArgumentsDefinition =
-    definitions kind.L_PAREN InputValueDefinition message.ExpectedArgumentDefinition token.RParen kind.R_PAREN message.ExpectedRParen
+    definitions kind.L_PAREN InputValueDefinition message.ExpectedArgumentDefinition token.RParen kind.R_PAREN
+    message.ExpectedRParen
 -- InputValueDefinition (3.6.1) : Description? Name : Type DefaultValue? Directives[Const]?
 inside InputValueDefinition =
     Call OptionalDescription
@@ -389,7 +414,8 @@ inside EnumTypeDefinition =
     > maybe token.LCurly EnumValuesDefinition)
 -- EnumValuesDefinition (3.9) : { EnumValueDefinition+ }
 inside EnumValuesDefinition =
-    definitions kind.L_CURLY EnumValueDefinition message.ExpectedEnumValueDefinition token.RCurly kind.R_CURLY message.ExpectedRCurly
+    definitions kind.L_CURLY EnumValueDefinition message.ExpectedEnumValueDefinition token.RCurly kind.R_CURLY
+    message.ExpectedRCurly
 -- EnumValueDefinition (3.9) : Description? EnumValue Directives[Const]?
 inside EnumValueDefinition = Call OptionalDescription > Child EnumValue > Call (OptionalDirectives Const)
 -- InputObjectTypeDefinition (3.10) : Description? `input` Name Directives[Const]? InputFieldsDefinition?
@@ -401,7 +427,8 @@ inside InputObjectTypeDefinition =
     > maybe token.LCurly InputFieldsDefinition)
 -- InputFieldsDefinition (3.10) : { InputValueDefinition+ }
 inside InputFieldsDefinition =
-    definitions kind.L_CURLY InputValueDefinition message.ExpectedInputValueDefinition token.RCurly kind.R_CURLY message.ExpectedRCurly
+    definitions kind.L_CURLY InputValueDefinition message.ExpectedInputValueDefinition token.RCurly kind.R_CURLY
+    message.ExpectedRCurly
 -- DirectiveDefinition (3.13) : Description? `directive` @ Name ArgumentsDefinition? `repeatable`? `on` DirectiveLocations
 inside DirectiveDefinition =
     Seq (described_keyword kind.directive_KW)
@@ -419,7 +446,8 @@ inside SchemaExtension =
     > Do (Bump kind.schema_KW)
     > When (At token.At)
     (Call (OptionalDirectives Const) > When (At token.LCurly) (root_operations message.ExpectedSchemaExtension) Skip)
-    (When (At token.LCurly) (root_operations message.ExpectedSchemaExtension) (Do (Note message.ExpectedSchemaExtension)))
+    (When (At token.LCurly) (root_operations message.ExpectedSchemaExtension)
+    (Do (Note message.ExpectedSchemaExtension)))
 -- ScalarTypeExtension (3.5.3) : `extend` `scalar` Name Directives[Const]
 inside ScalarTypeExtension =
     Do (Bump kind.extend_KW)
@@ -503,7 +531,8 @@ body (OptionalArguments c) = maybe token.LParen (Arguments c)
 body (OptionalDirectives c) = maybe token.At (Directives c)
 body OptionalVariableDefinitions = maybe token.LParen VariableDefinitions
 -- Variable : Type DefaultValue? Directives[Const]?, a VariableDefinition (2.10) after its description
-body TypedVariable = Child Variable > When (At token.Colon) (Do (Bump kind.COLON) > Call VariableType) (Do (Note message.ExpectedName))
+body TypedVariable = Child Variable
+    > When (At token.Colon) (Do (Bump kind.COLON) > Call VariableType) (Do (Note message.ExpectedName))
 body OptionalDescription = maybe token.StringValue Description
 body OptionalArgumentsDefinition = maybe token.LParen ArgumentsDefinition
 -- the name of a type that is defined, which is reported in words of its own
@@ -525,7 +554,8 @@ body Location =
     When (Here location) (Child DirectiveLocation)
     (When (At token.Name) (Do (Note message.ExpectedValidLocation)) (Do (Note message.ExpectedLocation)))
 -- Type DefaultValue? Directives[Const]?, the rest of a VariableDefinition (2.10) and of an InputValueDefinition (3.6.1)
-body VariableType = When (Here type_start) (Call Ty > Call OptionalDefaultValue > Call (OptionalDirectives Const)) (Do (Note message.ExpectedType))
+body VariableType = When (Here type_start) (Call Ty > Call OptionalDefaultValue > Call (OptionalDirectives Const))
+    (Do (Note message.ExpectedType))
 body OptionalDefaultValue = maybe token.Eq DefaultValue
 body OptionalTypeCondition = maybe token.Name TypeCondition
 -- Value[Const] (2.9) : [if not Const] Variable, IntValue, FloatValue, StringValue, BooleanValue, NullValue, EnumValue, ListValue[?Const], ObjectValue[?Const]

@@ -1,5 +1,6 @@
 -- What a parser has read and built, and its steps.
-use Rattle.std.specs.Prelude.{ℕ, ◌+◌, ◌-◌, max, min, Bool, true, false, nat_le, ◌&&◌, eqb, if◌then◌else◌, List, [], ◌∷◌, ◌++◌, length, Option, Some, None, ⊤}
+use Rattle.std.specs.Prelude.{ℕ, ◌+◌, ◌-◌, max, min, Bool, true, false, nat_le, ◌&&◌, eqb, if◌then◌else◌, List, [], ◌∷◌}
+use Rattle.std.specs.Prelude.{◌++◌, length, Option, Some, None, ⊤}
 use denote.Enum.Bare.{sameb}
 use Rattle.lexical_grammar.specs.contracts.TokenKind.{the_type}
 use Rattle.lexical_grammar.specs.declared.TokenKind.{TokenKind}
@@ -25,7 +26,8 @@ pub record Lexeme : Type 0 where
   pub text : Text
   pub index : ℕ
 
--- what is found wrong, the byte where it begins, and the report's message; the lexer words bad text and the token limit itself
+-- what is found wrong, the byte where it begins, and the report's message; the lexer words bad text and the token limit
+-- itself
 pub record Report : Type 0 where
   pub found : Found
   pub index : ℕ
@@ -43,7 +45,8 @@ token_limit_report index = record { found = at_limit; index = index; message = N
 
 -- of the recursion limit, at this token
 abbrev pub recursion_limit_report : Lexeme → Report
-recursion_limit_report this_lexeme = record { found = at_limit; index = this_lexeme.index; message = Some recursion_limit_message }
+recursion_limit_report this_lexeme =
+    record { found = at_limit; index = this_lexeme.index; message = Some recursion_limit_message }
 
 abbrev pub found_at : Lexeme → Found
 found_at this_lexeme = if is_end this_lexeme.kind then at_end else at_text this_lexeme.text
@@ -56,9 +59,9 @@ fault_report this_message this_lexeme = record {
   message = Some (message_text this_message (found_at this_lexeme));
 }
 
--- the answers that are left, the current token, what waits, what is built, the reports, the recursion limit with its count and the
--- greatest count that was tried, whether the grammar's reports are still taken, how many answers there are in all, and how many items
--- may be cut, by the reader and by copies that look ahead
+-- the answers that are left, the current token, what waits, what is built, the reports, the recursion limit with its
+-- count and the greatest count that was tried, whether the grammar's reports are still taken, how many answers there
+-- are in all, and how many items may be cut, by the reader and by copies that look ahead
 pub record State : Type 0 where
   pub items : List Answer
   pub current : Option Lexeme

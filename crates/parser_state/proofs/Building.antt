@@ -26,7 +26,10 @@ unfolding IsOpen
 free-fits b h = fits-in b.here b.above h
 
 pub root-closes : (b : Building) → IsRoot b → IsComplete (finish b)
-root-closes b h = record { closed = ap (λ above. (close b.here above).above) h.2; root = ap (λ above. one_node (close b.here above).here) h.2 }
+root-closes b h = record {
+  closed = ap (λ above. (close b.here above).above) h.2;
+  root = ap (λ above. one_node (close b.here above).here) h.2;
+}
 
 pub root-flushed : (ps : List PendingToken) (b : Building) → IsRoot b → IsRoot (add_all ps b)
 root-flushed ps b h = (h.0, h.1, add_all-above ps b ∙ h.2)
@@ -36,7 +39,8 @@ unfolding IsOpen
 root-is-open b h = subst (λ above. is_free_in above ≡ true) (sym h.2) h.1
 
 -- the text that was built is the finished tree's
-pub begins-with : (b : Building) (f : Forest) (source : List ℕ) → IsComplete b → b.here ≡ f → take (length (text f)) source ≡ text f
+pub begins-with : (b : Building) (f : Forest) (source : List ℕ) → IsComplete b → b.here ≡ f
+    → take (length (text f)) source ≡ text f
     → take (length (built_text b)) source ≡ built_text b
 begins-with b f source complete here h =
     let e : built_text b ≡ text f = ap (λ above. open_text above ++ text b.here) complete.closed ∙ ap text here in

@@ -6,7 +6,8 @@ use Rattle.std.proofs.lemmas.List.{append-nil}
 use Rattle.lexical_grammar.specs.Answers.{is_end}
 use Rattle.apollo_lexer.specs.Diagnostics.{Diagnostic, Subject, of_text, of_end}
 use Rattle.parser_rules.specs.declared.message.Message.{Message}
-use Rattle.parser_rules.specs.Messages.{Text, Found, at_text, at_end, at_limit, description, names_found, found_text, message_text}
+use Rattle.parser_rules.specs.Messages.{Text, Found, at_text, at_end, at_limit, description, names_found, found_text}
+use Rattle.parser_rules.specs.Messages.{message_text}
 use Rattle.parser_rules.specs.State.{Lexeme, found_at}
 use Rattle.parser_state.specs.declared.borrowed_error.BorrowedError.{BorrowedError}
 use Rattle.parser_state.specs.declared.borrowed_error.BorrowedError.TheVariants.{Lexer, Fault, RecursionLimit}
@@ -26,22 +27,28 @@ found-end x p = ap (λ (b : Bool). if b then at_end else at_text x.text) p
 
 -- what the messages say
 pub plain-message : (m : Message) (found : Found) → names_found m ≡ false → description m ≡ message_text m found
-plain-message m found n = sym (ap (λ (b : Bool). if b then description m ++ codes ", got " ++ found_text found else description m) n)
+plain-message m found n =
+    sym (ap (λ (b : Bool). if b then description m ++ codes ", got " ++ found_text found else description m) n)
 
-pub quoting-message : (m : Message) (text : Text) → names_found m ≡ true → description m ++ codes ", got " ++ text ++ [] ≡ message_text m (at_text text)
+pub quoting-message : (m : Message) (text : Text) → names_found m ≡ true
+    → description m ++ codes ", got " ++ text ++ [] ≡ message_text m (at_text text)
 quoting-message m text n =
     append-nil (description m ++ codes ", got " ++ text)
     ∙ sym (ap (λ (b : Bool). if b then description m ++ codes ", got " ++ text else description m) n)
 
 -- an error at a token, and one at the end
-pub text-error : (m : Message) (x : Lexeme) (d : Diagnostic) (message text : Text) (index : ℕ) → is_end x.kind ≡ false → text ≡ x.text
+pub text-error : (m : Message) (x : Lexeme) (d : Diagnostic) (message text : Text) (index : ℕ)
+    → is_end x.kind ≡ false → text ≡ x.text
     → message ≡ message_text m (at_text text)
     → index ≡ x.index → d ≡ record { message = message; subject = of_text text; index = index } → d ≡ fault_error m x
 text-error m x d message text index p t w i e =
-    e ∙ ap (λ (words : Text). at-token words (of_text text) index) w ∙ ap (at-token (message_text m (at_text text)) (of_text text)) i
-    ∙ ap (λ (found : Found). at-token (message_text m found) (subject_of found) x.index) (ap at_text t ∙ sym (found-text x p))
+    e ∙ ap (λ (words : Text). at-token words (of_text text) index) w
+    ∙ ap (at-token (message_text m (at_text text)) (of_text text)) i
+    ∙ ap (λ (found : Found). at-token (message_text m found) (subject_of found) x.index)
+    (ap at_text t ∙ sym (found-text x p))
 
-pub end-error : (m : Message) (x : Lexeme) (d : Diagnostic) (message : Text) (index : ℕ) → is_end x.kind ≡ true → message ≡ message_text m at_end
+pub end-error : (m : Message) (x : Lexeme) (d : Diagnostic) (message : Text) (index : ℕ) → is_end x.kind ≡ true
+    → message ≡ message_text m at_end
     → index ≡ x.index → d ≡ record { message = message; subject = of_end; index = index } → d ≡ fault_error m x
 end-error m x d message index p w i e =
     e ∙ ap (λ (words : Text). at-token words of_end index) w ∙ ap (at-token (message_text m at_end) of_end) i
@@ -59,7 +66,8 @@ worded (at_text text) words = refl
 worded at_end words = refl
 worded at_limit words = refl
 
-lexer-says : (limit : Bool) (text : Text) (index : ℕ) → IsErrorOf (lexer_report limit text index) (lexer_error limit text index)
+lexer-says : (limit : Bool) (text : Text) (index : ℕ)
+    → IsErrorOf (lexer_report limit text index) (lexer_error limit text index)
 lexer-says true text index = record { subject = refl; index = refl; message = refl }
 lexer-says false text index = record { subject = refl; index = refl; message = refl }
 

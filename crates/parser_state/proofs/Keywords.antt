@@ -1,6 +1,6 @@
 -- A text is a keyword's word exactly where its class is the keyword's.
-use Rattle.std.proofs.Common.{◌≡◌, ℕ, Bool, true, false, not, ◌&&◌, eqb, List, [], ◌∷◌, Option, Some, None, is_some, refl, sym, ◌∙◌, ap, subst, inl, inr}
-use Rattle.std.proofs.Common.{true≢false, eqb-true}
+use Rattle.std.proofs.Common.{◌≡◌, ℕ, Bool, true, false, not, ◌&&◌, eqb, List, [], ◌∷◌, Option, Some, None, is_some}
+use Rattle.std.proofs.Common.{refl, sym, ◌∙◌, ap, subst, inl, inr, true≢false, eqb-true}
 use Rattle.std.proofs.lemmas.Bool.{eqb-false, and_parts, and_right}
 use Rattle.std.specs.Str.{bytes_eq}
 use Rattle.std.proofs.lemmas.Slice.Eq.{bytes_eq-Decides}
@@ -60,15 +60,18 @@ listed-beside (w ∷ more) n s h e = elim (either (eqb w.0 n)) [
 ]
 
 -- a text is the kind's word exactly where its class is the kind
-word-class : (n : ℕ) (s : Text) → keyword_word n ≡ Some s → is_keyword n ≡ true → (x : Text) → bytes_eq x s ≡ eqb (word_class words x) n
+word-class : (n : ℕ) (s : Text) → keyword_word n ≡ Some s → is_keyword n ≡ true → (x : Text)
+    → bytes_eq x s ≡ eqb (word_class words x) n
 unfolding keyword_word
 word-class n s e other x =
     let h = listed-at words own n s words-own (beside-listed words n s e) in
     elim (either (bytes_eq x s)) [
-      | inl p ↦ p ∙ sym (subst (λ (y : Text). eqb (word_class words y) n ≡ true) (sym (equal-bytes x s p)) (and-l _ _ h))
+      | inl p ↦ p ∙ sym (subst (λ (y : Text). eqb (word_class words y) n ≡ true)
+          (sym (equal-bytes x s p)) (and-l _ _ h))
       | inr p ↦ elim (either (eqb (word_class words x) n)) [
         | inl q ↦ (
-            let t = listed-at words (λ l y. not (eqb l n) or text_eq y s) n x (and-r _ _ h) (listed words n x (eqb-true _ _ q) (not-ident n other)) in
+            let t = listed-at words (λ l y. not (eqb l n) or text_eq y s) n x (and-r _ _ h)
+            (listed words n x (eqb-true _ _ q) (not-ident n other)) in
             absurd (true≢false (sym ((bytes_eq-Decides x s).1 (text-same x s (implies _ _ t (eqb-refl n)))) ∙ p)))
         | inr q ↦ p ∙ sym q
       ]
@@ -82,18 +85,22 @@ no-class n e other x = elim (either (eqb (word_class words x) n)) [
 ]
 
 -- the test of a name
-pub name-is-word : (k : SyntaxKind) (x : Lexeme) (a b : Text) → is_keyword (number k) ≡ true → keyword_word (number k) ≡ Some b
+pub name-is-word : (k : SyntaxKind) (x : Lexeme) (a b : Text) → is_keyword (number k) ≡ true
+    → keyword_word (number k) ≡ Some b
     → true ≡ same_kind x.kind token.Name → a ≡ x.text → bytes_eq a b ≡ is_word k (Some x)
 name-is-word k x a b h f n e =
-    ap (λ (t : Text). bytes_eq t b) e ∙ word-class (number k) b f h x.text ∙ ap (λ (c : Bool). c && eqb (word_class words x.text) (number k)) n
+    ap (λ (t : Text). bytes_eq t b) e ∙ word-class (number k) b f h x.text
+    ∙ ap (λ (c : Bool). c && eqb (word_class words x.text) (number k)) n
 
 -- the text of a token that is the keyword
-pub word_is : (k : SyntaxKind) (x : Lexeme) (w : Text) → is_keyword (number k) ≡ true → keyword_word (number k) ≡ Some w → true ≡ is_word k (Some x)
+pub word_is : (k : SyntaxKind) (x : Lexeme) (w : Text) → is_keyword (number k) ≡ true → keyword_word (number k) ≡ Some w
+    → true ≡ is_word k (Some x)
     → x.text ≡ w
 word_is k x w h f e = equal-bytes x.text w (word-class (number k) w f h x.text
     ∙ (and_parts (same_kind x.kind token.Name) (eqb (word_class words x.text) (number k)) (sym e)).1)
 
 -- a kind without a word is no token
-pub no_word : (k : SyntaxKind) (o : Option Lexeme) → is_keyword (number k) ≡ true → keyword_word (number k) ≡ None → is_word k o ≡ false
+pub no_word : (k : SyntaxKind) (o : Option Lexeme) → is_keyword (number k) ≡ true
+    → keyword_word (number k) ≡ None → is_word k o ≡ false
 no_word k None h f = refl
 no_word k (Some x) h f = and_right (same_kind x.kind token.Name) _ (no-class (number k) f h x.text)

@@ -36,13 +36,18 @@ fits-now kind.NAME kind.IDENT (Some x) n e = (kind.IDENT, x.text, refl, (refl, t
 fits-now kind.INT_VALUE kind.INT None n e = absurd cc
 fits-now kind.INT_VALUE kind.INT (Some x) n e = (kind.INT, x.text, refl, (refl, text-is token.Int x n e))
 fits-now kind.STRING_VALUE kind.STRING None n e = absurd cc
-fits-now kind.STRING_VALUE kind.STRING (Some x) n e = (kind.STRING, x.text, refl, (refl, text-is token.StringValue x n e))
+fits-now kind.STRING_VALUE kind.STRING (Some x) n e =
+    (kind.STRING, x.text, refl, (refl, text-is token.StringValue x n e))
 fits-now kind.BOOLEAN_VALUE kind.true_KW None n e = absurd cc
-fits-now kind.BOOLEAN_VALUE kind.true_KW (Some x) n e = (kind.true_KW, x.text, refl, inl (refl, word_is kind.true_KW x (codes "true") refl refl e))
+fits-now kind.BOOLEAN_VALUE kind.true_KW (Some x) n e =
+    (kind.true_KW, x.text, refl, inl (refl, word_is kind.true_KW x (codes "true") refl refl e))
 fits-now kind.BOOLEAN_VALUE kind.false_KW None n e = absurd cc
-fits-now kind.BOOLEAN_VALUE kind.false_KW (Some x) n e = (kind.false_KW, x.text, refl, inr (refl, word_is kind.false_KW x (codes "false") refl refl e))
+fits-now kind.BOOLEAN_VALUE kind.false_KW (Some x) n e =
+    (kind.false_KW, x.text, refl, inr (refl, word_is kind.false_KW x (codes "false") refl refl e))
 fits-now _ _ o n e = absurd cc
 
-pub fits-text : (node l : SyntaxKind) (o : Option Lexeme) (x : Lexeme) (text : Text) → o ≡ Some x → text ≡ x.text → IsNow o → true ≡ is_leaf_of node l o
+pub fits-text : (node l : SyntaxKind) (o : Option Lexeme) (x : Lexeme) (text : Text) → o ≡ Some x → text ≡ x.text
+    → IsNow o → true ≡ is_leaf_of node l o
     → Fits node (leaf l text none)
-fits-text node l o x text c t n e = subst (λ (y : Text). Fits node (leaf l y none)) (sym t) (subst (FitsNow node l) c (fits-now node l o n e))
+fits-text node l o x text c t n e =
+    subst (λ (y : Text). Fits node (leaf l y none)) (sym t) (subst (FitsNow node l) c (fits-now node l o n e))

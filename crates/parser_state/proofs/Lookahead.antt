@@ -1,6 +1,6 @@
 -- What was cut stays within the budget.
-use Rattle.std.proofs.Common.{◌≡◌, ℕ, zero, suc, ◌+◌, ◌-◌, ◌*◌, ◌≤◌, length, subst, Option, Some, None, is_some, List, [], ◌∷◌, refl, sym, ◌∙◌, ap, Bool, true}
-use Rattle.std.proofs.Common.{false, if◌then◌else◌, arith}
+use Rattle.std.proofs.Common.{◌≡◌, ℕ, zero, suc, ◌+◌, ◌-◌, ◌*◌, ◌≤◌, length, subst, Option, Some, None, is_some, List}
+use Rattle.std.proofs.Common.{[], ◌∷◌, refl, sym, ◌∙◌, ap, Bool, true, false, if◌then◌else◌, arith}
 use Rattle.lexical_grammar.specs.declared.TokenKind.{TokenKind}
 use Rattle.lexical_grammar.specs.Answers.{Answer, gives, limit_at, limited, is_given}
 use Rattle.lexical_grammar.specs.Cut.{Item}
@@ -27,7 +27,8 @@ looked-is rest text index k = refl
 item-few : (rest : List Answer) (o : Option TokenKind) → looked rest ≤ given rest → at_kind rest o ≤ given rest + 1
 unfolding at_kind
 item-few rest None h = omega (arith, h)
-item-few rest (Some k) h = elim (ignored k) as (λ o. on_kind rest o ≤ given rest + 1) [ Some leaf ↦ omega (arith, h) | None ↦ omega arith ]
+item-few rest (Some k) h =
+    elim (ignored k) as (λ o. on_kind rest o ≤ given rest + 1) [ Some leaf ↦ omega (arith, h) | None ↦ omega arith ]
 
 pub looked-given : (xs : List Answer) → looked xs ≤ given xs
 unfolding looked at_kind on_kind
@@ -53,16 +54,20 @@ unfolding on_kind
 some-more rest None e = absurd cc
 some-more rest (Some leaf) e = refl
 
-pub looked-ignored : (xs rest : List Answer) (k : TokenKind) (text : Text) (index : ℕ) (found : Option SyntaxKind) → xs ≡ token_of k text index ∷ rest
+pub looked-ignored : (xs rest : List Answer) (k : TokenKind) (text : Text) (index : ℕ) (found : Option SyntaxKind)
+    → xs ≡ token_of k text index ∷ rest
     → found ≡ ignored k
     → is_some found ≡ true → looked xs ≡ looked rest + 1
-looked-ignored xs rest k text index found e f i = ap looked e ∙ looked-is rest text index k ∙ ap (on_kind rest) (sym f) ∙ some-more rest found i
+looked-ignored xs rest k text index found e f i =
+    ap looked e ∙ looked-is rest text index k ∙ ap (on_kind rest) (sym f) ∙ some-more rest found i
 
-pub looked-found : (xs rest : List Answer) (k : TokenKind) (text : Text) (index : ℕ) (found : Option SyntaxKind) → xs ≡ token_of k text index ∷ rest
+pub looked-found : (xs rest : List Answer) (k : TokenKind) (text : Text) (index : ℕ) (found : Option SyntaxKind)
+    → xs ≡ token_of k text index ∷ rest
     → found ≡ ignored k
     → is_some found ≡ false → looked xs ≡ 1
 unfolding on_kind
-looked-found xs rest k text index found e f i = ap looked e ∙ looked-is rest text index k ∙ ap (on_kind rest) (sym f ∙ not-some found i)
+looked-found xs rest k text index found e f i =
+    ap looked e ∙ looked-is rest text index k ∙ ap (on_kind rest) (sym f ∙ not-some found i)
 
 -- how many items bad text is, and the limit: one, and none
 abbrev pub cut_of : Bool → ℕ
@@ -70,47 +75,58 @@ cut_of true = 0
 cut_of false = 1
 
 -- what the lexer counts there
-counted-bad : (limit : Bool) (text : Text) (index : ℕ) → (if is_given (error_answer limit text index) then 1 else 0) ≡ cut_of limit
+counted-bad : (limit : Bool) (text : Text) (index : ℕ)
+    → (if is_given (error_answer limit text index) then 1 else 0) ≡ cut_of limit
 counted-bad true text index = refl
 counted-bad false text index = refl
 
-looked-bad : (xs rest : List Answer) (limit : Bool) (text : Text) (index : ℕ) → xs ≡ error_answer limit text index ∷ rest
+looked-bad : (xs rest : List Answer) (limit : Bool) (text : Text) (index : ℕ)
+    → xs ≡ error_answer limit text index ∷ rest
     → looked xs ≡ looked rest + cut_of limit
 unfolding looked
 looked-bad xs rest true text index e = let l = ap looked e in omega (arith, l)
 looked-bad xs rest false text index e = ap looked e
 
-given-bad : (xs rest : List Answer) (limit : Bool) (text : Text) (index : ℕ) → xs ≡ error_answer limit text index ∷ rest → given xs ≡ given rest + cut_of limit
+given-bad : (xs rest : List Answer) (limit : Bool) (text : Text) (index : ℕ) → xs ≡ error_answer limit text index ∷ rest
+    → given xs ≡ given rest + cut_of limit
 given-bad xs rest true text index e = let g = ap given e in omega (arith, g)
 given-bad xs rest false text index e = ap given e
 
 -- a copy takes what is no token
-pub bad-counted : (c d : ℕ) (xs rest : List Answer) (limit : Bool) (text : Text) (index : ℕ) → xs ≡ error_answer limit text index ∷ rest
+pub bad-counted : (c d : ℕ) (xs rest : List Answer) (limit : Bool) (text : Text) (index : ℕ)
+    → xs ≡ error_answer limit text index ∷ rest
     → d ≡ c + (if is_given (error_answer limit text index) then 1 else 0) → d + looked rest ≡ c + looked xs
-bad-counted c d xs rest limit text index e n = let l = looked-bad xs rest limit text index e in let b = counted-bad limit text index in omega (arith, l, b, n)
+bad-counted c d xs rest limit text index e n = let l = looked-bad xs rest limit text index e in let b =
+    counted-bad limit text index in omega (arith, l, b, n)
 
 -- ---- an answer is taken: m items may be cut in all
 
 abbrev Within : Bool → List Answer → ℕ → ℕ → Type 0
 Within known xs c m = c + 2 * given xs ≤ m + spared known xs
 
-pub after-token : (known : Bool) (xs rest : List Answer) (k : TokenKind) (text : Text) (index : ℕ) (found : Option SyntaxKind) (c d m : ℕ)
+pub after-token : (known : Bool) (xs rest : List Answer) (k : TokenKind) (text : Text) (index : ℕ)
+    (found : Option SyntaxKind) (c d m : ℕ)
     → xs ≡ token_of k text index ∷ rest
     → found ≡ ignored k → is_some found ≡ false → d ≡ c + 1 → Within known xs c m → d + 2 * given rest ≤ m
 after-token false xs rest k text index found c d m e f i n h = let g = ap given e in omega (arith, g, n, h)
-after-token true xs rest k text index found c d m e f i n h = let g = ap given e in let l = looked-found xs rest k text index found e f i in
+after-token true xs rest k text index found c d m e f i n h = let g = ap given e in let l =
+    looked-found xs rest k text index found e f i in
     omega (arith, g, l, n, h)
 
-pub after-ignored : (known : Bool) (xs rest : List Answer) (k : TokenKind) (text : Text) (index : ℕ) (found : Option SyntaxKind) (c d m : ℕ)
+pub after-ignored : (known : Bool) (xs rest : List Answer) (k : TokenKind) (text : Text) (index : ℕ)
+    (found : Option SyntaxKind) (c d m : ℕ)
     → xs ≡ token_of k text index ∷ rest
     → found ≡ ignored k → is_some found ≡ true → d ≡ c + 1 → Within known xs c m → Within known rest d m
 after-ignored false xs rest k text index found c d m e f i n h = let g = ap given e in omega (arith, g, n, h)
-after-ignored true xs rest k text index found c d m e f i n h = let g = ap given e in let l = looked-ignored xs rest k text index found e f i in
+after-ignored true xs rest k text index found c d m e f i n h = let g = ap given e in let l =
+    looked-ignored xs rest k text index found e f i in
     omega (arith, g, l, n, h)
 
-pub after-bad : (known : Bool) (xs rest : List Answer) (limit : Bool) (text : Text) (index : ℕ) (c d m : ℕ) → xs ≡ error_answer limit text index ∷ rest
+pub after-bad : (known : Bool) (xs rest : List Answer) (limit : Bool) (text : Text) (index : ℕ) (c d m : ℕ)
+    → xs ≡ error_answer limit text index ∷ rest
     → d ≡ c + (if is_given (error_answer limit text index) then 1 else 0) → Within known xs c m → Within known rest d m
-after-bad false xs rest limit text index c d m e n h = let g = given-bad xs rest limit text index e in let b = counted-bad limit text index in
+after-bad false xs rest limit text index c d m e n h = let g = given-bad xs rest limit text index e in let b =
+    counted-bad limit text index in
     omega (arith, g, b, n, h)
 after-bad true xs rest limit text index c d m e n h =
     let g = given-bad xs rest limit text index e in

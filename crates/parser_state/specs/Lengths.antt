@@ -18,7 +18,8 @@ answer_length (Some answer) = length (answer_text answer)
 
 -- of the tree so far, the waiting text, the current token, and the rest
 unfoldable pub text_length : Building → List PendingToken → Option Lexeme → List Answer → ℕ
-text_length tree pending current items = length (built_text tree) + pending_length pending + current_length current + length (answers_text items)
+text_length tree pending current items =
+    length (built_text tree) + pending_length pending + current_length current + length (answers_text items)
 
 abbrev pub length_of : State → ℕ
 length_of s = text_length s.tree s.pending s.current s.items

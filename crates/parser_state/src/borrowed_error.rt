@@ -76,7 +76,8 @@ fn fault_error<A: Allocator + Copy>(
 
 // The message of a fault at this token in three parts.
 fn fault_parts<'i>(message: Message, found: Token<'i>) -> (&'static str, &'i str, &'i str)
-    ensures { result.0.now ++ result.1.now ++ result.2.now ≡ message_text message (state.found_at (lexeme_of found.entry)) }
+    ensures { result.0.now ++ result.1.now
+        ++ result.2.now ≡ message_text message (state.found_at (lexeme_of found.entry)) }
 {
     let words = message.description();
     if !message.names_found() {

@@ -1,6 +1,6 @@
-// The state of a parser, and its steps. Each is a step of the parser's rules.
-// Some do one line's work, as `push_token`, `push_leaf_node`, `set_current` and `is_same`: so each change of a field has a contract in the words
-// of the rules' state. Their callers are proved from these contracts, and do not look into the fields.
+// The state of a parser, and its steps. Each is a step of the parser's rules. Some do one line's work, as `push_token`,
+// `push_leaf_node`, `set_current` and `is_same`: so each change of a field has a contract in the words of the rules'
+// state. Their callers are proved from these contracts, and do not look into the fields.
 #![tactic(auto, using(parser_rules::specs::Runs::does), unfolding(parser_rules::proofs::runs::Running::steps))]
 
 mod building;
@@ -39,7 +39,8 @@ pub struct PendingToken<'i> {
     pub text: &'i str,
 }
 
-/// What a parse leaves: the tree, the errors in the order in which they were found, and how the limits were used. Tree and errors borrow the source.
+/// What a parse leaves: the tree, the errors in the order in which they were found, and how the limits were used. Tree
+/// and errors borrow the source.
 #[derive(Drop)]
 pub struct Finished<'i, A: Allocator> {
     pub tree: BorrowedSubtree<'i, A>,
@@ -48,7 +49,8 @@ pub struct Finished<'i, A: Allocator> {
     pub token_limit: LimitTracker,
 }
 
-/// The current token is the next significant one, or the end, or none where nothing is left and while the next one is read.
+/// The current token is the next significant one, or the end, or none where nothing is left and while the next one is
+/// read.
 #[derive(Drop)]
 pub struct ParserState<'i, A: Allocator> {
     alloc: A,
@@ -67,21 +69,24 @@ const EXPECTED_DEPTH: usize = 16;
 // How many bytes make a text long.
 const LONG: usize = 1 << 14;
 
-// How many elements get room at first: as many as most small texts have, even without blanks. A long text may be one string, so it gets no more than 4,096.
+// How many elements get room at first: as many as most small texts have, even without blanks. A long text may be one
+// string, so it gets no more than 4,096.
 fn expected_elements(bytes: usize) -> usize
     ensures { result ≡ min (bytes / 4 * 3 + 32) 4096 }
 {
     (bytes / 4 * 3 + 32).min(4096)
 }
 
-// How many elements a long text may have: one for two bytes, up to 31 MB of memory. More than 32 MB glibc takes anew for each parse.
+// How many elements a long text may have: one for two bytes, up to 31 MB of memory. More than 32 MB glibc takes anew
+// for each parse.
 fn likely_elements(bytes: usize) -> usize
     ensures { result ≡ min (bytes / 2) 2600000 }
 {
     (bytes / 2).min(2_600_000)
 }
 
-// Takes room for a long text's tree, if there is as much beside it as the tree's own text takes at the end. A guess may be wrong, so a refusal is no failure.
+// Takes room for a long text's tree, if there is as much beside it as the tree's own text takes at the end. A guess may
+// be wrong, so a refusal is no failure.
 #[cold]
 #[inline(never)]
 fn reserve_likely<A: Allocator + Copy>(alloc: A, builder: &mut SpanBuilder<A>, bytes: usize)
@@ -136,7 +141,9 @@ impl<'i, A: Allocator> Model for ParserState<'i, A> {
       budget = p.reader.start.value + 2 * all_given p.reader.lexer;
     } };
 
-    ghost invariant = { λ p. IsNow (current_of p.current_token) × (text_length p.builder (map pending_of p.pending.items) (current_of p.current_token) (answers_left p.reader.lexer) < 2 ^ 64) };
+    ghost invariant = { λ p. IsNow (current_of p.current_token)
+        × (text_length p.builder (map pending_of p.pending.items) (current_of p.current_token)
+        (answers_left p.reader.lexer) < 2 ^ 64) };
 }
 
 impl<'i, A: Allocator + Copy> ParserState<'i, A> {
@@ -148,7 +155,8 @@ impl<'i, A: Allocator + Copy> ParserState<'i, A> {
         steps: Steps,
     ) -> ParserState<'i, A>
         requires { lexer.limit_tracker.high ≡ 0 }
-        ensures { result ≡ reading.unread (answers_left lexer.entry) recursion_limit (steps.value + 2 * min (length (answers_left lexer.entry)) lexer.entry.limit_tracker.limit) }
+        ensures { result ≡ reading.unread (answers_left lexer.entry) recursion_limit
+            (steps.value + 2 * min (length (answers_left lexer.entry)) lexer.entry.limit_tracker.limit) }
     {
         ParserState {
             alloc,
@@ -162,7 +170,8 @@ impl<'i, A: Allocator + Copy> ParserState<'i, A> {
         }
     }
 
-    /// Opens the root, and reads the first token. First it takes room for the tree, so that a small one does not grow step by step.
+    /// Opens the root, and reads the first token. First it takes room for the tree, so that a small one does not grow
+    /// step by step.
     pub fn open(&mut self, root: SyntaxKind) -> Result<(), AllocError>
         ensures step { OnOk result (self.new ≡ reading.rooted root self.old) }
         ensures budget { self.new.budget ≡ self.old.budget }
@@ -172,7 +181,8 @@ impl<'i, A: Allocator + Copy> ParserState<'i, A> {
         self.read_on()
     }
 
-    /// Reads the first token, where no root is open, and takes in the items before it. The checkpoint is the index before all that is built.
+    /// Reads the first token, where no root is open, and takes in the items before it. The checkpoint is the index
+    /// before all that is built.
     pub fn read_first(&mut self) -> Result<Checkpoint, AllocError>
         requires { self.old.tree ≡ nothing }
         ensures step { OnOk result (self.new ≡ state.flush (state.read_on self.old.items self.old)) }
@@ -192,8 +202,8 @@ impl<'i, A: Allocator + Copy> ParserState<'i, A> {
         self.reader.into_steps()
     }
 
-    /// Takes in the waiting items, and closes the root. The token limit is the lexer's, and the source is what it reads. The steps become those of the
-    /// parse, whatever it answers.
+    /// Takes in the waiting items, and closes the root. The token limit is the lexer's, and the source is what it
+    /// reads. The steps become those of the parse, whatever it answers.
     pub fn finish(
         self,
         token_limit: usize,
@@ -205,10 +215,14 @@ impl<'i, A: Allocator + Copy> ParserState<'i, A> {
         ensures tree { IfOk result (λ t. t.tree ≡ state.finished self.entry) }
         ensures counted { IfOk result (λ t. count t.tree < 2 ^ 64) }
         ensures errors { IfOk result (λ t. AllZip IsErrorOf self.entry.errors (map error_of t.errors.items)) }
-        ensures recursion_limit { IfOk result (λ t. t.recursion_limit ≡ record { current = self.entry.depth; high = self.entry.high; limit = self.entry.limit }) }
-        ensures allowed { IfOk result (λ t. (t.token_limit.current ≡ 0) × (t.token_limit.limit ≡ token_limit) × (t.token_limit.high ≤ self.entry.asked)) }
+        ensures recursion_limit { IfOk result (λ t. t.recursion_limit
+            ≡ record { current = self.entry.depth; high = self.entry.high; limit = self.entry.limit }) }
+        ensures allowed { IfOk result
+            (λ t. (t.token_limit.current ≡ 0) × (t.token_limit.limit ≡ token_limit)
+            × (t.token_limit.high ≤ self.entry.asked)) }
         ensures steps { steps.new.value ≤ self.entry.budget }
-        ensures token_limit { self.entry.items ≡ [] → IfOk result (λ t. t.token_limit ≡ record { current = 0; high = self.entry.asked; limit = token_limit }) }
+        ensures token_limit { self.entry.items ≡ []
+            → IfOk result (λ t. t.token_limit ≡ record { current = 0; high = self.entry.asked; limit = token_limit }) }
     {
         let ParserState {
             reader,

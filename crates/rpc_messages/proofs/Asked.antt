@@ -10,9 +10,11 @@ use Rattle.rpc_messages.specs.Messages.{Asks}
 use Rattle.rpc_messages.specs.Replies.{Replies}
 
 -- the id that a message has can be written
-pub id_writable : {V : Type 0} (view : V → Json) (name : List ℕ) (message : Json) (found : Option V) (id : V) → HasNumbers message
+pub id_writable : {V : Type 0} (view : V → Json) (name : List ℕ) (message : Json) (found : Option V) (id : V)
+    → HasNumbers message
     → option_map view found ≡ get name message → found ≡ Some id → HasNumbers (view id)
-id_writable view name message found id h e is = HasNumbers-get name message (view id) h (sym (ap (option_map view) is) ∙ e)
+id_writable view name message found id h e is =
+    HasNumbers-get name message (view id) h (sym (ap (option_map view) is) ∙ e)
 
 -- a body that is no JSON is refused
 pub no_json_refused : (body : List ℕ) (r : Reply) → (IsUtf8 body → document body ≡ None) → Replies (Some null) r

@@ -28,7 +28,8 @@ response_front id = begin_object ∷ key (codes "jsonrpc") ∷ string (codes "2.
 -- the member `error` of an answer that refuses a request
 abbrev pub error_member : ℤ → List ℕ → List Token
 error_member code text =
-    key (codes "error") ∷ begin_object ∷ key (codes "code") ∷ number (signed_decimal code) ∷ key (codes "message") ∷ string text ∷ end_object ∷ []
+    key (codes "error") ∷ begin_object ∷ key (codes "code") ∷ number (signed_decimal code) ∷ key (codes "message")
+    ∷ string text ∷ end_object ∷ []
 
 -- the members of a notice or a request up to its parameters
 abbrev pub call_front : List ℕ → List Token
@@ -38,7 +39,8 @@ abbrev pub notice_front : List ℕ → List Token
 notice_front method = begin_object ∷ key (codes "jsonrpc") ∷ string (codes "2.0") ∷ call_front method
 
 abbrev pub request_front : List ℕ → List ℕ → List Token
-request_front id method = begin_object ∷ key (codes "jsonrpc") ∷ string (codes "2.0") ∷ key (codes "id") ∷ string id ∷ call_front method
+request_front id method =
+    begin_object ∷ key (codes "jsonrpc") ∷ string (codes "2.0") ∷ key (codes "id") ∷ string id ∷ call_front method
 
 -- the body is text of these tokens
 pub record HasTokens (ts : List Token) (body : List ℕ) : Type 0 where
@@ -47,7 +49,8 @@ pub record HasTokens (ts : List Token) (body : List ℕ) : Type 0 where
 
 -- the tokens of an answer to the request with this id, up to its result
 abbrev pub answer_front : Json → List Token
-answer_front id = begin_object ∷ key (codes "jsonrpc") ∷ string (codes "2.0") ∷ key (codes "id") ∷ id_token id ∷ key (codes "result") ∷ []
+answer_front id = begin_object ∷ key (codes "jsonrpc") ∷ string (codes "2.0") ∷ key (codes "id") ∷ id_token id
+    ∷ key (codes "result") ∷ []
 
 -- an answer to the request with this id is written up to its result, and some tokens of that
 pub record IsBegun (id : Json) (written : List Token) : Type 0 where
@@ -59,8 +62,8 @@ pub record AreOfObject (ts : List Token) : Type 0 where
   pub members : Members
   pub is : ts ≡ json_tokens (json.object members)
 
--- The body answers the request with this id: the result is the value of these tokens, and where they are not those of one value, it is refused as an
--- internal error (JSON-RPC 2.0, section 5.1).
+-- The body answers the request with this id: the result is the value of these tokens, and where they are not those of
+-- one value, it is refused as an internal error (JSON-RPC 2.0, section 5.1).
 pub record IsAnswerOf (id : Json) (ts : List Token) (body : List ℕ) : Type 0 where
   pub result : (value : Json) → ts ≡ json_tokens value → IsResult id value body
   pub refused : ((value : Json) → ts ≢ json_tokens value) → (text : List ℕ) × IsError id (neg_ℤ (pos 32603)) text body

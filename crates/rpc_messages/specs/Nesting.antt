@@ -1,6 +1,7 @@
 -- Whether tokens of JSON nest as those of one value.
 use Rattle.std.specs.Prelude.{List, [], ◌∷◌, Option, Some, None, cond, option_and_then, option_map, reverse}
-use Rattle.json.specs.Token.{Token, begin_object, end_object, begin_array, end_array, key, string, number, boolean, null, bad}
+use Rattle.json.specs.Token.{Token, begin_object, end_object, begin_array, end_array, key, string, number, boolean}
+use Rattle.json.specs.Token.{null, bad}
 use Rattle.rpc_messages.specs.declared.nesting.Expected.{Expected}
 use Rattle.rpc_messages.specs.declared.nesting.Expected.TheVariants.{Value, Item, Member}
 use Rattle.rpc_messages.specs.declared.nesting.Nesting.{Nesting}

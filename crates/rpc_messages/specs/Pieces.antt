@@ -4,7 +4,8 @@ use Rattle.std.specs.Fmt.{signed_decimal}
 use Rattle.json.specs.Token as json
 use Rattle.json.specs.Written.{Written}
 use Rattle.rpc_messages.specs.declared.pieces.Piece.{Piece}
-use Rattle.rpc_messages.specs.declared.pieces.Piece.TheVariants.{Object, EndObject, Array, EndArray, Key, Text, Count, Number, Flag, Null, Counts}
+use Rattle.rpc_messages.specs.declared.pieces.Piece.TheVariants.{Object, EndObject, Array, EndArray, Key, Text, Count}
+use Rattle.rpc_messages.specs.declared.pieces.Piece.TheVariants.{Number, Flag, Null, Counts}
 
 abbrev pub number_token : ℕ → json.Token
 number_token n = json.number (decimal n)

@@ -5,7 +5,8 @@ use Rattle.rpc_messages.specs.declared.reply.Reply.{Reply}
 use Rattle.rpc_messages.specs.declared.reply.Reply.TheVariants.{Nothing, Answer, Notice, Request, Exit}
 use Rattle.rpc_messages.specs.Messages.{IsAnswer, IsNotice, IsRequest}
 
--- The reply to a message that needs an answer with this id, or none. There is an answer exactly where one is needed, and it has that id.
+-- The reply to a message that needs an answer with this id, or none. There is an answer exactly where one is needed,
+-- and it has that id.
 abbrev pub Replies : Option Json → Reply → Type 0
 Replies asked Nothing = asked ≡ None
 Replies asked (Answer body) = (id : Json) × (asked ≡ Some id) × IsAnswer id body.items

@@ -23,10 +23,11 @@ IsRefusal code (Notice body) = ⊥
 IsRefusal code (Request body) = ⊥
 IsRefusal code (Exit status) = ⊥
 
--- the service, as its trait says: the step for a request (which has an id) or a notification (which has none) with this method and these parameters
+-- the service, as its trait says: the step for a request (which has an id) or a notification (which has none) with this
+-- method and these parameters
 module _ {S : Type 0} (steps : S → Option Json → List ℕ → Json → Reply → S → Type 0) where
-  -- The step for a message, by its id and its method. A response is passed over, and a message that is neither request nor notification is refused; both
-  -- leave the service as it is.
+  -- The step for a message, by its id and its method. A response is passed over, and a message that is neither request
+  -- nor notification is refused; both leave the service as it is.
   abbrev pub StepsBy : Option Json → Option Json → Json → S → Reply → S → Type 0
   StepsBy (Some id) (Some method) params old reply new = steps old (Some id) (method_of method) params reply new
   StepsBy (Some id) None params old reply new = (reply ≡ Nothing) × (new ≡ old)
@@ -34,9 +35,11 @@ module _ {S : Type 0} (steps : S → Option Json → List ℕ → Json → Reply
   StepsBy None None params old reply new = IsRefusal (neg_ℤ (pos 32600)) reply × (new ≡ old)
 
   abbrev pub StepsOn : Json → S → Reply → S → Type 0
-  StepsOn message old reply new = StepsBy (get (codes "id") message) (get (codes "method") message) (params_of message) old reply new
+  StepsOn message old reply new =
+      StepsBy (get (codes "id") message) (get (codes "method") message) (params_of message) old reply new
 
   -- the step for the body of a message
   abbrev pub Takes : List ℕ → S → Reply → S → Type 0
   Takes body old reply new =
-      (IsNoJson body × IsRefusal (neg_ℤ (pos 32700)) reply × (new ≡ old)) ⊎ ((message : Json) × IsJson body message × StepsOn message old reply new)
+      (IsNoJson body × IsRefusal (neg_ℤ (pos 32700)) reply × (new ≡ old))
+      ⊎ ((message : Json) × IsJson body message × StepsOn message old reply new)

@@ -4,7 +4,8 @@ ghost use Rattle.json.specs.Json.{Members, object};
 ghost use Rattle.json.specs.Token.{end_object};
 ghost use Rattle.json.specs.Tree.{HasNumbers, json_tokens};
 ghost use Rattle.json.specs.Value.{value_view};
-ghost use Rattle.rpc_messages.specs.Answers.{AreOfObject, HasTokens, IsAnswerOf, call_front, error_member, id_token, notice_front, request_front, response_front};
+ghost use Rattle.rpc_messages.specs.Answers.{AreOfObject, HasTokens, IsAnswerOf, call_front, error_member, id_token};
+ghost use Rattle.rpc_messages.specs.Answers.{notice_front, request_front, response_front};
 ghost use Rattle.rpc_messages.specs.Messages.{IsAnswer, IsError, IsNotice, IsNoticeOf, IsRequest, IsRequestOf};
 ghost use Rattle.rpc_messages.specs.Pieces.{Adds, tokens_of};
 
@@ -71,7 +72,8 @@ fn end(mut out: Writer) -> Result<Vec<u8>, AllocError>
 // The body of the answer that refuses a request.
 fn refusal_body(alloc: Global, id: &Value<'_>, code: i64, text: &str) -> Result<Vec<u8>, AllocError>
     requires { HasNumbers (value_view id.now) }
-    ensures { IfOk result (λ body. HasTokens (response_front (value_view id.now) ++ (error_member code text.now ++ end_object ∷ [])) body.items) }
+    ensures { IfOk result (λ body. HasTokens
+        (response_front (value_view id.now) ++ (error_member code text.now ++ end_object ∷ [])) body.items) }
 {
     let mut out = Writer::new(Vec::new(alloc));
     put_front(&mut out, id)?;
@@ -147,12 +149,14 @@ impl LongAnswer {
         Ok(LongAnswer { out, nesting })
     }
 
-    /// The body of the answer, by the id that it began with. Where the pieces are not those of one value, it refuses the request with the code
-    /// `INTERNAL_ERROR`. It fails only where memory is refused.
+    /// The body of the answer, by the id that it began with. Where the pieces are not those of one value, it refuses
+    /// the request with the code `INTERNAL_ERROR`. It fails only where memory is refused.
     pub fn finish(self, alloc: Global, id: &Value<'_>) -> Result<Vec<u8>, AllocError>
         requires numbers { HasNumbers (value_view id.now) }
         requires begun { IsBegun (value_view id.now) self }
-        ensures member { IfOk result (λ body. (ts : List Token) → self ≡ answer_front (value_view id.now) ++ ts → IsAnswerOf (value_view id.now) ts body.items) }
+        ensures member { IfOk result
+            (λ body. (ts : List Token) → self ≡ answer_front (value_view id.now) ++ ts
+            → IsAnswerOf (value_view id.now) ts body.items) }
         ensures answers { IfOk result (λ body. IsAnswer (value_view id.now) body.items) }
     {
         let LongAnswer { out, nesting } = self;
@@ -164,8 +168,8 @@ impl LongAnswer {
     }
 }
 
-/// The answer to the request with an id, by the pieces of its result. Where they are not those of one value, it refuses the request with the code
-/// `INTERNAL_ERROR`. It fails only where memory is refused.
+/// The answer to the request with an id, by the pieces of its result. Where they are not those of one value, it refuses
+/// the request with the code `INTERNAL_ERROR`. It fails only where memory is refused.
 pub fn answer(alloc: Global, id: &Value<'_>, pieces: &[Piece<'_>]) -> Result<Vec<u8>, AllocError>
     requires { HasNumbers (value_view id.now) }
     ensures member { IfOk result (λ body. IsAnswerOf (value_view id.now) (flat_map tokens_of pieces.now) body.items) }
@@ -204,7 +208,8 @@ fn put_call(out: &mut Writer, method: &str, params: &[Piece<'_>]) -> Result<(), 
 
 // The body of a notice.
 fn notice_body(alloc: Global, method: &str, params: &[Piece<'_>]) -> Result<Vec<u8>, AllocError>
-    ensures { IfOk result (λ body. HasTokens (notice_front method.now ++ (flat_map tokens_of params.now ++ end_object ∷ [])) body.items) }
+    ensures { IfOk result (λ body. HasTokens
+        (notice_front method.now ++ (flat_map tokens_of params.now ++ end_object ∷ [])) body.items) }
 {
     let mut out = Writer::new(Vec::new(alloc));
     put_all(
@@ -222,7 +227,8 @@ fn request_body(
     method: &str,
     params: &[Piece<'_>],
 ) -> Result<Vec<u8>, AllocError>
-    ensures { IfOk result (λ body. HasTokens (request_front id.now method.now ++ (flat_map tokens_of params.now ++ end_object ∷ [])) body.items) }
+    ensures { IfOk result (λ body. HasTokens
+        (request_front id.now method.now ++ (flat_map tokens_of params.now ++ end_object ∷ [])) body.items) }
 {
     let mut out = Writer::new(Vec::new(alloc));
     put_all(
@@ -239,17 +245,21 @@ fn request_body(
     end(out)
 }
 
-/// A notice of the server: a method, and the pieces of its parameters, which are an object. It fails only where memory is refused.
+/// A notice of the server: a method, and the pieces of its parameters, which are an object. It fails only where memory
+/// is refused.
 pub fn notice(alloc: Global, method: &str, params: &[Piece<'_>]) -> Result<Vec<u8>, AllocError>
     requires { AreOfObject (flat_map tokens_of params.now) }
-    ensures params { IfOk result (λ body. (members : Members) → flat_map tokens_of params.now ≡ json_tokens (object members) → IsNoticeOf method.now members body.items) }
+    ensures params { IfOk result
+        (λ body. (members : Members) → flat_map tokens_of params.now ≡ json_tokens (object members)
+        → IsNoticeOf method.now members body.items) }
     ensures notifies { IfOk result (λ body. IsNotice body.items) }
 {
     let body = notice_body(alloc, method, params)?;
     Ok(body)
 }
 
-/// A request of the server: an id, a method, and the pieces of its parameters, which are an object. It fails only where memory is refused.
+/// A request of the server: an id, a method, and the pieces of its parameters, which are an object. It fails only where
+/// memory is refused.
 pub fn request(
     alloc: Global,
     id: &str,
@@ -257,7 +267,8 @@ pub fn request(
     params: &[Piece<'_>],
 ) -> Result<Vec<u8>, AllocError>
     requires { AreOfObject (flat_map tokens_of params.now) }
-    ensures params { IfOk result (λ body. (members : Members) → flat_map tokens_of params.now ≡ json_tokens (object members)
+    ensures params { IfOk result
+        (λ body. (members : Members) → flat_map tokens_of params.now ≡ json_tokens (object members)
         → IsRequestOf id.now method.now members body.items) }
     ensures requests { IfOk result (λ body. IsRequest body.items) }
 {

@@ -1,6 +1,7 @@
 // Whether pieces nest as those of one value of JSON.
 ghost use Rattle.std.specs.Prelude.{◌≡◌, ◌∷◌, [], IfOk, IsTrue, OnOk, ◌↔◌, Some, flat_map, option_and_then};
-ghost use Rattle.rpc_messages.specs.Nesting.{after_all, after_items, after_key, after_members, after_open, after_value, expected_in};
+ghost use Rattle.rpc_messages.specs.Nesting.{after_all, after_items, after_key, after_members, after_open, after_value};
+ghost use Rattle.rpc_messages.specs.Nesting.{expected_in};
 ghost use Rattle.rpc_messages.specs.Pieces.{tokens_of};
 ghost use Rattle.rpc_messages.specs.declared.nesting.Expected.TheVariants.{Value};
 
@@ -128,7 +129,8 @@ impl Nesting {
 
     /// Takes pieces, one after the other.
     pub(crate) fn take_all(&mut self, pieces: &[Piece<'_>]) -> Result<(), AllocError>
-        ensures { OnOk result (expected_in self.new ≡ after_all (flat_map tokens_of pieces.now) (expected_in self.old)) }
+        ensures { OnOk result (expected_in self.new
+            ≡ after_all (flat_map tokens_of pieces.now) (expected_in self.old)) }
     {
         for piece in pieces {
             self.take(*piece)?;

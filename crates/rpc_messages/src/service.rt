@@ -16,7 +16,8 @@ use std::alloc::{AllocError, Global};
 
 /// What answers requests and receives notifications.
 pub trait Service {
-    // the step for a request (which has an id) or a notification (which has none) with this method and these parameters: the reply, and the new state
+    // the step for a request (which has an id) or a notification (which has none) with this method and these
+    // parameters: the reply, and the new state
     ghost steps: { Self → Option Json → List ℕ → Json → Reply → Self → Type 0 };
 
     /// The answer to a request, by its id, its method and its parameters. A method that is no text is empty.
@@ -29,9 +30,12 @@ pub trait Service {
     ) -> Result<Vec<u8>, AllocError>
         requires { HasNumbers (value_view id.now) }
         ensures answers { IfOk result (λ body. IsAnswer (value_view id.now) body.items) }
-        ensures step { IfOk result (λ body. steps self.old (Some (value_view id.now)) method.now (value_view params.now) (Answer body) self.new) };
+        ensures step { IfOk result
+            (λ body. steps self.old (Some (value_view id.now)) method.now (value_view params.now)
+            (Answer body) self.new) };
 
-    /// What a notification brings about, by its method and its parameters. A method that is no text is empty. Only `exit` may end the conversation.
+    /// What a notification brings about, by its method and its parameters. A method that is no text is empty. Only
+    /// `exit` may end the conversation.
     fn notification(
         &mut self,
         alloc: Global,
@@ -82,8 +86,9 @@ fn reply<S: Service>(
     }
 }
 
-/// What the body of a message brings about: the end only where it is the notification `exit`. A body that is not read as JSON, which is read to 128 levels,
-/// is refused with `PARSE_ERROR`, and one that is no message with `INVALID_REQUEST`. It fails only where memory is refused.
+/// What the body of a message brings about: the end only where it is the notification `exit`. A body that is not read
+/// as JSON, which is read to 128 levels, is refused with `PARSE_ERROR`, and one that is no message with
+/// `INVALID_REQUEST`. It fails only where memory is refused.
 pub fn handle<S: Service>(alloc: Global, service: &mut S, body: &[u8]) -> Result<Reply, AllocError>
     ensures replies { IfOk result (λ reply. (id : Option Json) × Asks body.now id × Replies id reply) }
     ensures ends { IfOk result (EndsOnlyIf (AsksForEnd body.now)) }

@@ -1,6 +1,6 @@
 -- Numbers in decimal digits.
-use Rattle.std.proofs.Common.{◌≡◌, ℕ, zero, suc, Result, ◌<◌, ◌≤◌, ◌^◌, true, false, Option, Some, None, Ok, Err, List, [], ◌∷◌, length, refl, sym, ap, ◌∙◌}
-use Rattle.std.proofs.Common.{subst, inl, inr, arith, eqb, ltb}
+use Rattle.std.proofs.Common.{◌≡◌, ℕ, zero, suc, Result, ◌<◌, ◌≤◌, ◌^◌, true, false, Option, Some, None, Ok, Err, List}
+use Rattle.std.proofs.Common.{[], ◌∷◌, length, refl, sym, ap, ◌∙◌, subst, inl, inr, arith, eqb, ltb}
 use Rattle.std.specs.Prelude.{IfSome}
 use Rattle.std.specs.Result.{result_ok}
 use Rattle.std.specs.Str.{IsAscii, IsUtf8}
@@ -24,14 +24,16 @@ digits-listed (c ∷ ds) h = (let one : is_ascii_digit c ≡ true = digit-byte c
 
 listed-digits : (ds : List ℕ) → list_all is_ascii_digit ds ≡ true → AllDigits 10 ds
 listed-digits [] h = tt
-listed-digits (c ∷ ds) h = (let p = and_parts (is_ascii_digit c) (list_all is_ascii_digit ds) h in (byte-digit c p.0, listed-digits ds p.1))
+listed-digits (c ∷ ds) h =
+    (let p = and_parts (is_ascii_digit c) (list_all is_ascii_digit ds) h in (byte-digit c p.0, listed-digits ds p.1))
 
 not-plus : (c : ℕ) → is_ascii_digit c ≡ true → eqb c 43 ≡ false
 not-plus c h = grind (arith, nat_tests)
 
 no-plus : (ds : List ℕ) → list_all is_ascii_digit ds ≡ true → without_leading_plus ds ≡ ds
 no-plus [] h = refl
-no-plus (c ∷ ds) h = (let plain : eqb c 43 ≡ false = not-plus c (and_parts (is_ascii_digit c) (list_all is_ascii_digit ds) h).0 in rw plain refl)
+no-plus (c ∷ ds) h = (let plain : eqb c 43
+    ≡ false = not-plus c (and_parts (is_ascii_digit c) (list_all is_ascii_digit ds) h).0 in rw plain refl)
 
 some-test : (n : ℕ) → 0 < n → ltb 0 n ≡ true
 some-test n h = grind (arith, nat_tests)
@@ -39,28 +41,36 @@ some-test n h = grind (arith, nat_tests)
 test-some : (n : ℕ) → ltb 0 n ≡ true → 0 < n
 test-some n h = grind (arith, nat_tests)
 
-pub numeral-digits : (ds : List ℕ) → 0 < length ds → list_all is_ascii_digit ds ≡ true → numeral ds ≡ Some (digits_value 10 ds)
+pub numeral-digits : (ds : List ℕ) → 0 < length ds → list_all is_ascii_digit ds ≡ true
+    → numeral ds ≡ Some (digits_value 10 ds)
 numeral-digits ds some all = (let t : ltb 0 (length ds) ≡ true = some-test (length ds) some in rw (t, all) refl)
 
-pub parsed : (E : Type 0) (ds : List ℕ) (n : ℕ) → list_all is_ascii_digit ds ≡ true → ParsesUnsigned {E = E} 64 10 ds (Ok n) → numeral ds ≡ Some n
+pub parsed : (E : Type 0) (ds : List ℕ) (n : ℕ) → list_all is_ascii_digit ds ≡ true
+    → ParsesUnsigned {E = E} 64 10 ds (Ok n) → numeral ds ≡ Some n
 parsed E ds n all h =
     let plain = no-plus ds all in
-    numeral-digits ds (subst (λ (t : List ℕ). 0 < length t) plain h.0.0.0) all ∙ ap (λ (t : List ℕ). Some (digits_value 10 t)) (sym plain) ∙ ap Some (sym h.1)
+    numeral-digits ds (subst (λ (t : List ℕ). 0 < length t) plain h.0.0.0) all
+    ∙ ap (λ (t : List ℕ). Some (digits_value 10 t)) (sym plain) ∙ ap Some (sym h.1)
 
-pub not-parsed : (E : Type 0) (ds : List ℕ) (e : E) → list_all is_ascii_digit ds ≡ true → ParsesUnsigned {E = E} 64 10 ds (Err e) → Agrees (numeral ds) None
+pub not-parsed : (E : Type 0) (ds : List ℕ) (e : E) → list_all is_ascii_digit ds ≡ true
+    → ParsesUnsigned {E = E} 64 10 ds (Err e) → Agrees (numeral ds) None
 not-parsed E ds e all h = elim (cases_Bool (ltb 0 (length ds))) [
   | inl t ↦
       let plain = no-plus ds all in
       let some : 0 < length ds = test-some (length ds) t in
-      subst (λ (o : Option ℕ). IfSome o (λ n. 2 ^ 64 ≤ n)) (sym (numeral-digits ds some all)) (elim (cases_lt (digits_value 10 ds) (2 ^ 64)) [
-        | inl lt ↦ absurd (h (subst (λ (t : List ℕ). ((0 < length t) × AllDigits 10 t) × (digits_value 10 t < 2 ^ 64)) (sym plain)
+      subst (λ (o : Option ℕ). IfSome o (λ n. 2 ^ 64 ≤ n)) (sym (numeral-digits ds some all))
+      (elim (cases_lt (digits_value 10 ds) (2 ^ 64)) [
+        | inl lt ↦ absurd (h (subst (λ (t : List ℕ). ((0 < length t) × AllDigits 10 t) × (digits_value 10 t < 2 ^ 64))
+            (sym plain)
             ((some, listed-digits ds all), lt)))
         | inr ge ↦ ge
       ])
-  | inr t ↦ (let none : numeral ds ≡ None = rw t refl in subst (λ (o : Option ℕ). IfSome o (λ n. 2 ^ 64 ≤ n)) (sym none) tt)
+  | inr t ↦ (let none : numeral ds ≡ None = rw t refl in
+      subst (λ (o : Option ℕ). IfSome o (λ n. 2 ^ 64 ≤ n)) (sym none) tt)
 ]
 
-pub agrees-parsed : (E : Type 0) (ds : List ℕ) (r : Result ℕ E) → list_all is_ascii_digit ds ≡ true → ParsesUnsigned {E = E} 64 10 ds r
+pub agrees-parsed : (E : Type 0) (ds : List ℕ) (r : Result ℕ E) → list_all is_ascii_digit ds ≡ true
+    → ParsesUnsigned {E = E} 64 10 ds r
     → Agrees (numeral ds) (result_ok r)
 agrees-parsed E ds (Ok n) all h = parsed E ds n all h
 agrees-parsed E ds (Err e) all h = not-parsed E ds e all h

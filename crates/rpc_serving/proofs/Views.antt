@@ -14,29 +14,35 @@ module _ {S T : Type 0} (view : S → T) (steps : T → Option Json → List ℕ
   abbrev pub Seen : S → Option Json → List ℕ → Json → Reply → S → Type 0
   Seen old id method params reply new = steps (view old) id method params reply (view new)
 
-  steps_by : (id method : Option Json) (params : Json) (old new : S) (reply : Reply) → StepsBy Seen id method params old reply new
+  steps_by : (id method : Option Json) (params : Json) (old new : S) (reply : Reply)
+      → StepsBy Seen id method params old reply new
       → StepsBy steps id method params (view old) reply (view new)
   steps_by (Some id) (Some method) params old new reply step = step
   steps_by (Some id) None params old new reply step = (step.0, ap view step.1)
   steps_by None (Some method) params old new reply step = step
   steps_by None None params old new reply step = (step.0, ap view step.1)
 
-  takes_of : (body : List ℕ) (old new : S) (reply : Reply) → Takes Seen body old reply new → Takes steps body (view old) reply (view new)
+  takes_of : (body : List ℕ) (old new : S) (reply : Reply) → Takes Seen body old reply new
+      → Takes steps body (view old) reply (view new)
   takes_of body old new reply (inl none) = inl (none.0, none.1, ap view none.2)
   takes_of body old new reply (inr some) = inr (some.0, some.1, steps_by _ _ _ old new reply some.2)
 
-  exchange_of : {first last : S} {bytes said rest : List ℕ} {status : Option ℕ} → Exchange (Takes Seen) first bytes said rest status last
+  exchange_of : {first last : S} {bytes said rest : List ℕ} {status : Option ℕ}
+      → Exchange (Takes Seen) first bytes said rest status last
       → Exchange (Takes steps) (view first) bytes said rest status (view last)
   exchange_of (waits none) = waits none
   exchange_of (replied asked reply begins asks replies goes_on takes more) =
       replied asked reply begins asks replies goes_on (takes_of _ _ _ reply takes) (exchange_of more)
-  exchange_of (ended asked reply status begins ends asks replies is takes) = ended asked reply status begins ends asks replies is (takes_of _ _ _ reply takes)
+  exchange_of (ended asked reply status begins ends asks replies is takes) =
+      ended asked reply status begins ends asks replies is (takes_of _ _ _ reply takes)
   exchange_of (passed_over never more) = passed_over never (exchange_of more)
 
   module _ (first last : S) (seen : T) (read_old read_new write_old write_new : Account) (is : view first ≡ seen) where
-    from : (last' : S) (input output left : List ℕ) (asked : Option ℕ) → Exchange (Takes Seen) first input output left asked last'
+    from : (last' : S) (input output left : List ℕ) (asked : Option ℕ)
+        → Exchange (Takes Seen) first input output left asked last'
         → Exchange (Takes steps) seen input output left asked (view last')
-    from last' input output left asked e = subst (λ (t : T). Exchange (Takes steps) t input output left asked (view last')) is (exchange_of e)
+    from last' input output left asked e =
+        subst (λ (t : T). Exchange (Takes steps) t input output left asked (view last')) is (exchange_of e)
 
     -- the same of a whole run
     pub served_of : (status : ℕ) → IsServed (Takes Seen) first last status read_old read_new write_old write_new

@@ -1,6 +1,6 @@
 -- The frame that is written, as the grammar reads it.
-use Rattle.std.proofs.Common.{◌≡◌, ℕ, ◌+◌, ◌≤◌, ◌^◌, true, false, Some, List, [], ◌∷◌, ◌++◌, length, reverse, refl, ap, ◌∙◌, arith, get_or, append_assoc}
-use Rattle.std.proofs.Common.{length-append}
+use Rattle.std.proofs.Common.{◌≡◌, ℕ, ◌+◌, ◌≤◌, ◌^◌, true, false, Some, List, [], ◌∷◌, ◌++◌, length, reverse, refl, ap}
+use Rattle.std.proofs.Common.{◌∙◌, arith, get_or, append_assoc, length-append}
 use Rattle.std.specs.Prelude.{codes, decimal}
 use Rattle.std.specs.Char.{is_ascii_digit}
 use Rattle.std.specs.List.{AllPass, list_all}
@@ -30,7 +30,8 @@ name-token = refl
 abbrev line : ℕ → Field
 line n = record { name = codes "Content-Length"; raw = 32 ∷ decimal n; end = crlf }
 
-tail : (ds body : List ℕ) → (ds ++ 13 ∷ 10 ∷ 13 ∷ 10 ∷ []) ++ body ≡ (((ds ++ 13 ∷ 10 ∷ []) ++ []) ++ 13 ∷ 10 ∷ []) ++ body
+tail : (ds body : List ℕ)
+    → (ds ++ 13 ∷ 10 ∷ 13 ∷ 10 ∷ []) ++ body ≡ (((ds ++ 13 ∷ 10 ∷ []) ++ []) ++ 13 ∷ 10 ∷ []) ++ body
 tail ds body = simp append_assoc
 
 tail-length : (ds : List ℕ) → length (((ds ++ 13 ∷ 10 ∷ []) ++ []) ++ 13 ∷ 10 ∷ []) ≡ length ds + 4
@@ -44,7 +45,8 @@ written frame body small is =
     let pass : AllPass is_ascii_digit (decimal n) = AllPass-from_list_all is_ascii_digit (decimal n) listed in
     let trimmed : trim_ows (32 ∷ decimal n) ≡ decimal n = trim_ows_space (decimal n) (skip-digits (decimal n) pass)
     (skip-digits (reverse (decimal n)) (AllPass-reverse is_ascii_digit (decimal n) pass)) in
-    let stated : numeral (trim_ows (32 ∷ decimal n)) ≡ Some n = ap numeral trimmed ∙ numeral-digits (decimal n) numeral-n.0.0 listed ∙ ap Some numeral-n.1 in
+    let stated : numeral (trim_ows (32 ∷ decimal n)) ≡ Some n =
+    ap numeral trimmed ∙ numeral-digits (decimal n) numeral-n.0.0 listed ∙ ap Some numeral-n.1 in
     let short : length (decimal n) ≤ 10 = length-decimal-le 10 n (omega arith) (omega arith) (omega arith) in
     let value : AllPass is_value_byte (decimal n) = λ k d lt. digit-value (get_or (decimal n) k d) (pass k d lt) in
     record {

@@ -23,10 +23,12 @@ status_of (Notice body) = None
 status_of (Request body) = None
 status_of (Exit status) = Some status
 
--- A service in some state, the bytes that came, what is said for them, the bytes that are left, the exit status where a message ended the
--- conversation, and the service in the state that it is left in. Each message, in order, is taken by the service in the state that the one before left,
--- and has the reply that the service says: this is an answer exactly where one is needed. Only the notification `exit` ends the conversation.
-pub data Exchange {S : Type 0} (takes : List ℕ → S → Reply → S → Type 0) : S → List ℕ → List ℕ → List ℕ → Option ℕ → S → Type 0 where
+-- A service in some state, the bytes that came, what is said for them, the bytes that are left, the exit status where a
+-- message ended the conversation, and the service in the state that it is left in. Each message, in order, is taken by
+-- the service in the state that the one before left, and has the reply that the service says: this is an answer exactly
+-- where one is needed. Only the notification `exit` ends the conversation.
+pub data Exchange {S : Type 0} (takes : List ℕ → S → Reply → S → Type 0) : S → List ℕ → List ℕ → List ℕ → Option ℕ
+    → S → Type 0 where
   -- no message has come as a whole
   waits :
       {service : S} {bytes : List ℕ}

@@ -47,7 +47,8 @@ NeverHasFrame bytes = (more : List ℕ) → HasNoFrame (bytes ++ more)
 abbrev pub AreGarbage : List ℕ → ℕ → Type 0
 AreGarbage bytes count = (k : ℕ) → k < count → NeverHasFrame (drop k bytes)
 
--- The first bytes are left out, at least one where there is one. With none of the others that are left out begins a frame.
+-- The first bytes are left out, at least one where there is one. With none of the others that are left out begins a
+-- frame.
 pub record IsSkipped (old new : List ℕ) : Type 0 where
   pub count : ℕ
   pub some : 0 < count

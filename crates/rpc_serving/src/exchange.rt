@@ -15,7 +15,8 @@ pub struct Turn {
     pub status: Option<u8>,
 }
 
-// Adds what is said for a reply, which is one frame or nothing, and gives the exit status where it ends the conversation.
+// Adds what is said for a reply, which is one frame or nothing, and gives the exit status where it ends the
+// conversation.
 fn say(alloc: Global, said: &mut Vec<u8>, reply: &Reply) -> Result<Option<u8>, AllocError>
     ensures said { OnOk result (said.new.items ≡ said.old.items ++ said_for reply.now) }
     ensures status { IfOk result (λ status. status ≡ status_of reply.now) }
@@ -40,14 +41,15 @@ fn was_refused(error: FrameError) -> bool
     }
 }
 
-/// Replies to each message that has come as a whole, in their order, up to the notification `exit`, if the service ends the conversation there. Bytes
-/// with which no frame can begin are passed over. It fails only where memory is refused.
+/// Replies to each message that has come as a whole, in their order, up to the notification `exit`, if the service ends
+/// the conversation there. Bytes with which no frame can begin are passed over. It fails only where memory is refused.
 pub fn take_turn<S: Service>(
     alloc: Global,
     service: &mut S,
     frames: &mut FrameBuffer,
 ) -> Result<Turn, AllocError>
-    ensures { IfOk result (λ turn. Exchange (Takes S.steps) service.old frames.old turn.said.items frames.new turn.status service.new) }
+    ensures { IfOk result (λ turn. Exchange (Takes S.steps) service.old frames.old turn.said.items frames.new
+        turn.status service.new) }
 {
     let mut said = Vec::new(alloc);
     loop {

@@ -1,10 +1,13 @@
-// The frames in which the Language Server Protocol sends its messages: a head of fields as in HTTP, of which `Content-Length` gives the length of the
-// body in bytes, and the body. A `FrameBuffer` is given bytes as they come, in pieces of any length, and gives the bodies.
-ghost use Rattle.std.specs.Prelude.{◌≡◌, ◌≢◌, ◌<◌, ◌≤◌, ◌^◌, ◌==◌, ◌++◌, [], length, map, All, IfOk, IfErr, IfSome, IfNone, OnOk, OnErr};
+// The frames in which the Language Server Protocol sends its messages: a head of fields as in HTTP, of which
+// `Content-Length` gives the length of the body in bytes, and the body. A `FrameBuffer` is given bytes as they come, in
+// pieces of any length, and gives the bodies.
+ghost use Rattle.std.specs.Prelude.{◌≡◌, ◌≢◌, ◌<◌, ◌≤◌, ◌^◌, ◌==◌, ◌++◌, [], length, map, All, IfOk, IfErr, IfSome};
+ghost use Rattle.std.specs.Prelude.{IfNone, OnOk, OnErr};
 ghost use Rattle.std.specs.Char.{is_ascii_digit};
 ghost use Rattle.std.specs.List.{list_all};
 ghost use Rattle.httparse.specs.Spans.{header_bytes, IsHeaderWithin};
-ghost use Rattle.rpc_serving.specs.Frames.{Agrees, BeginsWithFrame, HasNoFrame, IsBodyAt, IsFrame, IsHeadAt, IsSkipped, IsWanted, NeverHasFrame, frame_of, is_length_name, length_in, numeral};
+ghost use Rattle.rpc_serving.specs.Frames.{Agrees, BeginsWithFrame, HasNoFrame, IsBodyAt, IsFrame, IsHeadAt, IsSkipped};
+ghost use Rattle.rpc_serving.specs.Frames.{IsWanted, NeverHasFrame, frame_of, is_length_name, length_in, numeral};
 ghost use Rattle.rpc_serving.specs.declared.frames.FrameError.TheVariants.{Memory};
 
 use crate::garbage::garbage_len;
@@ -16,7 +19,8 @@ use std::marker::Model;
 /// Why no body is given.
 #[derive(Clone, Copy)]
 pub enum FrameError {
-    /// The head is no section of fields, has more than 16 of them, or its first `Content-Length` is missing or no decimal number.
+    /// The head is no section of fields, has more than 16 of them, or its first `Content-Length` is missing or no
+    /// decimal number.
     Malformed,
     /// The head doesn't end within 4096 bytes.
     TooLong,
@@ -73,7 +77,8 @@ impl FrameBuffer {
         self.bytes.extend_from_slice(bytes)
     }
 
-    /// The body of the next frame, which leaves the buffer; `None` when more bytes are needed. After an error the buffer is as it was.
+    /// The body of the next frame, which leaves the buffer; `None` when more bytes are needed. After an error the
+    /// buffer is as it was.
     pub fn next_body(&mut self, alloc: Global) -> Result<Option<Vec<u8>>, FrameError>
         ensures found { IfOk result (λ next. IfSome next (λ body. BeginsWithFrame self.old body.items self.new)) }
         ensures none { IfOk result (λ next. IfNone next (HasNoFrame self.old)) }
@@ -93,8 +98,8 @@ impl FrameBuffer {
         }
     }
 
-    /// How many bytes to read next, at least one and at most 2 ^ 16: the rest of the first frame where its head is there, else about as many as a head
-    /// has. So one read brings no more than one long message.
+    /// How many bytes to read next, at least one and at most 2 ^ 16: the rest of the first frame where its head is
+    /// there, else about as many as a head has. So one read brings no more than one long message.
     pub fn wanted(&self) -> usize
         ensures { IsWanted result }
     {
@@ -104,8 +109,8 @@ impl FrameBuffer {
         }
     }
 
-    /// Leaves out the first bytes, at least one where there is one: after an error a frame may begin behind them. No frame begins with those after the
-    /// first. It fails only where memory is refused.
+    /// Leaves out the first bytes, at least one where there is one: after an error a frame may begin behind them. No
+    /// frame begins with those after the first. It fails only where memory is refused.
     pub fn skip(&mut self, alloc: Global) -> Result<(), AllocError>
         ensures { OnOk result (IsSkipped self.old self.new) }
     {

@@ -27,7 +27,8 @@ fn name_len(bytes: &[u8]) -> usize
     bytes.len()
 }
 
-// How many bytes at the front begin no frame by the name of its first field: there is no colon after it, or not within the length of a head.
+// How many bytes at the front begin no frame by the name of its first field: there is no colon after it, or not within
+// the length of a head.
 fn nameless_len(bytes: &[u8]) -> usize
     ensures within { result ≤ length bytes.now }
     ensures garbage { AreGarbage bytes.now result }

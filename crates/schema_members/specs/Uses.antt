@@ -10,10 +10,14 @@ pub record IsIdentifier (text : List ℕ) (leaf : Place) : Type 0 where
   pub identifier : is_kind IDENT (kind_at leaf) ≡ true
   pub same : text_at leaf ≡ text
 
--- the member that a leaf defines by its name: the leaf is in a node NAME in the definition, or in the value that this has
+-- the member that a leaf defines by its name: the leaf is in a node NAME in the definition, or in the value that this
+-- has
 abbrev pub defined_by : ℕ → Place → Option Located
-defined_by document leaf = option_map (λ node. (document, node)) (option_and_then defined_in (option_and_then parent_place (parent_place leaf)))
+defined_by document leaf =
+    option_map (λ node. (document, node))
+    (option_and_then defined_in (option_and_then parent_place (parent_place leaf)))
 
 -- what is defined is found, and else at most something with this name
 abbrev pub IsDefinedOrNamed : Option Located → List ℕ → Option Located → Type 0
-IsDefinedOrNamed defined text found = MatchOption defined (IfSome found (λ member. name_at member.1 ≡ text)) (λ member. found ≡ Some member)
+IsDefinedOrNamed defined text found =
+    MatchOption defined (IfSome found (λ member. name_at member.1 ≡ text)) (λ member. found ≡ Some member)

@@ -1,21 +1,24 @@
 // The definitions of some documents.
 ghost use Rattle.std.specs.Prelude.{◌≡◌, ◌++◌, IfOk, OnOk, map, option_map};
 ghost use Rattle.apollo_tree.specs.References.{node_place};
-ghost use Rattle.schema_members.specs.Members.{located, located_in, members_in, members_of_block, name_at, name_node, name_start};
+ghost use Rattle.schema_members.specs.Members.{located, located_in, members_in, members_of_block, name_at, name_node};
+ghost use Rattle.schema_members.specs.Members.{name_start};
 
 use crate::standard::{EACH_TYPE, QUERY_ROOT};
 use apollo_cst_core::{child_of, is_one_of};
 use apollo_tree::{SyntaxKind, SyntaxNode};
 use std::alloc::{AllocError, Global};
 
-/// The roots of the trees of some documents, in which types and directives are looked for. The first that defines a name counts. Where one of them is the
-/// tree of `STANDARD`, the types, directives and meta-fields of the standard are found too.
+/// The roots of the trees of some documents, in which types and directives are looked for. The first that defines a
+/// name counts. Where one of them is the tree of `STANDARD`, the types, directives and meta-fields of the standard are
+/// found too.
 #[derive(Clone, Copy)]
 pub struct Schema<'s, 't> {
     pub roots: &'s [SyntaxNode<'t>],
 }
 
-/// A field, an argument, an input field, a value or a directive, where it is defined, and the index of the root that this is below.
+/// A field, an argument, an input field, a value or a directive, where it is defined, and the index of the root that
+/// this is below.
 #[derive(Clone, Copy)]
 pub struct Member<'t> {
     pub document: usize,
@@ -91,7 +94,8 @@ impl<'t> Member<'t> {
 
     /// The arguments of a field or a directive, in their order. It fails only where memory is refused.
     pub fn arguments(self, alloc: Global) -> Result<Vec<Member<'t>>, AllocError>
-        ensures { IfOk result (λ found. map located found.items ≡ located_in self.entry.document (members_in (node_place self.entry.node))) }
+        ensures { IfOk result (λ found. map located found.items
+            ≡ located_in self.entry.document (members_in (node_place self.entry.node))) }
     {
         let mut found = Vec::new(alloc);
         push_members(self, &mut found)?;
@@ -155,7 +159,8 @@ pub(crate) fn push_members<'t>(
     found: &mut Vec<Member<'t>>,
 ) -> Result<(), AllocError>
     ensures { OnOk result (map located found.new.items
-        ≡ map located found.old.items ++ located_in definition.entry.document (members_in (node_place definition.entry.node))) }
+        ≡ map located found.old.items
+        ++ located_in definition.entry.document (members_in (node_place definition.entry.node))) }
 {
     for block in definition.node.children() {
         push_block(definition.document, block, found)?;
@@ -266,7 +271,8 @@ impl<'t> Schema<'_, 't> {
         Ok(found.as_slice().first().copied())
     }
 
-    /// The name of the type in which an operation begins: `query`, `mutation` or `subscription` (GraphQL, October 2021, section 3.3.1).
+    /// The name of the type in which an operation begins: `query`, `mutation` or `subscription` (GraphQL, October 2021,
+    /// section 3.3.1).
     pub(crate) fn root_type(self, operation: &str) -> &'t str {
         for root in self.roots {
             if let Some(name) = root_type_of(*root, operation) {

@@ -5,7 +5,8 @@ ghost use Rattle.apollo_tree.specs.Children.{child_nodes};
 ghost use Rattle.apollo_tree.specs.Order.{parent_place, text_at};
 ghost use Rattle.apollo_tree.specs.References.{node_place, token_place};
 ghost use Rattle.std.specs.Prelude.{bytes_eq};
-ghost use Rattle.schema_members.specs.Locations.{AreDirectivesAt, IsLocation, directive_owner, directives_in, input_location, may_be_at, operation_location};
+ghost use Rattle.schema_members.specs.Locations.{AreDirectivesAt, IsLocation, directive_owner, directives_in};
+ghost use Rattle.schema_members.specs.Locations.{input_location, may_be_at, operation_location};
 ghost use Rattle.schema_members.specs.Members.{in_documents, located, located_in};
 
 use crate::definitions::{Member, Schema};
@@ -13,7 +14,8 @@ use crate::places::operation_word;
 use apollo_tree::{SyntaxKind, SyntaxNode, SyntaxToken};
 use std::alloc::{AllocError, Global};
 
-// The locations of nodes that may have directives, by their kinds (GraphQL, October 2021, section 3.13), but for operations and input values.
+// The locations of nodes that may have directives, by their kinds (GraphQL, October 2021, section 3.13), but for
+// operations and input values.
 const LOCATIONS: [(SyntaxKind, &str); 21] = [
     (SyntaxKind::FIELD, "FIELD"),
     (SyntaxKind::FRAGMENT_DEFINITION, "FRAGMENT_DEFINITION"),
@@ -131,7 +133,8 @@ fn all_directives<'t>(
     schema: Schema<'_, 't>,
     location: &str,
 ) -> Result<Vec<Member<'t>>, AllocError>
-    ensures { IfOk result (λ found. map located found.items ≡ in_documents (directives_in location.now) 0 schema.entry.roots.now) }
+    ensures { IfOk result (λ found. map located found.items
+        ≡ in_documents (directives_in location.now) 0 schema.entry.roots.now) }
 {
     let mut found = Vec::new(alloc);
     for (document, root) in schema.roots.iter().enumerate() {
@@ -152,14 +155,15 @@ fn owner_of<'p>(leaf: SyntaxToken<'p>) -> Option<SyntaxNode<'p>>
     }
 }
 
-/// The directives that may be at the place of a directive's name, a leaf of any tree, in the order of the documents. There are none at another place. It
-/// fails only where memory is refused.
+/// The directives that may be at the place of a directive's name, a leaf of any tree, in the order of the documents.
+/// There are none at another place. It fails only where memory is refused.
 pub fn directives_at<'t>(
     alloc: Global,
     schema: Schema<'_, 't>,
     leaf: SyntaxToken<'_>,
 ) -> Result<Vec<Member<'t>>, AllocError>
-    ensures { IfOk result (λ found. AreDirectivesAt schema.entry.roots.now (token_place leaf.entry) (map located found.items)) }
+    ensures { IfOk result (λ found. AreDirectivesAt schema.entry.roots.now (token_place leaf.entry)
+        (map located found.items)) }
 {
     match owner_of(leaf) {
         Some(owner) => {

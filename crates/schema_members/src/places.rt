@@ -186,9 +186,10 @@ pub(crate) fn operation_word<'p>(operation: SyntaxNode<'p>) -> &'p str
     }
 }
 
-/// The members that may be at the place of a name, a leaf of any tree: the fields of the type that it selects from, the arguments of its field or its
-/// directive, the fields of its input object, or the values of its enum. They are in the order of the documents. There are none at another place, or where
-/// the documents lack a type. It fails only where memory is refused.
+/// The members that may be at the place of a name, a leaf of any tree: the fields of the type that it selects from, the
+/// arguments of its field or its directive, the fields of its input object, or the values of its enum. They are in the
+/// order of the documents. There are none at another place, or where the documents lack a type. It fails only where
+/// memory is refused.
 pub fn members_at<'t>(
     alloc: Global,
     schema: Schema<'_, 't>,
@@ -209,7 +210,8 @@ pub fn member_at<'t>(
     schema: Schema<'_, 't>,
     leaf: SyntaxToken<'_>,
 ) -> Result<Option<Member<'t>>, AllocError>
-    ensures { IfOk result (λ found. IfSome found (λ member. name_at (node_place member.node) ≡ text_at (token_place leaf.entry))) }
+    ensures { IfOk result (λ found. IfSome found
+        (λ member. name_at (node_place member.node) ≡ text_at (token_place leaf.entry))) }
 {
     let members = members_at(alloc, schema, leaf)?;
     Ok(named(members.as_slice(), leaf.text()))
@@ -220,7 +222,8 @@ pub fn member_at<'t>(
 pub struct Call<'t> {
     /// Its definition.
     pub definition: Member<'t>,
-    /// The index of the argument at the place: the one whose value is there, or else the first that isn't given yet; or how many there are.
+    /// The index of the argument at the place: the one whose value is there, or else the first that isn't given yet; or
+    /// how many there are.
     pub active: usize,
 }
 
@@ -263,14 +266,15 @@ fn active_in(parameters: &[Member<'_>], arguments: SyntaxNode<'_>, leaf: SyntaxT
     parameters.len()
 }
 
-/// The field or the directive whose arguments a leaf of any tree is in. `None` at another place, or where the documents lack a definition. It fails only
-/// where memory is refused.
+/// The field or the directive whose arguments a leaf of any tree is in. `None` at another place, or where the documents
+/// lack a definition. It fails only where memory is refused.
 pub fn call_at<'t>(
     alloc: Global,
     schema: Schema<'_, 't>,
     leaf: SyntaxToken<'_>,
 ) -> Result<Option<Call<'t>>, AllocError>
-    ensures { IfOk result (λ found. IfSome found (λ call. call.active ≤ length (members_in (node_place call.definition.node)))) }
+    ensures { IfOk result (λ found. IfSome found
+        (λ call. call.active ≤ length (members_in (node_place call.definition.node)))) }
 {
     let Some(arguments) = around(leaf, SyntaxKind::ARGUMENTS) else {
         return Ok(None);

@@ -1,7 +1,8 @@
 // What each schema has by the standard.
 
-/// A document with the types, the directives and the meta-fields of GraphQL, October 2021, that need no definition (sections 3.5, 3.13, 4.1 and 4.2). The
-/// standard gives the meta-fields no type to be in: here they are in extensions of two types that no schema may have.
+/// A document with the types, the directives and the meta-fields of GraphQL, October 2021, that need no definition
+/// (sections 3.5, 3.13, 4.1 and 4.2). The standard gives the meta-fields no type to be in: here they are in extensions
+/// of two types that no schema may have.
 pub const STANDARD: &str = r#""`true` or `false`."
 scalar Boolean
 "A finite number of double precision, by IEEE 754."
@@ -70,7 +71,8 @@ type __Directive {
 }
 enum __DirectiveLocation {
   QUERY MUTATION SUBSCRIPTION FIELD FRAGMENT_DEFINITION FRAGMENT_SPREAD INLINE_FRAGMENT VARIABLE_DEFINITION
-  SCHEMA SCALAR OBJECT FIELD_DEFINITION ARGUMENT_DEFINITION INTERFACE UNION ENUM ENUM_VALUE INPUT_OBJECT INPUT_FIELD_DEFINITION
+  SCHEMA SCALAR OBJECT FIELD_DEFINITION ARGUMENT_DEFINITION INTERFACE UNION ENUM ENUM_VALUE INPUT_OBJECT
+      INPUT_FIELD_DEFINITION
 }
 "#;
 

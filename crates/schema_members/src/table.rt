@@ -21,8 +21,8 @@ struct Owned<'t> {
     member: Member<'t>,
 }
 
-/// The types and the directives of a schema by their names, those of one name in the order of the documents; and the members of each definition by
-/// their names.
+/// The types and the directives of a schema by their names, those of one name in the order of the documents; and the
+/// members of each definition by their names.
 #[derive(Drop)]
 pub(crate) struct Table<'t> {
     definitions: Vec<Named<'t>>,
@@ -136,7 +136,8 @@ impl<'t> Table<'t> {
         rest.get(..count).unwrap_or_default()
     }
 
-    /// The member of a definition that has a name: the field or the value of a type, the argument of a field or a directive.
+    /// The member of a definition that has a name: the field or the value of a type, the argument of a field or a
+    /// directive.
     pub(crate) fn member_in(&self, definition: Member<'_>, name: &str) -> Option<Member<'t>> {
         let document = definition.document;
         let owner = definition.node.text_range().start();
@@ -169,7 +170,8 @@ impl<'t> Table<'t> {
         None
     }
 
-    /// The member of a type that has a name: an input field or a value, or a field that isn't one of the standard's for each type.
+    /// The member of a type that has a name: an input field or a value, or a field that isn't one of the standard's for
+    /// each type.
     pub(crate) fn member(&self, type_name: &str, name: &str) -> Option<Member<'t>> {
         for it in self.named(type_name) {
             if is_one_of(it.definition.node.kind(), &TYPES)

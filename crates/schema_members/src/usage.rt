@@ -5,7 +5,8 @@ ghost use Rattle.apollo_tree.specs.Above.{at_or_above};
 ghost use Rattle.apollo_tree.specs.Order.{text_at};
 ghost use Rattle.apollo_tree.specs.References.{node_place, token_place};
 ghost use Rattle.apollo_cst_core.specs.Kinds.{is_of_one};
-ghost use Rattle.schema_members.specs.Members.{defined_in, has_interface, has_interface_named, is_shared_in, located, name_at};
+ghost use Rattle.schema_members.specs.Members.{defined_in, has_interface, has_interface_named, is_shared_in, located};
+ghost use Rattle.schema_members.specs.Members.{name_at};
 ghost use Rattle.schema_members.specs.Uses.{IsDefinedOrNamed, IsIdentifier, defined_by};
 
 use crate::definitions::{Member, Schema, TYPES, name_in, type_in};
@@ -16,8 +17,8 @@ use apollo_cst_executable::Name;
 use apollo_tree::{SyntaxKind, SyntaxNode, SyntaxToken};
 use std::alloc::{AllocError, Global};
 
-// What the names in a part of a document mean, up to where the part ends: the name of the type that fields are selected from, the field or the directive
-// that arguments are for, and the name of the type of values.
+// What the names in a part of a document mean, up to where the part ends: the name of the type that fields are selected
+// from, the field or the directive that arguments are for, and the name of the type of values.
 #[derive(Clone, Copy)]
 struct Scope<'t> {
     end: usize,
@@ -148,14 +149,16 @@ fn innermost<'t>(scopes: &[Scope<'t>]) -> Scope<'t> {
     }
 }
 
-/// The member that an identifier in one of the documents defines, or else the one that it names. It fails only where memory is refused.
+/// The member that an identifier in one of the documents defines, or else the one that it names. It fails only where
+/// memory is refused.
 pub fn member_named<'t>(
     alloc: Global,
     schema: Schema<'_, 't>,
     document: usize,
     leaf: SyntaxToken<'t>,
 ) -> Result<Option<Member<'t>>, AllocError>
-    ensures { IfOk result (λ found. IsDefinedOrNamed (defined_by document (token_place leaf.entry)) (text_at (token_place leaf.entry)) (option_map located found)) }
+    ensures { IfOk result (λ found. IsDefinedOrNamed (defined_by document (token_place leaf.entry))
+        (text_at (token_place leaf.entry)) (option_map located found)) }
 {
     match defined_by(document, leaf) {
         Some(member) => Ok(Some(member)),
@@ -243,7 +246,8 @@ impl<'s, 't> Uses<'s, 't> {
         })
     }
 
-    /// Whether it is a field of an interface or of a type that implements one, or an argument of such a field: other types may have to have the same.
+    /// Whether it is a field of an interface or of a type that implements one, or an argument of such a field: other
+    /// types may have to have the same.
     pub fn is_shared(&self) -> bool
         ensures { result ≡ is_shared_in self.now.schema.roots.now (node_place self.now.member.node) }
     {
@@ -313,8 +317,8 @@ impl<'s, 't> Uses<'s, 't> {
         }
     }
 
-    /// The names that mean the member in the document with an index, in their order; also in its definition, if `with_definition` says so. It fails only
-    /// where memory is refused.
+    /// The names that mean the member in the document with an index, in their order; also in its definition, if
+    /// `with_definition` says so. It fails only where memory is refused.
     pub fn in_document(
         &self,
         alloc: Global,

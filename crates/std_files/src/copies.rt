@@ -86,8 +86,9 @@ impl<A: Allocator> Beside<A> {
         })
     }
 
-    /// Removes what a run that was cut off has left, where no other is at work: a copy that was not stored, before which nothing was written over the file;
-    /// and one that the file begins with, which has nothing that the file has not.
+    /// Removes what a run that was cut off has left, where no other is at work: a copy that was not stored, before
+    /// which nothing was written over the file; and one that the file begins with, which has nothing that the file has
+    /// not.
     pub fn clear<R: rt::Files + Alloc>(&self, runtime: &R, file: &mut File) -> io::Result<()> {
         remove(runtime, self.unstored.as_path())?;
         let copy = self.copy.as_path();

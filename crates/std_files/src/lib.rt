@@ -1,8 +1,10 @@
-//! The files of a runtime, as `gqlfmt` finds, reads and replaces them and `gqlcheck` and `gqlls` find and read them. They hand `StdFiles` to their `run`.
+//! The files of a runtime, as `gqlfmt` finds, reads and replaces them and `gqlcheck` and `gqlls` find and read them.
+//! They hand `StdFiles` to their `run`.
 //!
-//! A file is replaced by writing over it, so that it stays the same file, after a copy of its text is stored beside it under a hidden name. Where that
-//! fails, the old text is written back; the copy stays only where this fails too, where another program writes at the same time, or where the program is
-//! ended in between. The next run removes it if the file has all of it. A file that has changed since it was read is left as it is.
+//! A file is replaced by writing over it, so that it stays the same file, after a copy of its text is stored beside it
+//! under a hidden name. Where that fails, the old text is written back; the copy stays only where this fails too, where
+//! another program writes at the same time, or where the program is ended in between. The next run removes it if the
+//! file has all of it. A file that has changed since it was read is left as it is.
 #![tactic(auto)]
 
 ghost use Rattle.std.specs.Prelude.{◌≡◌, None};
@@ -82,8 +84,8 @@ impl<'a, R: rt::Files<File = File> + Alloc> StdFiles<'a, R> {
         )
     }
 
-    // Writes a text over a file's, of which there is a copy in the meantime. If it cannot, it writes the old one back. Where this fails too, or another
-    // program writes at the same time, the copy stays.
+    // Writes a text over a file's, of which there is a copy in the meantime. If it cannot, it writes the old one back.
+    // Where this fails too, or another program writes at the same time, the copy stays.
     fn write(&self, target: Path<'_>, text: &str) -> io::Result<()> {
         let mut file = open_writable(self.runtime, target)?;
         let is_alone = is_alone(&file)?;

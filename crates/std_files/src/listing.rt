@@ -18,7 +18,8 @@ fn kind_of(found: FileType) -> Kind {
     }
 }
 
-/// What is wrong with a name that is not UTF-8. Such a word of the command line has a zero byte at its end, which no path has.
+/// What is wrong with a name that is not UTF-8. Such a word of the command line has a zero byte at its end, which no
+/// path has.
 pub fn not_utf8() -> Error {
     Error::new(ErrorKind::InvalidFilename, "its name is not UTF-8")
 }

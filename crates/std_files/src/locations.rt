@@ -20,7 +20,8 @@ fn located_name<R: rt::Files, A: Allocator + Copy>(
     Ok(located)
 }
 
-/// The path of the file or folder at a path, from the root on and without symbolic links. Where nothing is there, it is the one of its name in its folder.
+/// The path of the file or folder at a path, from the root on and without symbolic links. Where nothing is there, it is
+/// the one of its name in its folder.
 pub fn located<R: rt::Files, A: Allocator + Copy>(
     runtime: &R,
     alloc: A,

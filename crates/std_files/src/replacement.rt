@@ -28,8 +28,8 @@ pub fn open_writable<R: rt::Files>(runtime: &R, target: Path<'_>) -> io::Result<
         .open(runtime, target)
 }
 
-/// Whether it is known that no other run is at work on a file: it is an error where one is. The lock ends with this run, however that ends. On a file
-/// system without locks nothing is known.
+/// Whether it is known that no other run is at work on a file: it is an error where one is. The lock ends with this
+/// run, however that ends. On a file system without locks nothing is known.
 pub fn is_alone(file: &File) -> io::Result<bool> {
     match file.try_lock() {
         Ok(()) => Ok(true),
@@ -41,7 +41,8 @@ pub fn is_alone(file: &File) -> io::Result<bool> {
     }
 }
 
-// Waits until a file is stored, with the permissions that it had: writing takes the set-user-ID and set-group-ID bits away.
+// Waits until a file is stored, with the permissions that it had: writing takes the set-user-ID and set-group-ID bits
+// away.
 fn store(file: &File, had: &Metadata) -> io::Result<()> {
     if file.metadata()?.permissions() != had.permissions() {
         file.set_permissions(had.permissions())?;
@@ -67,8 +68,8 @@ fn has(file: &mut File, text: &str) -> io::Result<bool> {
     Ok(false)
 }
 
-/// Writes a text over a file's, and waits until it is stored. It gives whether the file has it then: another program may write at the same time. A file that
-/// this shortens or lengthens before the end of the text is left so.
+/// Writes a text over a file's, and waits until it is stored. It gives whether the file has it then: another program
+/// may write at the same time. A file that this shortens or lengthens before the end of the text is left so.
 pub fn overwrite(file: &mut File, had: &Metadata, text: &str) -> io::Result<bool> {
     let size = text.len() as u64;
     file.rewind()?;

@@ -1,4 +1,5 @@
-// How answers are written. A function without `?` is proved in half the time, so only the end says whether memory was refused.
+// How answers are written. A function without `?` is proved in half the time, so only the end says whether memory was
+// refused.
 use std::alloc::{AllocError, Global};
 use std::fmt::{Debug, Display};
 

@@ -1,7 +1,9 @@
-//! Writes the answers of calls on tokens, lexers, errors, trees and typed nodes, and then tries the texts of the standard input: it prints those in which it
-//! finds something else than their records say. `stdout` has the right answers.
+//! Writes the answers of calls on tokens, lexers, errors, trees and typed nodes, and then tries the texts of the
+//! standard input: it prints those in which it finds something else than their records say. `stdout` has the right
+//! answers.
 //!
-//! It is a program since a test function takes several times as long to prove, and one program since each loads the parser anew.
+//! It is a program since a test function takes several times as long to prove, and one program since each loads the
+//! parser anew.
 #![tactic(auto)]
 
 mod answers;

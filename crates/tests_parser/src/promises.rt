@@ -22,13 +22,18 @@ pub fn parsed<A: Allocator + Copy>(
     alloc: A,
     source: &str,
 ) -> Result<SyntaxTree<DocumentRoot, A>, AllocError>
-    ensures only_derivation { IfOk result (λ t. t.errors ≡ [] → OnlyDerivation (items_of source.now) (bare (tree_of t.tree))) }
-    ensures not_late { IfOk result (λ t. OfFirst (λ e. ¬ IsTokenLimit e → NotLate document_sort source.now e.index) t.errors) }
+    ensures only_derivation { IfOk result
+        (λ t. t.errors ≡ [] → OnlyDerivation (items_of source.now) (bare (tree_of t.tree))) }
+    ensures not_late { IfOk result
+        (λ t. OfFirst (λ e. ¬ IsTokenLimit e → NotLate document_sort source.now e.index) t.errors) }
     ensures recovers { IfOk result (λ t. ¬ Any IsLimit t.errors → Recovers 500 (items_of source.now) t) }
     // without errors, each accessor finds at each node of the tree as many children as its row says
-    ensures reads_back { IfOk result (λ t. t.errors ≡ [] → (i : ℕ) → is_node_place (place t.tree i) ≡ true → All (ReadsAt (place t.tree i)) accessors) }
+    ensures reads_back { IfOk result
+        (λ t. t.errors ≡ [] → (i : ℕ) → is_node_place (place t.tree i) ≡ true
+        → All (ReadsAt (place t.tree i)) accessors) }
     // without errors, a derivation of the text is the tree
-    ensures one_tree { IfOk result (λ t. t.errors ≡ [] → (u : Tree) → Sentence source.now u document_sort → bare (tree_of t.tree) ≡ u) }
+    ensures one_tree { IfOk result
+        (λ t. t.errors ≡ [] → (u : Tree) → Sentence source.now u document_sort → bare (tree_of t.tree) ≡ u) }
 {
     reading_back();
     one_derivation();

@@ -1,6 +1,7 @@
-// Texts, each with its findings. A record is a line `== MODE [RECURSION [TOKENS [COUNT]]]`, the text, a line `--`, and the findings; `-` sets no limit. With
-// a count, the text is in five lines: its front, a piece that is repeated, the text inside, the piece that closes one, and its back. `finding` has the modes.
-// The findings are those of `apollo-parser` 0.8.7, with the descriptions of September 2025 added to its grammar.
+// Texts, each with its findings. A record is a line `== MODE [RECURSION [TOKENS [COUNT]]]`, the text, a line `--`, and
+// the findings; `-` sets no limit. With a count, the text is in five lines: its front, a piece that is repeated, the
+// text inside, the piece that closes one, and its back. `finding` has the modes. The findings are those of
+// `apollo-parser` 0.8.7, with the descriptions of September 2025 added to its grammar.
 mod finding;
 mod parts;
 mod record;

@@ -1,5 +1,6 @@
 -- Ignore files are read, one after the other.
-use Rattle.std.proofs.Common.{◌≡◌, inl, inr, ℕ, ◌++◌, [], ◌∷◌, List, Result, Ok, Err, refl, ap, sym, ◌∙◌, subst, append_assoc, append-nil}
+use Rattle.std.proofs.Common.{◌≡◌, inl, inr, ℕ, ◌++◌, [], ◌∷◌, List, Result, Ok, Err, refl, ap, sym, ◌∙◌, subst}
+use Rattle.std.proofs.Common.{append_assoc, append-nil}
 use Rattle.std.specs.IoError.{error_kind}
 use Rattle.std.specs.declared.io.Error.{Error}
 use Rattle.file_access.specs.Reading.{IsAbsent}
@@ -13,11 +14,13 @@ module _ {S : Type 0} (reads : S → List ℕ → Result (List ℕ) Error → S 
       → Adds reads (file ∷ []) rules rules' old new
   adds_one file path text rules rules' old new is read more =
       there (subst (λ (it : List ℕ). reads old it (Ok text) new) is read)
-      (subst (λ (these : List Rule). Adds reads [] (rules ++ rules_in file.folder text) these new new) (sym more) nothing)
+      (subst (λ (these : List Rule). Adds reads [] (rules ++ rules_in file.folder text) these new new)
+      (sym more) nothing)
 
   -- one that isn't there
   pub adds_none : (file : IgnoreFile) (path : List ℕ) (error : Error) (rules : List Rule) (old new : S)
-      → path ≡ path_of file → reads old path (Err error) new → IsAbsent error → Adds reads (file ∷ []) rules rules old new
+      → path ≡ path_of file → reads old path (Err error) new → IsAbsent error
+      → Adds reads (file ∷ []) rules rules old new
   adds_none file path error rules old new is read is_absent =
       absent (subst (λ (it : List ℕ). reads old it (Err error) new) is read) is_absent nothing
 
@@ -41,7 +44,8 @@ module _ {S : Type 0} (reads : S → List ℕ → Result (List ℕ) Error → S 
 
   -- one after the other
   pub adds_on : {files files' : List IgnoreFile} {rules rules' rules'' : List Rule} {old middle new : S}
-      → Adds reads files rules rules' old middle → Adds reads files' rules' rules'' middle new → Adds reads (files ++ files') rules rules'' old new
+      → Adds reads files rules rules' old middle → Adds reads files' rules' rules'' middle new
+      → Adds reads (files ++ files') rules rules'' old new
   adds_on nothing b = b
   adds_on (there read a) b = there read (adds_on a b)
   adds_on (absent read is_absent a) b = absent read is_absent (adds_on a b)
@@ -54,7 +58,8 @@ module _ {S : Type 0} (reads : S → List ℕ → Result (List ℕ) Error → S 
     before = files ++ b.before;
     file = b.file;
     after = b.after;
-    split = ap (λ (these : List IgnoreFile). files ++ these) b.split ∙ sym (append_assoc files b.before (b.file ∷ b.after));
+    split = ap (λ (these : List IgnoreFile). files ++ these) b.split
+        ∙ sym (append_assoc files b.before (b.file ∷ b.after));
     rules' = b.rules';
     middle = b.middle;
     adds = adds_on a b.adds;
@@ -93,19 +98,24 @@ module _ {S : Type 0} (reads : S → List ℕ → Result (List ℕ) Error → S 
   begins all rules state = record { done = []; split = refl; adds = nothing }
 
   pub goes_on : (all files left : List IgnoreFile) (rules rules' rules'' : List Rule) (old middle new : S)
-      → HasAdded all (files ++ left) rules rules' old middle → Adds reads files rules' rules'' middle new → HasAdded all left rules rules'' old new
+      → HasAdded all (files ++ left) rules rules' old middle → Adds reads files rules' rules'' middle new
+      → HasAdded all left rules rules'' old new
   goes_on all files left rules rules' rules'' old middle new a b = record {
     done = a.done ++ files;
     split = a.split ∙ sym (append_assoc a.done files left);
     adds = adds_on a.adds b;
   }
 
-  pub ends : (all : List IgnoreFile) (rules rules' : List Rule) (old new : S) → HasAdded all [] rules rules' old new → Adds reads all rules rules' old new
+  pub ends : (all : List IgnoreFile) (rules rules' : List Rule) (old new : S) → HasAdded all [] rules rules' old new
+      → Adds reads all rules rules' old new
   ends all rules rules' old new a =
-      subst (λ (files : List IgnoreFile). Adds reads files rules rules' old new) (sym (a.split ∙ append-nil a.done)) a.adds
+      subst (λ (files : List IgnoreFile). Adds reads files rules rules' old new)
+      (sym (a.split ∙ append-nil a.done)) a.adds
 
   pub fails : (all files left : List IgnoreFile) (rules rules' : List Rule) (old middle new : S) (error : Error)
-      → HasAdded all (files ++ left) rules rules' old middle → FailsToAdd reads files rules' middle new error → FailsToAdd reads all rules old new error
+      → HasAdded all (files ++ left) rules rules' old middle → FailsToAdd reads files rules' middle new error
+      → FailsToAdd reads all rules old new error
   fails all files left rules rules' old middle new error a b =
       subst (λ (these : List IgnoreFile). FailsToAdd reads these rules old new error) (sym a.split)
-      (fails_after a.done (files ++ left) rules rules' old middle new error a.adds (fails_before files left rules' middle new error b))
+      (fails_after a.done (files ++ left) rules rules' old middle new error a.adds
+      (fails_before files left rules' middle new error b))

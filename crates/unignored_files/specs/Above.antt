@@ -1,5 +1,6 @@
 -- The folders above a path whose ignore files count.
-use Rattle.std.specs.Prelude.{◌≡◌, ◌⊎◌, ◌++◌, ℕ, Bool, true, false, List, [], ◌∷◌, codes, map, reverse, string_bytes, Some, None, Result, Ok, Err}
+use Rattle.std.specs.Prelude.{◌≡◌, ◌⊎◌, ◌++◌, ℕ, Bool, true, false, List, [], ◌∷◌, codes, map, reverse, string_bytes}
+use Rattle.std.specs.Prelude.{Some, None, Result, Ok, Err}
 use Rattle.std.specs.Path.{path_join, path_parent}
 use Rattle.std.specs.IoError.{error_kind}
 use Rattle.std.specs.declared.io.Error.{Error}
@@ -27,14 +28,17 @@ folders_of above = reverse (map string_bytes above.folders.items)
 module _ {S : Type 0} (reads : S → List ℕ → Result (List ℕ) Error → S → Type 0) where
   -- whether a folder is the top of a repository is found out
   pub data Probes (folder : List ℕ) : Bool → S → S → Type 0 where
-    top : {given : Result (List ℕ) Error} {old new : S} → reads old (git_path folder) given new → IsThere given → Probes folder true old new
-    no_top : {error : Error} {old new : S} → reads old (git_path folder) (Err error) new → IsMissing error → Probes folder false old new
+    top : {given : Result (List ℕ) Error} {old new : S} → reads old (git_path folder) given new → IsThere given
+        → Probes folder true old new
+    no_top : {error : Error} {old new : S} → reads old (git_path folder) (Err error) new → IsMissing error
+        → Probes folder false old new
 
-  -- `Climbs path folders is_repository old new`: these are the folders above a path, from the top down. The top is the nearest folder that is one of a
-  -- repository, the path itself among them. Where there is none, it is the root.
+  -- `Climbs path folders is_repository old new`: these are the folders above a path, from the top down. The top is the
+  -- nearest folder that is one of a repository, the path itself among them. Where there is none, it is the root.
   pub data Climbs : List ℕ → List (List ℕ) → Bool → S → S → Type 0 where
     at_top : {path : List ℕ} {old new : S} → Probes path true old new → Climbs path [] true old new
-    at_root : {path : List ℕ} {old new : S} → Probes path false old new → path_parent path ≡ None → Climbs path [] false old new
+    at_root : {path : List ℕ} {old new : S} → Probes path false old new → path_parent path ≡ None
+        → Climbs path [] false old new
     up : {path folder : List ℕ} {folders : List (List ℕ)} {is_repository : Bool} {old middle new : S}
         → Probes path false old middle → path_parent path ≡ Some folder → Climbs folder folders is_repository middle new
         → Climbs path (folders ++ folder ∷ []) is_repository old new

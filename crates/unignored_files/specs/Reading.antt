@@ -16,7 +16,8 @@ pub record IgnoreFile : Type 0 where
 abbrev pub path_of : IgnoreFile → List ℕ
 path_of file = path_join file.folder file.name
 
--- The names of the ignore files that count in a folder, in the order in which they are read, with the one of git or without.
+-- The names of the ignore files that count in a folder, in the order in which they are read, with the one of git or
+-- without.
 abbrev pub names : Bool → List (List ℕ)
 names true = codes ".gitignore" ∷ codes ".prettierignore" ∷ codes ".gqlfmtignore" ∷ []
 names false = codes ".prettierignore" ∷ codes ".gqlfmtignore" ∷ []
@@ -38,13 +39,16 @@ IsMemory error = error_kind error ≡ OutOfMemory
 
 -- the files, as a trait tells what reading one does
 module _ {S : Type 0} (reads : S → List ℕ → Result (List ℕ) Error → S → Type 0) where
-  -- `Adds files rules rules' old new`: these ignore files are read, one after the other. After the rules before them come those of each that is there.
+  -- `Adds files rules rules' old new`: these ignore files are read, one after the other. After the rules before them
+  -- come those of each that is there.
   pub data Adds : List IgnoreFile → List Rule → List Rule → S → S → Type 0 where
     nothing : {rules : List Rule} {state : S} → Adds [] rules rules state state
-    there : {file : IgnoreFile} {files : List IgnoreFile} {text : List ℕ} {rules rules' : List Rule} {old middle new : S}
+    there : {file : IgnoreFile} {files : List IgnoreFile} {text : List ℕ}
+        {rules rules' : List Rule} {old middle new : S}
         → reads old (path_of file) (Ok text) middle → Adds files (rules ++ rules_in file.folder text) rules' middle new
         → Adds (file ∷ files) rules rules' old new
-    absent : {file : IgnoreFile} {files : List IgnoreFile} {error : Error} {rules rules' : List Rule} {old middle new : S}
+    absent : {file : IgnoreFile} {files : List IgnoreFile} {error : Error}
+        {rules rules' : List Rule} {old middle new : S}
         → reads old (path_of file) (Err error) middle → IsAbsent error → Adds files rules rules' middle new
         → Adds (file ∷ files) rules rules' old new
 

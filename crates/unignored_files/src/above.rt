@@ -45,7 +45,8 @@ pub fn climb<F: Files, A: Allocator + Copy>(
     files: &mut F,
     path: &str,
 ) -> io::Result<Above<A>>
-    ensures ok { IfOk result (λ above. Climbs F.reads path.now (folders_of above) above.is_repository files.old files.new) }
+    ensures ok { IfOk result
+        (λ above. Climbs F.reads path.now (folders_of above) above.is_repository files.old files.new) }
     ensures err { IfErr result IsMemory }
 {
     let mut folders = Vec::new(alloc);
@@ -75,8 +76,12 @@ pub fn add_above<F: Files, A: Allocator + Copy>(
     rules: &mut Rules<A>,
     mut above: Above<A>,
 ) -> io::Result<()>
-    ensures ok { OnOk result (Adds F.reads (files_of_all above.is_repository (folders_of above)) (as_rules rules.old) (as_rules rules.new) files.old files.new) }
-    ensures err { IfErr result (FailsToAdd F.reads (files_of_all above.is_repository (folders_of above)) (as_rules rules.old) files.old files.new) }
+    ensures ok { OnOk result
+        (Adds F.reads (files_of_all above.is_repository (folders_of above)) (as_rules rules.old) (as_rules rules.new)
+        files.old files.new) }
+    ensures err { IfErr result
+        (FailsToAdd F.reads (files_of_all above.is_repository (folders_of above)) (as_rules rules.old)
+        files.old files.new) }
 {
     while let Some(folder) = above.folders.pop() {
         add_folder(alloc, files, rules, folder.as_str(), above.is_repository)?;

@@ -36,8 +36,11 @@ fn add_file<F: Files, A: Allocator + Copy>(
     folder: &str,
     name: &str,
 ) -> io::Result<()>
-    ensures ok { OnOk result (Adds F.reads (file_at folder.now name.now ∷ []) (as_rules rules.old) (as_rules rules.new) files.old files.new) }
-    ensures err { IfErr result (FailsToAdd F.reads (file_at folder.now name.now ∷ []) (as_rules rules.old) files.old files.new) }
+    ensures ok { OnOk result
+        (Adds F.reads (file_at folder.now name.now ∷ []) (as_rules rules.old) (as_rules rules.new)
+        files.old files.new) }
+    ensures err { IfErr result
+        (FailsToAdd F.reads (file_at folder.now name.now ∷ []) (as_rules rules.old) files.old files.new) }
 {
     let path = Path::new(folder).join(alloc, name)?;
     match files.read(alloc, path.as_str()) {
@@ -59,8 +62,10 @@ fn add_others<F: Files, A: Allocator + Copy>(
     rules: &mut Rules<A>,
     folder: &str,
 ) -> io::Result<()>
-    ensures ok { OnOk result (Adds F.reads (files_of false folder.now) (as_rules rules.old) (as_rules rules.new) files.old files.new) }
-    ensures err { IfErr result (FailsToAdd F.reads (files_of false folder.now) (as_rules rules.old) files.old files.new) }
+    ensures ok { OnOk result
+        (Adds F.reads (files_of false folder.now) (as_rules rules.old) (as_rules rules.new) files.old files.new) }
+    ensures err { IfErr result
+        (FailsToAdd F.reads (files_of false folder.now) (as_rules rules.old) files.old files.new) }
 {
     add_file(alloc, files, rules, folder, PRETTIER)?;
     add_file(alloc, files, rules, folder, GQLFMT)
@@ -74,8 +79,10 @@ pub fn add_folder<F: Files, A: Allocator + Copy>(
     folder: &str,
     with_git: bool,
 ) -> io::Result<()>
-    ensures ok { OnOk result (Adds F.reads (files_of with_git folder.now) (as_rules rules.old) (as_rules rules.new) files.old files.new) }
-    ensures err { IfErr result (FailsToAdd F.reads (files_of with_git folder.now) (as_rules rules.old) files.old files.new) }
+    ensures ok { OnOk result
+        (Adds F.reads (files_of with_git folder.now) (as_rules rules.old) (as_rules rules.new) files.old files.new) }
+    ensures err { IfErr result
+        (FailsToAdd F.reads (files_of with_git folder.now) (as_rules rules.old) files.old files.new) }
 {
     if !with_git {
         return add_others(alloc, files, rules, folder);

@@ -40,7 +40,8 @@ pub fn sift<A: Allocator + Copy, B: Allocator + Copy>(
     folder: &str,
     entries: Vec<Entry<B>, B>,
 ) -> Result<Vec<Entry<B>, B>, AllocError>
-    ensures { IfOk result (λ kept. kept.items ≡ filter (λ entry. is_kept (as_rules rules.now) folder.now (as_entry entry)) entries.items) }
+    ensures { IfOk result (λ kept. kept.items
+        ≡ filter (λ entry. is_kept (as_rules rules.now) folder.now (as_entry entry)) entries.items) }
 {
     let mut kept = Vec::new(alloc);
     for entry in entries {

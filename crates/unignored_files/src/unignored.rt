@@ -12,8 +12,8 @@ use ignore_rules::Rules;
 use std::alloc::Allocator;
 use std::io::{self, ErrorKind};
 
-/// Files, but for those that ignore files leave out. `leaves_out` reads the ignore files above a path, and `list` those of a folder before it gives what is
-/// left of its entries. All else is as the files have it.
+/// Files, but for those that ignore files leave out. `leaves_out` reads the ignore files above a path, and `list` those
+/// of a folder before it gives what is left of its entries. All else is as the files have it.
 #[derive(Drop)]
 pub struct Unignored<F, A: Allocator> {
     alloc: A,
@@ -44,7 +44,8 @@ impl<F: Files, A: Allocator + Copy> Files for Unignored<F, A> {
 
     ghost locates = { λ old path given new. F.locates old.files path given new.files };
 
-    ghost omits = { λ old path answer new. IsLeftOut F.lists F.locates F.reads path answer (as_rules new.rules) old.files new.files };
+    ghost omits = { λ old path answer new. IsLeftOut F.lists F.locates F.reads path answer (as_rules new.rules)
+        old.files new.files };
 
     ghost replaces = { λ old path text is_done new. F.replaces old.files path text is_done new.files };
 
@@ -53,7 +54,8 @@ impl<F: Files, A: Allocator + Copy> Files for Unignored<F, A> {
         alloc: B,
         path: &str,
     ) -> io::Result<Option<Vec<Entry<B>, B>>>
-        ensures lists { Sifts F.lists F.locates F.reads path.now (as_rules self.old.rules) self.old.files (listing_of result) (as_rules self.new.rules) self.new.files }
+        ensures lists { Sifts F.lists F.locates F.reads path.now (as_rules self.old.rules) self.old.files
+            (listing_of result) (as_rules self.new.rules) self.new.files }
         ensures ordered { IfOk result (λ found. IfSome found (λ entries. AreInOrder entries.items)) }
     {
         let Some(entries) = self.files.list(alloc, path)? else {
@@ -89,7 +91,8 @@ impl<F: Files, A: Allocator + Copy> Files for Unignored<F, A> {
     }
 
     fn leaves_out<B: Allocator + Copy>(&mut self, alloc: B, path: &str) -> io::Result<bool>
-        ensures { IsLeftOut F.lists F.locates F.reads path.now result (as_rules self.new.rules) self.old.files self.new.files }
+        ensures { IsLeftOut F.lists F.locates F.reads path.now result (as_rules self.new.rules)
+            self.old.files self.new.files }
     {
         self.rules = Rules::new(self.alloc);
         let real = match self.files.locate(alloc, path) {

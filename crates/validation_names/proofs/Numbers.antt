@@ -24,7 +24,8 @@ pushed l n b le = grind (arith, nat_tests)
 no_more : {X : Type 0} (p : X → Bool) (xs : List X) → position_or_len p xs ≤ length xs
 no_more p xs = prefix_len-le-length (λ x. not (p x)) xs
 
-position_push : {X : Type 0} (p : X → Bool) (xs : List X) (y : X) → position p (xs ++ y ∷ []) ≡ option_or (position p xs) (cond (p y) (Some (length xs)) None)
+position_push : {X : Type 0} (p : X → Bool) (xs : List X) (y : X)
+    → position p (xs ++ y ∷ []) ≡ option_or (position p xs) (cond (p y) (Some (length xs)) None)
 position_push p xs y =
     let longer : length (xs ++ y ∷ []) ≡ length xs + 1 = length-append xs (y ∷ []) in
     rw (position_or_len_push p xs y, longer) (pushed (position_or_len p xs) (length xs) (p y) (no_more p xs))
@@ -38,8 +39,10 @@ or_last None x = refl
 or_last (Some y) x = refl
 
 -- one more that has no name
-pub unnamed_more : (entries : Entries ℕ) (names : List (Option Name)) → AreFirstNumbers entries names → AreFirstNumbers entries (names ++ None ∷ [])
-unnamed_more entries names are name = are name ∙ sym (position_push (has_name name) names None ∙ none_else (first_number names name))
+pub unnamed_more : (entries : Entries ℕ) (names : List (Option Name)) → AreFirstNumbers entries names
+    → AreFirstNumbers entries (names ++ None ∷ [])
+unnamed_more entries names are name =
+    are name ∙ sym (position_push (has_name name) names None ∙ none_else (first_number names name))
 
 -- one more with a name
 pub named_more :
@@ -58,7 +61,8 @@ named_more old new names name number are is enters q =
     entered false e = sym (none_else (first_number names q))
 
 -- ---- a first number among the first n
-none_at : {X : Type 0} (p : X → Bool) (xs : List X) (d : X) → position p xs ≡ None → (k : ℕ) → k < length xs → p (get_or xs k d) ≡ false
+none_at : {X : Type 0} (p : X → Bool) (xs : List X) (d : X) → position p xs ≡ None → (k : ℕ) → k < length xs
+    → p (get_or xs k d) ≡ false
 none_at p xs d none k below = fails_before_first p xs k d (at_end (ltb (position_or_len p xs) (length xs)) refl)
   where
     at_end : (b : Bool) → ltb (position_or_len p xs) (length xs) ≡ b → k < position_or_len p xs
@@ -99,5 +103,6 @@ none_in_front names n name le none k below =
     rw (get_or-take n names k None below) at (none_at (has_name name) (take n names) None none k (rw long below))
 
 -- the name at the first number is equal
-pub first_has_name : (names : List (Option Name)) (i : ℕ) (name : Name) → first_number names name ≡ Some i → has_name name (name_at names i) ≡ true
+pub first_has_name : (names : List (Option Name)) (i : ℕ) (name : Name) → first_number names name ≡ Some i
+    → has_name name (name_at names i) ≡ true
 first_has_name names i name is = (position-Some (has_name name) names i None is).1

@@ -2,7 +2,8 @@
 use Rattle.std.specs.Prelude.{List, map, if◌then◌else◌, Option, Some, None, option_map}
 use Rattle.std.specs.List.{filter_map}
 use denote.Ref.{Bor}
-use Rattle.document_grammar.specs.declared.kind.SyntaxKind.TheVariants.{FRAGMENT_NAME, FRAGMENT_DEFINITION, OPERATION_DEFINITION}
+use Rattle.document_grammar.specs.declared.kind.SyntaxKind.TheVariants.{FRAGMENT_NAME, FRAGMENT_DEFINITION}
+use Rattle.document_grammar.specs.declared.kind.SyntaxKind.TheVariants.{OPERATION_DEFINITION}
 use Rattle.document_grammar.specs.Numbers.{is_kind}
 use Rattle.apollo_tree.specs.Order.{Place, kind_at}
 use Rattle.apollo_tree.specs.Children.{child_nodes}
@@ -20,7 +21,11 @@ pub record Defined : Type 0 where
   pub name : Option Name
 
 abbrev pub as_defined : ExecutableDefinition → Defined
-as_defined d = record { kind = d.kind; place = node_place d.node; name = option_map (λ (n : Bor (List _)). n.now) d.name }
+as_defined d = record {
+  kind = d.kind;
+  place = node_place d.node;
+  name = option_map (λ (n : Bor (List _)). n.now) d.name;
+}
 
 -- the operation or fragment that an element is
 abbrev pub defined_at : Place → Option Defined

@@ -1,8 +1,10 @@
 -- The names that nodes mention: fragments that are spread, and variables that are declared or used.
-use Rattle.std.specs.Prelude.{List, Bool, false, not, ◌&&◌, if◌then◌else◌, Option, Some, None, option_map, option_and_then}
+use Rattle.std.specs.Prelude.{List, Bool, false, not, ◌&&◌, if◌then◌else◌, Option, Some, None, option_map}
+use Rattle.std.specs.Prelude.{option_and_then}
 use Rattle.std.specs.List.{filter, filter_map}
 use Rattle.document_grammar.specs.declared.kind.SyntaxKind.{SyntaxKind}
-use Rattle.document_grammar.specs.declared.kind.SyntaxKind.TheVariants.{NAME, VARIABLE, VARIABLE_DEFINITION, FRAGMENT_NAME, FRAGMENT_SPREAD}
+use Rattle.document_grammar.specs.declared.kind.SyntaxKind.TheVariants.{NAME, VARIABLE, VARIABLE_DEFINITION}
+use Rattle.document_grammar.specs.declared.kind.SyntaxKind.TheVariants.{FRAGMENT_NAME, FRAGMENT_SPREAD}
 use Rattle.document_grammar.specs.Numbers.{is_kind}
 use Rattle.apollo_tree.specs.Order.{Place, kind_at, text_at, parent_place}
 use Rattle.apollo_tree.specs.Children.{is_node_place}
@@ -35,7 +37,8 @@ abbrev pub is_declared : Option Place → Bool
 is_declared None = false
 is_declared (Some parent) = is_kind VARIABLE_DEFINITION (kind_at parent)
 
--- The name that a node mentions: the fragment that it spreads, the variable that it declares, or the variable that it uses.
+-- The name that a node mentions: the fragment that it spreads, the variable that it declares, or the variable that it
+-- uses.
 abbrev pub mentioned_name : MentionKind → Place → Option Name
 mentioned_name Spread p = if is_kind FRAGMENT_SPREAD (kind_at p) then name_in FRAGMENT_NAME p else None
 mentioned_name Declared p = if is_kind VARIABLE_DEFINITION (kind_at p) then name_in VARIABLE p else None

@@ -1,5 +1,6 @@
 -- Names, and what is entered under them.
-use Rattle.std.specs.Prelude.{◌≡◌, ℕ, List, Bool, false, Option, Some, None, is_some, true, unwrap_or, if◌then◌else◌, bytes_eq}
+use Rattle.std.specs.Prelude.{◌≡◌, ℕ, List, Bool, false, Option, Some, None, is_some, true, unwrap_or, if◌then◌else◌}
+use Rattle.std.specs.Prelude.{bytes_eq}
 use denote.Ref.{Bor}
 use Rattle.std.specs.Ordering.{nat_cmp}
 use Rattle.std.specs.Cmp.Lexicographic.{slice_cmp}
@@ -23,7 +24,8 @@ HasEntry entries name = is_some (entry_of entries name) ≡ true
 -- The value is entered under the name if there was none before. The other entries are as they were.
 abbrev pub Enters : {V : Type 0} → Entries V → Entries V → Name → V → Type 0
 Enters old new name value =
-    (q : Name) → entry_of new q ≡ (if bytes_eq name q then Some (unwrap_or (entry_of old name) value) else entry_of old q)
+    (q : Name) → entry_of new q
+    ≡ (if bytes_eq name q then Some (unwrap_or (entry_of old name) value) else entry_of old q)
 
 abbrev pub has_name : Name → Option Name → Bool
 has_name name None = false

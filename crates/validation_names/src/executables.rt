@@ -2,7 +2,8 @@
 ghost use Rattle.std.specs.Prelude.{◌≡◌, IfOk, map, option_map};
 ghost use Rattle.apollo_tree.specs.References.{node_place};
 ghost use Rattle.validation_names.specs.Names.{AreFirstNumbers};
-ghost use Rattle.validation_names.specs.Definitions.{as_defined, defined, defined_at, fragment_names, named, named_definitions};
+ghost use Rattle.validation_names.specs.Definitions.{as_defined, defined, defined_at, fragment_names, named};
+ghost use Rattle.validation_names.specs.Definitions.{named_definitions};
 ghost use Rattle.validation_names.specs.Mentions.{as_named};
 
 use crate::name_mentions::{Mention, name, name_of_fragment};
@@ -115,7 +116,8 @@ pub fn named_definitions<'t, A: Allocator + Copy>(
     definitions: &[ExecutableDefinition<'t>],
     kind: DefinitionKind,
 ) -> Result<Vec<Mention<'t>, A>, AllocError>
-    ensures { IfOk result (λ found. map as_named found.items ≡ named_definitions kind (map as_defined definitions.now)) }
+    ensures { IfOk result (λ found. map as_named found.items
+        ≡ named_definitions kind (map as_defined definitions.now)) }
 {
     let mut found = Vec::new(alloc);
     for definition in definitions {

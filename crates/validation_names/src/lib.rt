@@ -1,8 +1,10 @@
-//! The operations and fragments of a document, and the names that they mention: what rules and limits on executable documents read of a tree.
+//! The operations and fragments of a document, and the names that they mention: what rules and limits on executable
+//! documents read of a tree.
 //!
-//! `definitions` gives the operations and fragments in order, `fragments` the first fragment of each name, and `mentions` the fragments that a
-//! definition spreads, and the variables that it declares or uses. Each goes over the nodes once. All rules that ask whether names are unique, or
-//! whether one of a name exists, look it up by `enter` and `is_entered`.
+//! `definitions` gives the operations and fragments in order, `fragments` the first fragment of each name, and
+//! `mentions` the fragments that a definition spreads, and the variables that it declares or uses. Each goes over the
+//! nodes once. All rules that ask whether names are unique, or whether one of a name exists, look it up by `enter` and
+//! `is_entered`.
 #![tactic(auto)]
 
 mod executables;

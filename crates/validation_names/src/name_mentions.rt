@@ -3,7 +3,8 @@ ghost use Rattle.std.specs.Prelude.{◌≡◌, IfOk, map, option_map};
 ghost use Rattle.document_grammar.specs.declared.kind.SyntaxKind.TheVariants.{FRAGMENT_NAME, VARIABLE};
 ghost use Rattle.apollo_tree.specs.Order.{parent_place};
 ghost use Rattle.apollo_tree.specs.References.{node_place};
-ghost use Rattle.validation_names.specs.Mentions.{as_named, is_declared, mentioned, mentioned_name, mentions, name_in, name_of};
+ghost use Rattle.validation_names.specs.Mentions.{as_named, is_declared, mentioned, mentioned_name, mentions, name_in};
+ghost use Rattle.validation_names.specs.Mentions.{name_of};
 
 use apollo_cst_core::{CstNode, child};
 use apollo_cst_executable::{FragmentName, Name, Variable};

@@ -1,5 +1,6 @@
 -- The definitions of a document, and the names that they mention, are at places of their own.
-use Rattle.std.proofs.Common.{◌≡◌, ◌≢◌, ℕ, ◌<◌, ◌≤◌, List, length, map, Bool, true, false, cond, Option, Some, None, arith, refl, subst, sym, ap, ◌∙◌, ⊎_elim}
+use Rattle.std.proofs.Common.{◌≡◌, ◌≢◌, ℕ, ◌<◌, ◌≤◌, List, length, map, Bool, true, false, cond, Option, Some, None}
+use Rattle.std.proofs.Common.{arith, refl, subst, sym, ap, ◌∙◌, ⊎_elim}
 use Rattle.std.specs.Prelude.{option_map}
 use Rattle.std.specs.List.{All, AllPairs, Contains, filter, range_with_len}
 use Rattle.std.proofs.lemmas.Bool.{cases_lt}
@@ -19,13 +20,14 @@ use Rattle.validation_names.specs.Definitions.{Defined, defined, defined_at, nam
 use Rattle.validation_names.specs.Mentions.{Named, mentioned, mentioned_name, mentions}
 use Rattle.validation_names.proofs.Lists.{in_filter, in_filter_map}
 use Rattle.validation_rules.specs.declared.definition_parts.DefinitionParts.{DefinitionParts}
-use Rattle.validation_rules.specs.Parts.{AreInOneDocument, Parts, as_parts, at, is_operation, nothing, operations, parts_of, place_at}
-use Rattle.validation_rules.specs.Parts.{AreApart}
+use Rattle.validation_rules.specs.Parts.{AreInOneDocument, Parts, as_parts, at, is_operation, nothing, operations}
+use Rattle.validation_rules.specs.Parts.{parts_of, place_at, AreApart}
 use Rattle.validation_rules.proofs.PairLemmas.{in_map, pairs_filter_map, pairs_map, range_rises}
 use Rattle.validation_rules.proofs.TreeLemmas.{IsBefore, below_range, child_nodes_apart, nodes_rise}
 
 -- what has a name is at the element that has it
-pub named_place : (p : Place) (o : Option Name) (item : Named) → option_map (λ name. record { place = p; name = name }) o ≡ Some item → item.place ≡ p
+pub named_place : (p : Place) (o : Option Name) (item : Named)
+    → option_map (λ name. record { place = p; name = name }) o ≡ Some item → item.place ≡ p
 named_place p None item e = absurd (cc)
 named_place p (Some name) item e =
     let same : record { place = p; name = name } ≡ item = (cc) in
@@ -45,7 +47,8 @@ mentions_apart kind p =
     (filter is_node_place (at_or_below p))
     (AllPairs-filter (λ (a b : Place). a.index < b.index) is_node_place (at_or_below p) (nodes_rise p))
 
-pub mention_below : (kind : MentionKind) (p : Place) (item : Named) → Contains (mentions kind p) item → Contains (at_or_below p) item.place
+pub mention_below : (kind : MentionKind) (p : Place) (item : Named) → Contains (mentions kind p) item
+    → Contains (at_or_below p) item.place
 mention_below kind p item there =
     let (q, among, e) = in_filter_map (mentioned kind) (filter is_node_place (at_or_below p)) item there in
     rw (mention_place kind q item e) (in_filter is_node_place (at_or_below p) q among).0
@@ -58,7 +61,8 @@ chosen_place p first second is_first is_second false true d e = let same : secon
 chosen_place p first second is_first is_second false false d e = absurd (cc)
 
 pub defined_place : (p : Place) (d : Defined) → defined_at p ≡ Some d → d.place ≡ p
-defined_place p d e = chosen_place p _ _ refl refl (is_kind OPERATION_DEFINITION (kind_at p)) (is_kind FRAGMENT_DEFINITION (kind_at p)) d e
+defined_place p d e = chosen_place p _ _ refl refl (is_kind OPERATION_DEFINITION (kind_at p))
+    (is_kind FRAGMENT_DEFINITION (kind_at p)) d e
 
 defined_apart : (document : Place) → AllPairs (λ (a b : Defined). IsBefore a.place b.place) (defined document)
 defined_apart document =
@@ -70,7 +74,8 @@ pub named_apart : (kind : DefinitionKind) (document : Place) → AreApart (named
 named_apart kind document =
     pairs_filter_map (λ (a b : Defined). IsBefore a.place b.place) (λ (a b : Named). a.place ≢ b.place) (named kind)
     (λ x y a b before at_x at_y same.
-    let e : x.place ≡ y.place = sym (named_place x.place (name_as kind x) a at_x) ∙ same ∙ named_place y.place (name_as kind y) b at_y in
+    let e : x.place ≡ y.place =
+    sym (named_place x.place (name_as kind x) a at_x) ∙ same ∙ named_place y.place (name_as kind y) b at_y in
     let i : x.place.index ≡ y.place.index = ap (λ (q : Place). q.index) e in
     omega arith)
     (defined document) (defined_apart document)
@@ -80,18 +85,21 @@ module _ (ds : List Parts) (all : AreInOneDocument ds) where
   parts_apart : AllPairs (λ (a b : Parts). IsBefore a.definition.place b.definition.place) ds
   parts_apart =
       rw all.are
-      (pairs_map (λ (a b : Defined). IsBefore a.place b.place) (λ (a b : Parts). IsBefore a.definition.place b.definition.place) parts_of
+      (pairs_map (λ (a b : Defined). IsBefore a.place b.place)
+      (λ (a b : Parts). IsBefore a.definition.place b.definition.place) parts_of
       (λ a b before. before) (defined all.document) (defined_apart all.document))
 
   -- the subtrees of two definitions have no element in common
-  in_order : (j k : ℕ) → j < k → k < length ds → (p : Place) → Contains (at_or_below (place_at ds j)) p → ¬ Contains (at_or_below (place_at ds k)) p
+  in_order : (j k : ℕ) → j < k → k < length ds → (p : Place) → Contains (at_or_below (place_at ds j)) p
+      → ¬ Contains (at_or_below (place_at ds k)) p
   in_order j k less below p first second =
       let before = parts_apart j k nothing less below in
       let one = below_range (place_at ds j) p first in
       let other = below_range (place_at ds k) p second in
       omega (arith, one.1, other.0)
 
-  pub subtrees_apart : (j k : ℕ) → j ≢ k → j < length ds → k < length ds → (p : Place) → Contains (at_or_below (place_at ds j)) p
+  pub subtrees_apart : (j k : ℕ) → j ≢ k → j < length ds → k < length ds → (p : Place)
+      → Contains (at_or_below (place_at ds j)) p
       → ¬ Contains (at_or_below (place_at ds k)) p
   subtrees_apart j k differ inside below p first second =
       ⊎_elim
@@ -113,22 +121,27 @@ module _ (ds : List Parts) (all : AreInOneDocument ds) where
   spreads_apart k below = rw (ap (λ (d : Parts). d.spreads) (part_is k below)) (mentions_apart Spread (place_at ds k))
 
   pub declared_apart : (k : ℕ) → k < length ds → AreApart (at ds k).declared
-  declared_apart k below = rw (ap (λ (d : Parts). d.declared) (part_is k below)) (mentions_apart Declared (place_at ds k))
+  declared_apart k below =
+      rw (ap (λ (d : Parts). d.declared) (part_is k below)) (mentions_apart Declared (place_at ds k))
 
   pub used_apart : (k : ℕ) → k < length ds → AreApart (at ds k).used
   used_apart k below = rw (ap (λ (d : Parts). d.used) (part_is k below)) (mentions_apart Used (place_at ds k))
 
-  pub spread_below : (k : ℕ) → k < length ds → (item : Named) → Contains (at ds k).spreads item → Contains (at_or_below (place_at ds k)) item.place
+  pub spread_below : (k : ℕ) → k < length ds → (item : Named) → Contains (at ds k).spreads item
+      → Contains (at_or_below (place_at ds k)) item.place
   spread_below k below item there =
       mention_below Spread (place_at ds k) item (rw (ap (λ (d : Parts). d.spreads) (part_is k below)) at there)
 
-  pub used_below : (k : ℕ) → k < length ds → (item : Named) → Contains (at ds k).used item → Contains (at_or_below (place_at ds k)) item.place
-  used_below k below item there = mention_below Used (place_at ds k) item (rw (ap (λ (d : Parts). d.used) (part_is k below)) at there)
+  pub used_below : (k : ℕ) → k < length ds → (item : Named) → Contains (at ds k).used item
+      → Contains (at_or_below (place_at ds k)) item.place
+  used_below k below item there =
+      mention_below Used (place_at ds k) item (rw (ap (λ (d : Parts). d.used) (part_is k below)) at there)
 
 -- ---- operations
 pub operations_apart : (ds : List Parts) → AllPairs (λ j k. j ≢ k) (operations ds)
 operations_apart ds i j d less below =
-    let rises = AllPairs-filter (λ x y. x < y) (λ number. is_operation (at ds number)) (range_with_len 0 (length ds)) (range_rises 0 (length ds)) in
+    let rises = AllPairs-filter (λ x y. x < y) (λ number. is_operation (at ds number)) (range_with_len 0 (length ds))
+    (range_rises 0 (length ds)) in
     let l = rises i j d less below in
     λ same. omega arith
 

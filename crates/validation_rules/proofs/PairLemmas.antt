@@ -1,5 +1,6 @@
 -- What holds of each two items of a list, and of those of a list made from it.
-use Rattle.std.proofs.Common.{◌≡◌, ℕ, zero, suc, ◌+◌, ◌<◌, ◌≤◌, List, [], ◌∷◌, map, get_or, Option, Some, None, arith, refl}
+use Rattle.std.proofs.Common.{◌≡◌, ℕ, zero, suc, ◌+◌, ◌<◌, ◌≤◌, List, [], ◌∷◌, map, get_or, Option, Some, None, arith}
+use Rattle.std.proofs.Common.{refl}
 use Rattle.std.specs.List.{AllPairs, Contains, cons_option, filter_map, range_with_len}
 use Rattle.std.proofs.lemmas.List.Elements.{Contains-get_or}
 use Rattle.std.proofs.lemmas.List.Kept.{AllPairs-cons}
@@ -15,14 +16,16 @@ module _ {A : Type 0} (R : A → A → Type 0) (x : A) (xs : List A) (h : AllPai
 pub pairs_none : {A : Type 0} (R : A → A → Type 0) → AllPairs R []
 pairs_none R i j d less below = absurd (omega arith)
 
-pub in_map : {A B : Type 0} (g : A → B) (xs : List A) (y : B) → Contains (map g xs) y → (x : A) × Contains xs x × (g x ≡ y)
+pub in_map : {A B : Type 0} (g : A → B) (xs : List A) (y : B) → Contains (map g xs) y
+    → (x : A) × Contains xs x × (g x ≡ y)
 in_map g [] y (k, below, is) = absurd (omega arith)
 in_map g (x ∷ xs) y (zero, below, is) = (x, (0, omega arith, refl), is)
 in_map g (x ∷ xs) y (suc k, below, is) =
     let (z, (j, inside, at), e) = in_map g xs y (k, omega arith, is) in
     (z, (suc j, omega arith, at), e)
 
-pub pairs_map : {A B : Type 0} (R : A → A → Type 0) (S : B → B → Type 0) (g : A → B) → ((x y : A) → R x y → S (g x) (g y)) → (xs : List A) → AllPairs R xs
+pub pairs_map : {A B : Type 0} (R : A → A → Type 0) (S : B → B → Type 0) (g : A → B)
+    → ((x y : A) → R x y → S (g x) (g y)) → (xs : List A) → AllPairs R xs
     → AllPairs S (map g xs)
 pairs_map R S g to [] h = pairs_none S
 pairs_map R S g to (x ∷ xs) h =
@@ -39,12 +42,14 @@ cons_pairs R S f to x xs h rest None e = rest
 cons_pairs R S f to x xs h rest (Some a) e =
     AllPairs-cons S a (filter_map f xs)
     (λ k d below.
-    let (y, there, at) = in_filter_map f xs (get_or (filter_map f xs) k d) (Contains-get_or (filter_map f xs) k d below) in
+    let (y, there, at) = in_filter_map f xs (get_or (filter_map f xs) k d)
+    (Contains-get_or (filter_map f xs) k d below) in
     to x y a (get_or (filter_map f xs) k d) (first_pairs R x xs h y there) e at)
     rest
 
 pub pairs_filter_map : {A B : Type 0} (R : A → A → Type 0) (S : B → B → Type 0) (f : A → Option B)
-    → ((x y : A) (a b : B) → R x y → f x ≡ Some a → f y ≡ Some b → S a b) → (xs : List A) → AllPairs R xs → AllPairs S (filter_map f xs)
+    → ((x y : A) (a b : B) → R x y → f x ≡ Some a → f y ≡ Some b → S a b) → (xs : List A) → AllPairs R xs
+    → AllPairs S (filter_map f xs)
 pairs_filter_map R S f to [] h = pairs_none S
 pairs_filter_map R S f to (x ∷ xs) h =
     cons_pairs R S f to x xs h (pairs_filter_map R S f to xs (later_pairs R x xs h)) (f x) refl
@@ -59,6 +64,7 @@ range_rises a zero = pairs_none (λ x y. x < y)
 range_rises a (suc n) =
     AllPairs-cons (λ x y. x < y) a (range_with_len (a + 1) n)
     (λ k d below.
-    let l = from_start (a + 1) n (get_or (range_with_len (a + 1) n) k d) (Contains-get_or (range_with_len (a + 1) n) k d below) in
+    let l = from_start (a + 1) n (get_or (range_with_len (a + 1) n) k d)
+    (Contains-get_or (range_with_len (a + 1) n) k d below) in
     omega arith)
     (range_rises (a + 1) n)

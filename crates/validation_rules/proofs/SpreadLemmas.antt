@@ -24,17 +24,20 @@ row_of_items [] number = refl
 row_of_items (row ∷ rows) zero = refl
 row_of_items (row ∷ rows) (suc number) = row_of_items rows number
 
-are_targets : (ds : List Parts) (fragments : Entries ℕ) (d : Parts) → AreFirstNumbers fragments (fragment_names (definitions ds))
+are_targets : (ds : List Parts) (fragments : Entries ℕ) (d : Parts)
+    → AreFirstNumbers fragments (fragment_names (definitions ds))
     → spread_numbers fragments d ≡ targets ds d
 are_targets ds fragments d are = filter_map_same _ (λ (s : Named). fragment_named ds s.name) (λ s. are s.name) d.spreads
 
 pub is_spread_graph :
-    (ds : List Parts) (fragments : Entries ℕ) (graph : Graph) → AreFirstNumbers fragments (fragment_names (definitions ds))
+    (ds : List Parts) (fragments : Entries ℕ) (graph : Graph)
+    → AreFirstNumbers fragments (fragment_names (definitions ds))
     → map row_items graph ≡ map (spread_numbers fragments) ds → IsSpreadGraph ds graph
 is_spread_graph ds fragments graph are same = record {
   as_many = sym (length-map graph row_items) ∙ ap length same ∙ length-map ds (spread_numbers fragments);
   edges = λ number.
-      row_of_items graph number ∙ ap (λ rows. get_or rows number []) same ∙ get_or-map (spread_numbers fragments) ds number nothing
+      row_of_items graph number ∙ ap (λ rows. get_or rows number []) same
+      ∙ get_or-map (spread_numbers fragments) ds number nothing
       ∙ are_targets ds fragments (at ds number) are;
 }
 
@@ -46,5 +49,6 @@ inside ds name to is =
 
 pub is_closed : (ds : List Parts) (graph : Graph) → IsSpreadGraph ds graph → IsClosed graph
 is_closed ds graph spreads from to edge =
-    let at_edge = in_filter_map (λ (s : Named). fragment_named ds s.name) (at ds from).spreads to (rw spreads.edges at edge) in
+    let at_edge = in_filter_map (λ (s : Named). fragment_named ds s.name) (at ds from).spreads to
+    (rw spreads.edges at edge) in
     rw spreads.as_many (inside ds at_edge.0.name to at_edge.2)

@@ -1,6 +1,7 @@
--- The order of the text: a list of breaches that are sorted by it, and that there is only one such list of some breaches.
-use Rattle.std.proofs.Common.{◌≡◌, ◌≢◌, ℕ, zero, suc, ◌+◌, ◌<◌, ◌≤◌, List, [], ◌∷◌, length, map, get_or, false, Option, Some, None}
-use Rattle.std.proofs.Common.{arith, refl, sym, subst, ap, ◌∙◌, inl, inr, ⊎_elim}
+-- The order of the text: a list of breaches that are sorted by it, and that there is only one such list of some
+-- breaches.
+use Rattle.std.proofs.Common.{◌≡◌, ◌≢◌, ℕ, zero, suc, ◌+◌, ◌<◌, ◌≤◌, List, [], ◌∷◌, length, map, get_or, false, Option}
+use Rattle.std.proofs.Common.{Some, None, arith, refl, sym, subst, ap, ◌∙◌, inl, inr, ⊎_elim}
 use Rattle.std.specs.Prelude.{◌⊎◌, option_map}
 use Rattle.std.specs.Cmp.{IsTotalOrder, ranks}
 use Rattle.std.specs.Cmp.Lexicographic.{options_total}
@@ -26,7 +27,8 @@ use Rattle.validation_rules.specs.Violations.{AreDistinct, Breach, as_breach}
 use Rattle.validation_rules.proofs.PairLemmas.{first_pairs, later_pairs}
 
 -- ---- violations that are sorted are breaches that are sorted
-pub sorted_breaches : (xs : List Violation) → IsSortedByKey (λ (v : Violation). text_key (as_breach v)) text_order xs → AreInTextOrder (map as_breach xs)
+pub sorted_breaches : (xs : List Violation) → IsSortedByKey (λ (v : Violation). text_key (as_breach v)) text_order xs
+    → AreInTextOrder (map as_breach xs)
 sorted_breaches [] sorted k d from below = absurd (omega arith)
 sorted_breaches (x ∷ xs) sorted k d from below =
     let l = length-map (x ∷ xs) as_breach in
@@ -37,7 +39,8 @@ sorted_breaches (x ∷ xs) sorted k d from below =
 -- ---- an order, in which only what has one key ties
 pub text_order_total : IsTotalOrder text_order
 text_order_total =
-    then_total (then_total (on_total (λ (t : TextKey). t.0) nat_cmp_total) (on_total (λ (t : TextKey). t.1) nat_cmp_total))
+    then_total (then_total (on_total (λ (t : TextKey). t.0) nat_cmp_total)
+    (on_total (λ (t : TextKey). t.1) nat_cmp_total))
     (on_total (λ (t : TextKey). t.2) (options_total nat_cmp_total))
 
 both_tie : (a b : Ordering) → ordering_then a b ≡ Equal → (a ≡ Equal) × (b ≡ Equal)
@@ -61,9 +64,12 @@ options_tie (Some x) (Some y) e = ap Some (numbers_tie x y e)
 
 rules_in_order : List Rule
 rules_in_order =
-    rule.ExecutableDefinitions ∷ rule.UniqueOperationNames ∷ rule.LoneAnonymousOperation ∷ rule.UniqueArgumentNames ∷ rule.UniqueFragmentNames
-    ∷ rule.NoUnusedFragments ∷ rule.KnownFragmentNames ∷ rule.NoFragmentCycles ∷ rule.UniqueInputFieldNames ∷ rule.UniqueVariableNames
-    ∷ rule.NoUndefinedVariables ∷ rule.NoUnusedVariables ∷ rule.UniqueFieldDefinitionNames ∷ rule.UniqueArgumentDefinitionNames
+    rule.ExecutableDefinitions ∷ rule.UniqueOperationNames ∷ rule.LoneAnonymousOperation ∷ rule.UniqueArgumentNames
+    ∷ rule.UniqueFragmentNames
+    ∷ rule.NoUnusedFragments ∷ rule.KnownFragmentNames ∷ rule.NoFragmentCycles ∷ rule.UniqueInputFieldNames
+    ∷ rule.UniqueVariableNames
+    ∷ rule.NoUndefinedVariables ∷ rule.NoUnusedVariables ∷ rule.UniqueFieldDefinitionNames
+    ∷ rule.UniqueArgumentDefinitionNames
     ∷ rule.UniqueEnumValueNames ∷ rule.UniqueUnionMemberTypes ∷ rule.UniqueImplementedInterfaces ∷ []
 
 rule_with : ℕ → Rule
@@ -97,7 +103,8 @@ pub record IsIn (whole : Forest) (b : Breach) : Type 0 where
 one_place : (p q : Place) → p.whole ≡ q.whole → p.index ≡ q.index → p ≡ q
 one_place p q whole index = λ i. record { whole = whole i; index = index i }
 
-one_other : (whole : Forest) (p q : Option Place) → ((x : Place) → p ≡ Some x → x.whole ≡ whole) → ((x : Place) → q ≡ Some x → x.whole ≡ whole)
+one_other : (whole : Forest) (p q : Option Place) → ((x : Place) → p ≡ Some x → x.whole ≡ whole)
+    → ((x : Place) → q ≡ Some x → x.whole ≡ whole)
     → option_map (λ (x : Place). x.index) p ≡ option_map (λ (x : Place). x.index) q → p ≡ q
 one_other whole None None first second e = refl
 one_other whole None (Some q) first second e = absurd (cc)
@@ -106,13 +113,16 @@ one_other whole (Some p) (Some q) first second e =
     let index : p.index ≡ q.index = (cc) in
     ap Some (one_place p q (first p refl ∙ sym (second q refl)) index)
 
-pub one_breach : (whole : Forest) (a b : Breach) → IsIn whole a → IsIn whole b → text_order (text_key a) (text_key b) ≡ Equal → a ≡ b
+pub one_breach : (whole : Forest) (a b : Breach) → IsIn whole a → IsIn whole b
+    → text_order (text_key a) (text_key b) ≡ Equal → a ≡ b
 one_breach whole a b first second e =
     let (numbers, other) = both_tie _ _ e in
     let (index, number) = both_tie _ _ numbers in
-    let place : a.place ≡ b.place = one_place a.place b.place (first.place ∙ sym second.place) (numbers_tie a.place.index b.place.index index) in
+    let place : a.place ≡ b.place =
+    one_place a.place b.place (first.place ∙ sym second.place) (numbers_tie a.place.index b.place.index index) in
     let rules : a.rule ≡ b.rule =
-    sym (has_number a.rule) ∙ ap rule_with (numbers_tie (rule_number a.rule) (rule_number b.rule) number) ∙ has_number b.rule in
+    sym (has_number a.rule) ∙ ap rule_with (numbers_tie (rule_number a.rule) (rule_number b.rule) number)
+    ∙ has_number b.rule in
     let party : a.other ≡ b.other = one_other whole a.other b.other first.other second.other (options_tie _ _ other) in
     λ i. record { rule = rules i; place = place i; other = party i }
 
@@ -120,25 +130,30 @@ one_breach whole a b first second e =
 abbrev pub ComesFirst : Breach → Breach → Type 0
 ComesFirst a b = text_order (text_key a) (text_key b) ≡ Less
 
-comes_first : (a b : Breach) (r : Ordering) → text_order (text_key b) (text_key a) ≡ r → is_lt r ≡ false → (r ≢ Equal) → ComesFirst a b
+comes_first : (a b : Breach) (r : Ordering) → text_order (text_key b) (text_key a) ≡ r → is_lt r ≡ false
+    → (r ≢ Equal) → ComesFirst a b
 comes_first a b Less e not_less differ = absurd (cc)
 comes_first a b Equal e not_less differ = absurd (differ refl)
 comes_first a b Greater e not_less differ = text_order_total.antisymm (text_key a) (text_key b) ∙ ap ordering_reverse e
 
 -- in such a list each comes before the later ones
-pub all_rise : (whole : Forest) (bs : List Breach) → ((b : Breach) → Contains bs b → IsIn whole b) → AreDistinct bs → AreInTextOrder bs
+pub all_rise : (whole : Forest) (bs : List Breach) → ((b : Breach) → Contains bs b → IsIn whole b)
+    → AreDistinct bs → AreInTextOrder bs
     → AllPairs ComesFirst bs
 all_rise whole bs inside distinct sorted i j d less below =
     let a = get_or bs i d in
     let b = get_or bs j d in
-    let far = sorted_far (λ x y. is_lt (text_order (text_key x) (text_key y))) (ranks_by text_order_total text_key) bs sorted i j d (omega arith) below in
+    let far = sorted_far (λ x y. is_lt (text_order (text_key x) (text_key y))) (ranks_by text_order_total text_key) bs
+    sorted i j d (omega arith) below in
     comes_first a b (text_order (text_key b) (text_key a)) refl far
     (λ tie. distinct i j d less below
-    (sym (one_breach whole b a (inside b (Contains-get_or bs j d below)) (inside a (Contains-get_or bs i d (omega arith))) tie)))
+    (sym (one_breach whole b a (inside b (Contains-get_or bs j d below))
+    (inside a (Contains-get_or bs i d (omega arith))) tie)))
 
 not_both : (a b : Breach) → ComesFirst a b → ¬ ComesFirst b a
 not_both a b first second =
-    let e : text_order (text_key a) (text_key b) ≡ Greater = text_order_total.antisymm (text_key a) (text_key b) ∙ ap ordering_reverse second in
+    let e : text_order (text_key a) (text_key b) ≡ Greater =
+    text_order_total.antisymm (text_key a) (text_key b) ∙ ap ordering_reverse second in
     let wrong : Less ≡ Greater = sym first ∙ e in
     absurd (cc)
 
@@ -150,7 +165,8 @@ behind : (a : Breach) (bs : List Breach) (b : Breach) → Contains bs b → Cont
 behind a bs b (k, below, is) = (suc k, omega arith, is)
 
 -- the heads of two such lists of the same breaches are one
-one_head : (a b : Breach) (later others : List Breach) → AllPairs ComesFirst (a ∷ later) → AllPairs ComesFirst (b ∷ others) → Contains (b ∷ others) a
+one_head : (a b : Breach) (later others : List Breach) → AllPairs ComesFirst (a ∷ later)
+    → AllPairs ComesFirst (b ∷ others) → Contains (b ∷ others) a
     → Contains (a ∷ later) b → a ≡ b
 one_head a b later others rise rises there here =
     ⊎_elim
@@ -165,7 +181,8 @@ one_head a b later others rise rises there here =
 
 -- and so their tails have the same breaches
 tail_has : (a b : Breach) (later others : List Breach) → a ≡ b → AllPairs ComesFirst (a ∷ later)
-    → ((x : Breach) → Contains (a ∷ later) x → Contains (b ∷ others) x) → (x : Breach) → Contains later x → Contains others x
+    → ((x : Breach) → Contains (a ∷ later) x → Contains (b ∷ others) x) → (x : Breach)
+    → Contains later x → Contains others x
 tail_has a b later others same rise to x there =
     ⊎_elim
     (λ (e : b ≡ x).
@@ -177,13 +194,15 @@ tail_has a b later others same rise to x there =
     (λ (after : Contains others x). after)
     (first_or_behind b others x (to x (behind a later x there)))
 
-pub one_list : (xs ys : List Breach) → AllPairs ComesFirst xs → AllPairs ComesFirst ys → ((b : Breach) → Contains xs b → Contains ys b)
+pub one_list : (xs ys : List Breach) → AllPairs ComesFirst xs → AllPairs ComesFirst ys
+    → ((b : Breach) → Contains xs b → Contains ys b)
     → ((b : Breach) → Contains ys b → Contains xs b) → xs ≡ ys
 one_list [] [] rise rises to from = refl
 one_list [] (y ∷ ys) rise rises to from = let (k, below, is) = from y (0, omega arith, refl) in absurd (omega arith)
 one_list (x ∷ xs) [] rise rises to from = let (k, below, is) = to x (0, omega arith, refl) in absurd (omega arith)
 one_list (x ∷ xs) (y ∷ ys) rise rises to from =
     let same = one_head x y xs ys rise rises (to x (0, omega arith, refl)) (from y (0, omega arith, refl)) in
-    let rest = one_list xs ys (later_pairs ComesFirst x xs rise) (later_pairs ComesFirst y ys rises) (tail_has x y xs ys same rise to)
+    let rest = one_list xs ys (later_pairs ComesFirst x xs rise) (later_pairs ComesFirst y ys rises)
+    (tail_has x y xs ys same rise to)
     (tail_has y x ys xs (sym same) rises from) in
     λ i. same i ∷ rest i

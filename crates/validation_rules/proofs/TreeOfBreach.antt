@@ -1,5 +1,6 @@
 -- What a breach is about is in the tree of its document.
-use Rattle.std.proofs.Common.{◌≡◌, ℕ, zero, suc, ◌<◌, ◌≤◌, List, [], length, map, get_or, Option, Some, None, arith, refl, sym, ap, ◌∙◌, ⊎_elim}
+use Rattle.std.proofs.Common.{◌≡◌, ℕ, zero, suc, ◌<◌, ◌≤◌, List, [], length, map, get_or, Option, Some, None, arith}
+use Rattle.std.proofs.Common.{refl, sym, ap, ◌∙◌, ⊎_elim}
 use Rattle.std.specs.List.{Contains}
 use Rattle.std.proofs.lemmas.Bool.{cases_lt}
 use Rattle.std.proofs.lemmas.List.{get_or_past}
@@ -15,9 +16,10 @@ use Rattle.validation_names.specs.Definitions.{Defined, defined, defined_at, nam
 use Rattle.validation_names.specs.Mentions.{Named, mentions}
 use Rattle.validation_names.proofs.Lists.{in_filter, in_filter_map}
 use Rattle.validation_rules.specs.declared.violations.Rule.{Rule}
-use Rattle.validation_rules.specs.Broken.{BreaksVariables, BreaksVariablesOf, IsNotAlone, IsOnCycle, IsUndefinedSpread, IsUndefinedVariable}
-use Rattle.validation_rules.specs.Broken.{IsUnknown, IsUnusedFragment, IsUnusedVariable, Repeats}
-use Rattle.validation_rules.specs.Parts.{Parts, at, fragment_named, item_at, nothing, operations, parts_in, parts_of, place_at, targets}
+use Rattle.validation_rules.specs.Broken.{BreaksVariables, BreaksVariablesOf, IsNotAlone, IsOnCycle, IsUndefinedSpread}
+use Rattle.validation_rules.specs.Broken.{IsUndefinedVariable, IsUnknown, IsUnusedFragment, IsUnusedVariable, Repeats}
+use Rattle.validation_rules.specs.Parts.{Parts, at, fragment_named, item_at, nothing, operations, parts_in, parts_of}
+use Rattle.validation_rules.specs.Parts.{place_at, targets}
 use Rattle.validation_rules.specs.Violations.{Breach, breach}
 use Rattle.validation_rules.proofs.ApartLemmas.{defined_place, mention_below, named_place}
 use Rattle.validation_rules.proofs.OperationLemmas.{find_has, operation_inside}
@@ -42,25 +44,32 @@ below_whole p q (zero, below, is) = ap (λ (x : Place). x.whole) (sym is)
 below_whole p q (suc k, below, is) = from_whole p.whole (suc p.index) _ q (k, omega arith, is)
 
 -- ---- breaches of two forms
-is_in : (whole : Forest) (rule : Rule) (place : Place) (other : Option Place) (b : Breach) → b ≡ breach rule place other → place.whole ≡ whole
+is_in : (whole : Forest) (rule : Rule) (place : Place) (other : Option Place) (b : Breach)
+    → b ≡ breach rule place other → place.whole ≡ whole
     → ((p : Place) → other ≡ Some p → p.whole ≡ whole) → IsIn whole b
 is_in whole rule place other b is first second = rw is (record { place = first; other = second })
 
-pub alone_in : (whole : Forest) (rule : Rule) (place : Place) (b : Breach) → b ≡ breach rule place None → place.whole ≡ whole → IsIn whole b
+pub alone_in : (whole : Forest) (rule : Rule) (place : Place) (b : Breach) → b ≡ breach rule place None
+    → place.whole ≡ whole → IsIn whole b
 alone_in whole rule place b is first = is_in whole rule place None b is first (λ p e. absurd (cc))
 
-both_in : (whole : Forest) (rule : Rule) (place other : Place) (b : Breach) → b ≡ breach rule place (Some other) → place.whole ≡ whole → other.whole ≡ whole
+both_in : (whole : Forest) (rule : Rule) (place other : Place) (b : Breach) → b ≡ breach rule place (Some other)
+    → place.whole ≡ whole → other.whole ≡ whole
     → IsIn whole b
 both_in whole rule place other b is first second =
-    is_in whole rule place (Some other) b is first (λ p e. let same : other ≡ p = (cc) in ap (λ (x : Place). x.whole) (sym same) ∙ second)
+    is_in whole rule place (Some other) b is first
+    (λ p e. let same : other ≡ p = (cc) in ap (λ (x : Place). x.whole) (sym same) ∙ second)
 
-pub repeats_in : (whole : Forest) (rule : Rule) (items : List Named) → ((item : Named) → Contains items item → item.place.whole ≡ whole) → (b : Breach)
+pub repeats_in : (whole : Forest) (rule : Rule) (items : List Named)
+    → ((item : Named) → Contains items item → item.place.whole ≡ whole) → (b : Breach)
     → Repeats rule items b → IsIn whole b
 repeats_in whole rule items all b so =
-    let there = λ (n : ℕ) (below : n < length items). all (item_at items n) (Contains-get_or items n (item_at [] 0) below) in
+    let there = λ (n : ℕ) (below : n < length items). all (item_at items n)
+    (Contains-get_or items n (item_at [] 0) below) in
     let earlier = so.earlier in
     let within = so.inside in
-    both_in whole rule (item_at items so.number).place (item_at items so.first).place b so.is (there so.number within) (there so.first (omega arith))
+    both_in whole rule (item_at items so.number).place (item_at items so.first).place b so.is (there so.number within)
+    (there so.first (omega arith))
 
 -- ---- the definitions of a document, and what they mention
 defined_whole : (document : Place) (d : Defined) → Contains (defined document) d → d.place.whole ≡ document.whole
@@ -68,7 +77,8 @@ defined_whole document d there =
     let (p, is_child, e) = in_filter_map defined_at (child_nodes document) d there in
     ap (λ (x : Place). x.whole) (defined_place p d e) ∙ child_whole document p is_child
 
-pub named_whole : (kind : DefinitionKind) (document : Place) (item : Named) → Contains (named_definitions kind (defined document)) item
+pub named_whole : (kind : DefinitionKind) (document : Place) (item : Named)
+    → Contains (named_definitions kind (defined document)) item
     → item.place.whole ≡ document.whole
 named_whole kind document item there =
     let (d, among, e) = in_filter_map (named kind) (defined document) item there in
@@ -90,7 +100,8 @@ module _ (document : Place) where
   abbrev mentions_of : (Parts → List Named) → MentionKind → Type 0
   mentions_of list kind = (d : Defined) → list (parts_of d) ≡ mentions kind d.place
 
-  mention_whole : (list : Parts → List Named) (kind : MentionKind) → mentions_of list kind → list nothing ≡ [] → (k : ℕ) (item : Named)
+  mention_whole : (list : Parts → List Named) (kind : MentionKind) → mentions_of list kind → list nothing ≡ []
+      → (k : ℕ) (item : Named)
       → Contains (list (at ds k)) item → item.place.whole ≡ document.whole
   mention_whole list kind are none k item there =
       ⊎_elim
@@ -112,14 +123,16 @@ module _ (document : Place) where
   not_alone_in b so =
       let number = operation_inside ds so.number so.operation in
       let other = operation_inside ds so.other (find_has _ (operations ds) so.other so.is_other) in
-      both_in document.whole _ (place_at ds so.number) (place_at ds so.other) b so.is (place_whole so.number number) (place_whole so.other other)
+      both_in document.whole _ (place_at ds so.number) (place_at ds so.other) b so.is (place_whole so.number number)
+      (place_whole so.other other)
 
   pub unused_fragment_in : (b : Breach) → IsUnusedFragment ds b → IsIn document.whole b
   unused_fragment_in b so = alone_in document.whole _ (place_at ds so.number) b so.is (place_whole so.number so.inside)
 
   pub undefined_spread_in : (b : Breach) → IsUndefinedSpread ds b → IsIn document.whole b
   undefined_spread_in b (number, below, so) =
-      alone_in document.whole _ so.item.place b so.is (mention_whole (λ d. d.spreads) Spread (λ d. refl) refl number so.item so.there)
+      alone_in document.whole _ so.item.place b so.is
+      (mention_whole (λ d. d.spreads) Spread (λ d. refl) refl number so.item so.there)
 
   pub cycle_in : (b : Breach) → IsOnCycle ds b → IsIn document.whole b
   cycle_in b so =
@@ -133,7 +146,8 @@ module _ (document : Place) where
       (cases_lt so.number (length ds)) in
       let among = Contains-get_or (targets ds (at ds so.number)) so.spread 0 so.inside in
       let other : Contains (targets ds (at ds so.number)) so.other = rw so.target at among in
-      both_in document.whole _ (place_at ds so.number) (place_at ds so.other) b so.is (place_whole so.number number) (target_whole so.number so.other other)
+      both_in document.whole _ (place_at ds so.number) (place_at ds so.other) b so.is (place_whole so.number number)
+      (target_whole so.number so.other other)
 
   pub variables_in : (b : Breach) → BreaksVariables ds b → IsIn document.whole b
   variables_in b (operation, there, so) =

@@ -1,12 +1,15 @@
--- What breaks the rules of section 5 of the standard (GraphQL October 2021) on operations and fragments, and the other party.
-use Rattle.std.specs.Prelude.{◌≡◌, ◌⊎◌, ◌==◌, ℕ, ◌<◌, List, [], ◌∷◌, length, map, true, not, Option, Some, None, slice_index_or}
+-- What breaks the rules of section 5 of the standard (GraphQL October 2021) on operations and fragments, and the other
+-- party.
+use Rattle.std.specs.Prelude.{◌≡◌, ◌⊎◌, ◌==◌, ℕ, ◌<◌, List, [], ◌∷◌, length, map, true, not, Option, Some, None}
+use Rattle.std.specs.Prelude.{slice_index_or}
 use Rattle.std.specs.List.{Contains, find}
 use Rattle.apollo_tree.specs.Order.{Place}
 use Rattle.validation_names.specs.Names.{Name, first_number}
 use Rattle.validation_names.specs.Mentions.{Named}
 use Rattle.validation_rules.specs.declared.violations.Rule.{Rule}
-use Rattle.validation_rules.specs.declared.violations.Rule.TheVariants.{LoneAnonymousOperation, NoUnusedFragments, KnownFragmentNames}
-use Rattle.validation_rules.specs.declared.violations.Rule.TheVariants.{NoFragmentCycles, NoUndefinedVariables, NoUnusedVariables}
+use Rattle.validation_rules.specs.declared.violations.Rule.TheVariants.{LoneAnonymousOperation, NoUnusedFragments}
+use Rattle.validation_rules.specs.declared.violations.Rule.TheVariants.{KnownFragmentNames, NoFragmentCycles}
+use Rattle.validation_rules.specs.declared.violations.Rule.TheVariants.{NoUndefinedVariables, NoUnusedVariables}
 use Rattle.validation_rules.specs.Parts.{Parts, at, place_at, operations, is_anonymous, targets, Reaches}
 use Rattle.validation_rules.specs.Parts.{IsDeclared, IsFragmentName, IsUsed, LeadsBack, item_at}
 use Rattle.validation_rules.specs.Violations.{Breach, breach}
@@ -25,7 +28,8 @@ pub record Repeats (rule : Rule) (items : List Named) (b : Breach) : Type 0 wher
   pub is : b ≡ breach rule (item_at items number).place (Some (item_at items first).place)
 
 -- ---- names that have to be known: sections 5.5.2.1, 5.8.3 and 5.8.4
-pub record IsUnknown (rule : Rule) (other : Option Place) (IsKnown : Name → Type 0) (items : List Named) (b : Breach) : Type 0 where
+pub record IsUnknown (rule : Rule) (other : Option Place) (IsKnown : Name → Type 0) (items : List Named)
+    (b : Breach) : Type 0 where
   pub item : Named
   pub there : Contains items item
   pub unknown : ¬ IsKnown item.name
@@ -72,7 +76,8 @@ pub record IsOnCycle (ds : List Parts) (b : Breach) : Type 0 where
 pub record IsUndefinedVariable (ds : List Parts) (operation : ℕ) (b : Breach) : Type 0 where
   pub number : ℕ
   pub reached : Reaches ds (operation ∷ []) number
-  pub unknown : IsUnknown NoUndefinedVariables (Some (place_at ds operation)) (IsDeclared ds operation) (at ds number).used b
+  pub unknown : IsUnknown NoUndefinedVariables (Some (place_at ds operation))
+      (IsDeclared ds operation) (at ds number).used b
 
 -- ---- 5.8.4: a declared variable that the operation does not use
 -- The other party is the operation.

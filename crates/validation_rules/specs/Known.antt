@@ -25,7 +25,8 @@ IsUsedAmong ds numbers name = (number : ℕ) × Contains numbers number × HasNa
 
 -- Of some definitions, one uses a variable that an operation does not declare.
 abbrev pub UndefinedIn : List Parts → ℕ → ℕ → Breach → Type 0
-UndefinedIn ds operation number b = IsUnknown NoUndefinedVariables (Some (place_at ds operation)) (IsDeclared ds operation) (at ds number).used b
+UndefinedIn ds operation number b =
+    IsUnknown NoUndefinedVariables (Some (place_at ds operation)) (IsDeclared ds operation) (at ds number).used b
 
 abbrev pub DefinedIn : List Parts → ℕ → ℕ → Type 0
 DefinedIn ds operation number = AreKnown (IsDeclared ds operation) (at ds number).used

@@ -1,5 +1,6 @@
 -- What the rules ask of operations and fragments: their names, and the names that they mention.
-use Rattle.std.specs.Prelude.{◌≡◌, ◌≢◌, ℕ, List, [], ◌∷◌, length, map, Bool, true, false, Option, Some, None, is_none, slice_index_or}
+use Rattle.std.specs.Prelude.{◌≡◌, ◌≢◌, ℕ, List, [], ◌∷◌, length, map, Bool, true, false, Option, Some, None, is_none}
+use Rattle.std.specs.Prelude.{slice_index_or}
 use Rattle.std.specs.List.{AllPairs, Contains, filter, filter_map, range_with_len}
 use Rattle.document_grammar.specs.Forests.{none}
 use Rattle.apollo_tree.specs.Order.{Place}
@@ -50,7 +51,12 @@ abbrev pub nowhere : Place
 nowhere = record { whole = none; index = 0 }
 
 abbrev pub nothing : Parts
-nothing = record { definition = record { kind = Fragment; place = nowhere; name = None }; spreads = []; declared = []; used = [] }
+nothing = record {
+  definition = record { kind = Fragment; place = nowhere; name = None };
+  spreads = [];
+  declared = [];
+  used = [];
+}
 
 -- the definition with a number
 abbrev pub at : List Parts → ℕ → Parts

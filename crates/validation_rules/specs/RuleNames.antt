@@ -1,12 +1,16 @@
 -- The names of rules.
 use Rattle.std.specs.Prelude.{ℕ, List, codes}
 use Rattle.validation_rules.specs.declared.violations.Rule.{Rule}
-use Rattle.validation_rules.specs.declared.violations.Rule.TheVariants.{ExecutableDefinitions, UniqueOperationNames, LoneAnonymousOperation}
-use Rattle.validation_rules.specs.declared.violations.Rule.TheVariants.{UniqueArgumentNames, UniqueFragmentNames, NoUnusedFragments}
-use Rattle.validation_rules.specs.declared.violations.Rule.TheVariants.{KnownFragmentNames, NoFragmentCycles, UniqueInputFieldNames}
-use Rattle.validation_rules.specs.declared.violations.Rule.TheVariants.{UniqueVariableNames, NoUndefinedVariables, NoUnusedVariables}
-use Rattle.validation_rules.specs.declared.violations.Rule.TheVariants.{UniqueFieldDefinitionNames, UniqueArgumentDefinitionNames}
-use Rattle.validation_rules.specs.declared.violations.Rule.TheVariants.{UniqueEnumValueNames, UniqueUnionMemberTypes, UniqueImplementedInterfaces}
+use Rattle.validation_rules.specs.declared.violations.Rule.TheVariants.{ExecutableDefinitions, UniqueOperationNames}
+use Rattle.validation_rules.specs.declared.violations.Rule.TheVariants.{LoneAnonymousOperation, UniqueArgumentNames}
+use Rattle.validation_rules.specs.declared.violations.Rule.TheVariants.{UniqueFragmentNames, NoUnusedFragments}
+use Rattle.validation_rules.specs.declared.violations.Rule.TheVariants.{KnownFragmentNames, NoFragmentCycles}
+use Rattle.validation_rules.specs.declared.violations.Rule.TheVariants.{UniqueInputFieldNames, UniqueVariableNames}
+use Rattle.validation_rules.specs.declared.violations.Rule.TheVariants.{NoUndefinedVariables, NoUnusedVariables}
+use Rattle.validation_rules.specs.declared.violations.Rule.TheVariants.{UniqueFieldDefinitionNames}
+use Rattle.validation_rules.specs.declared.violations.Rule.TheVariants.{UniqueArgumentDefinitionNames}
+use Rattle.validation_rules.specs.declared.violations.Rule.TheVariants.{UniqueEnumValueNames, UniqueUnionMemberTypes}
+use Rattle.validation_rules.specs.declared.violations.Rule.TheVariants.{UniqueImplementedInterfaces}
 
 -- as in graphql-js, without the `Rule` at the end; the last two have no name there
 abbrev pub rule_name : Rule → List ℕ

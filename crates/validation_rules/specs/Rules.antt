@@ -1,9 +1,11 @@
--- What an executable document keeps by the rules of section 5 of the standard (GraphQL October 2021) on operations and fragments.
+-- What an executable document keeps by the rules of section 5 of the standard (GraphQL October 2021) on operations and
+-- fragments.
 use Rattle.std.specs.Prelude.{◌≡◌, ◌≢◌, ℕ, ◌<◌, List, [], ◌∷◌, length, true}
 use Rattle.std.specs.List.{Contains}
 use Rattle.validation_names.specs.Names.{Name}
 use Rattle.validation_names.specs.Mentions.{Named}
-use Rattle.validation_rules.specs.Parts.{IsDeclared, IsFragmentName, IsUsed, LeadsBack, Parts, Reaches, at, is_anonymous, item_at, operations, targets}
+use Rattle.validation_rules.specs.Parts.{IsDeclared, IsFragmentName, IsUsed, LeadsBack, Parts, Reaches, at}
+use Rattle.validation_rules.specs.Parts.{is_anonymous, item_at, operations, targets}
 
 -- ---- unique names: sections 5.2.1.1, 5.4.2, 5.5.1.1, 5.6.3 and 5.8.1
 -- no two items have the same name
@@ -19,7 +21,8 @@ abbrev pub IsOnlyOperation : List Parts → ℕ → Type 0
 IsOnlyOperation ds number = (other : ℕ) → Contains (operations ds) other → other ≡ number
 
 abbrev pub AnonymousIsAlone : List Parts → Type 0
-AnonymousIsAlone ds = (number : ℕ) → Contains (operations ds) number → is_anonymous (at ds number) ≡ true → IsOnlyOperation ds number
+AnonymousIsAlone ds = (number : ℕ) → Contains (operations ds) number → is_anonymous (at ds number) ≡ true
+    → IsOnlyOperation ds number
 
 -- ---- 5.5.1.4: each fragment is spread, directly or through others, by an operation
 abbrev pub FragmentsAreUsed : List Parts → Type 0

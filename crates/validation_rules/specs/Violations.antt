@@ -30,7 +30,8 @@ AreDistinct breaches = AllPairs (λ a b. a ≢ b) breaches
 abbrev pub count : Violations → ℕ
 count violations = length violations.list.items
 
--- Breaches were added, and nothing else: all of them, unless the list is full now. If none was added to a list that is not full, all is well.
+-- Breaches were added, and nothing else: all of them, unless the list is full now. If none was added to a list that is
+-- not full, all is well.
 pub record Adds (Breaks : Breach → Type 0) (IsWell : Type 0) (old new : Violations) : Type 0 where
   pub most : new.most ≡ old.most
   pub kept : (b : Breach) → Contains (found old) b → Contains (found new) b
@@ -40,4 +41,5 @@ pub record Adds (Breaks : Breach → Type 0) (IsWell : Type 0) (old new : Violat
   pub few : count old ≤ old.most → count new ≤ old.most
   pub well : count new < old.most → count new ≤ count old → IsWell
   -- each was added once: if none of them was there before, none is there twice
-  pub distinct : ((b : Breach) → Contains (found old) b → ¬ Breaks b) → AreDistinct (found old) → AreDistinct (found new)
+  pub distinct : ((b : Breach) → Contains (found old) b → ¬ Breaks b) → AreDistinct (found old)
+      → AreDistinct (found new)

@@ -5,7 +5,8 @@ ghost use Rattle.validation_names.specs.Names.{AreFirstNumbers};
 ghost use Rattle.validation_names.specs.Definitions.{as_defined, fragment_names};
 ghost use Rattle.validation_names.specs.Mentions.{as_named};
 ghost use Rattle.validation_rules.specs.Graphs.{IsSpreadGraph, numbers_of};
-ghost use Rattle.validation_rules.specs.Parts.{as_parts, at, definitions as definitions_of, operations as operations_of, parts_of};
+ghost use Rattle.validation_rules.specs.Parts.{as_parts, at, definitions as definitions_of};
+ghost use Rattle.validation_rules.specs.Parts.{operations as operations_of, parts_of};
 
 use std::alloc::{AllocError, Global};
 use std::collections::BTreeMap;

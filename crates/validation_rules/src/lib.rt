@@ -1,7 +1,7 @@
 //! Rules on the operations and fragments of a document, given as lists of the names that they mention.
 //!
-//! Violations are collected up to a bound that the caller sets. `document_validation`, the crate above, reads the `parts` of a document and calls `add_..` for
-//! each rule.
+//! Violations are collected up to a bound that the caller sets. `document_validation`, the crate above, reads the
+//! `parts` of a document and calls `add_..` for each rule.
 #![tactic(auto)]
 
 mod definition_parts;

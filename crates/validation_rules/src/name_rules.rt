@@ -24,7 +24,8 @@ fn add_repeat<'t>(
     item: &Mention<'t>,
     first: &Mention<'t>,
 ) -> Result<(), AllocError>
-    ensures { OnOk result (Adds (λ b. b ≡ breach rule (as_named item.now).place (Some (as_named first.now).place)) ⊥ violations.old violations.new) }
+    ensures { OnOk result (Adds (λ b. b ≡ breach rule (as_named item.now).place (Some (as_named first.now).place)) ⊥
+        violations.old violations.new) }
 {
     violations.add(rule, item.node, Some(first.node))
 }
@@ -37,7 +38,8 @@ pub fn add_repeats<'t>(
     items: &[Mention<'t>],
 ) -> Result<(), AllocError>
     requires { AreApart (map as_named items.now) }
-    ensures { OnOk result (Adds (Repeats rule (map as_named items.now)) (AreUnique (map as_named items.now)) violations.old violations.new) }
+    ensures { OnOk result (Adds (Repeats rule (map as_named items.now)) (AreUnique (map as_named items.now))
+        violations.old violations.new) }
 {
     let mut numbers: BTreeMap<&'t str, usize> = BTreeMap::new(alloc);
     for (number, item) in items.iter().enumerate() {
@@ -60,7 +62,9 @@ pub(crate) fn add_unknown<'t, V>(
     known: &BTreeMap<&'t str, V>,
 ) -> Result<(), AllocError>
     requires { AreApart (map as_named items.now) }
-    ensures { OnOk result (Adds (IsUnknown rule (option_map node_place other.entry) (HasEntry known.now) (map as_named items.now)) (AreKnown (HasEntry known.now) (map as_named items.now)) violations.old violations.new) }
+    ensures { OnOk result (Adds
+        (IsUnknown rule (option_map node_place other.entry) (HasEntry known.now) (map as_named items.now))
+        (AreKnown (HasEntry known.now) (map as_named items.now)) violations.old violations.new) }
 {
     for item in items {
         if violations.is_full() {
@@ -88,7 +92,8 @@ pub fn add_anonymous<'t>(
 ) -> Result<(), AllocError>
     requires document { AreInOneDocument (map as_parts parts.now) }
     requires numbers { numbers.now ≡ operations (map as_parts parts.now) }
-    ensures { OnOk result (Adds (IsNotAlone (map as_parts parts.now)) (AnonymousIsAlone (map as_parts parts.now)) violations.old violations.new) }
+    ensures { OnOk result (Adds (IsNotAlone (map as_parts parts.now)) (AnonymousIsAlone (map as_parts parts.now))
+        violations.old violations.new) }
 {
     for number in numbers {
         if violations.is_full() {

@@ -24,7 +24,8 @@ pub fn add_undefined_spreads<'t>(
 ) -> Result<(), AllocError>
     requires document { AreInOneDocument (map as_parts parts.now) }
     requires fragments { AreFirstNumbers fragments.now (fragment_names (definitions (map as_parts parts.now))) }
-    ensures { OnOk result (Adds (IsUndefinedSpread (map as_parts parts.now)) (SpreadsAreDefined (map as_parts parts.now)) violations.old violations.new) }
+    ensures { OnOk result (Adds (IsUndefinedSpread (map as_parts parts.now))
+        (SpreadsAreDefined (map as_parts parts.now)) violations.old violations.new) }
 {
     for number in 0..parts.len() {
         if violations.is_full() {
@@ -53,7 +54,8 @@ pub fn add_unused_fragments<'t>(
     requires graph { IsSpreadGraph (map as_parts parts.now) graph.now }
     requires closed { IsClosed graph.now }
     requires numbers { numbers.now ≡ operations (map as_parts parts.now) }
-    ensures { OnOk result (Adds (IsUnusedFragment (map as_parts parts.now)) (FragmentsAreUsed (map as_parts parts.now)) violations.old violations.new) }
+    ensures { OnOk result (Adds (IsUnusedFragment (map as_parts parts.now)) (FragmentsAreUsed (map as_parts parts.now))
+        violations.old violations.new) }
 {
     let marks = reached(alloc, graph, numbers)?;
     for number in 0..parts.len() {
@@ -78,7 +80,8 @@ pub fn add_cycles<'t>(
     requires document { AreInOneDocument (map as_parts parts.now) }
     requires graph { IsSpreadGraph (map as_parts parts.now) graph.now }
     requires closed { IsClosed graph.now }
-    ensures { OnOk result (Adds (IsOnCycle (map as_parts parts.now)) (HasNoCycles (map as_parts parts.now)) violations.old violations.new) }
+    ensures { OnOk result (Adds (IsOnCycle (map as_parts parts.now)) (HasNoCycles (map as_parts parts.now))
+        violations.old violations.new) }
 {
     let found = returns(alloc, graph)?;
     for number in 0..parts.len() {

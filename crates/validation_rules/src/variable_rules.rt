@@ -40,7 +40,8 @@ fn used_names<'t>(
     numbers: &[usize],
 ) -> Result<BTreeMap<&'t str, usize>, AllocError>
     requires { All (λ number. number < length parts.now) numbers.now }
-    ensures { IfOk result (λ known. (name : Name) → HasEntry known name ↔ IsUsedAmong (map as_parts parts.now) numbers.now name) }
+    ensures { IfOk result (λ known. (name : Name)
+        → HasEntry known name ↔ IsUsedAmong (map as_parts parts.now) numbers.now name) }
 {
     let mut known: BTreeMap<&'t str, usize> = BTreeMap::new(alloc);
     for number in numbers {
@@ -56,7 +57,8 @@ fn declared_names<'t>(
     operation: usize,
 ) -> Result<BTreeMap<&'t str, usize>, AllocError>
     requires { operation < length parts.now }
-    ensures { IfOk result (λ known. (name : Name) → HasEntry known name ↔ IsDeclared (map as_parts parts.now) operation name) }
+    ensures { IfOk result (λ known. (name : Name)
+        → HasEntry known name ↔ IsDeclared (map as_parts parts.now) operation name) }
 {
     let mut known: BTreeMap<&'t str, usize> = BTreeMap::new(alloc);
     enter_names(&mut known, &part_at(parts, operation).declared)?;
@@ -75,7 +77,8 @@ fn add_unused<'t>(
     requires operation { operation < length parts.now }
     requires inside { All (λ number. number < length parts.now) reached.now }
     requires reached { AreReached (map as_parts parts.now) operation reached.now }
-    ensures { OnOk result (Adds (IsUnusedVariable (map as_parts parts.now) operation) (VariablesAreUsed (map as_parts parts.now) operation) violations.old violations.new) }
+    ensures { OnOk result (Adds (IsUnusedVariable (map as_parts parts.now) operation)
+        (VariablesAreUsed (map as_parts parts.now) operation) violations.old violations.new) }
 {
     let used = used_names(alloc, parts, reached)?;
     let party = Some(part_at(parts, operation).definition.node);
@@ -96,8 +99,10 @@ fn add_undefined<'t>(
     requires operation { operation < length parts.now }
     requires numbers { All (λ number. number < length parts.now) numbers.now }
     requires distinct { AreDistinct numbers.now }
-    requires declared { (name : Name) → HasEntry declared.now name ↔ IsDeclared (map as_parts parts.now) operation name }
-    ensures { OnOk result (Adds (Among numbers.now (UndefinedIn (map as_parts parts.now) operation)) (AllAmong numbers.now (DefinedIn (map as_parts parts.now) operation)) violations.old violations.new) }
+    requires declared { (name : Name)
+        → HasEntry declared.now name ↔ IsDeclared (map as_parts parts.now) operation name }
+    ensures { OnOk result (Adds (Among numbers.now (UndefinedIn (map as_parts parts.now) operation))
+        (AllAmong numbers.now (DefinedIn (map as_parts parts.now) operation)) violations.old violations.new) }
 {
     for number in numbers {
         if violations.is_full() {
@@ -133,7 +138,9 @@ fn add_operation<'t>(
     requires unmarked { AreUnmarked marks.old.items }
     ensures as_many { OnOk result (length marks.new.items ≡ length graph.now) }
     ensures unmarked { OnOk result (AreUnmarked marks.new.items) }
-    ensures adds { OnOk result (Adds (BreaksVariablesOf (map as_parts parts.now) operation) (VariablesAreWellOf (map as_parts parts.now) operation) violations.old violations.new) }
+    ensures adds { OnOk result
+        (Adds (BreaksVariablesOf (map as_parts parts.now) operation)
+        (VariablesAreWellOf (map as_parts parts.now) operation) violations.old violations.new) }
 {
     let found = reach(alloc, graph, operation, marks)?;
     let reached: &[usize] = &found;
@@ -143,7 +150,8 @@ fn add_operation<'t>(
     Ok(())
 }
 
-/// Adds the variables that an operation uses and does not declare, directly or through fragments, and those that it declares and does not use.
+/// Adds the variables that an operation uses and does not declare, directly or through fragments, and those that it
+/// declares and does not use.
 pub fn add_variables<'t>(
     alloc: Global,
     violations: &mut Violations<'t>,
@@ -155,7 +163,8 @@ pub fn add_variables<'t>(
     requires graph { IsSpreadGraph (map as_parts parts.now) graph.now }
     requires closed { IsClosed graph.now }
     requires numbers { numbers.now ≡ operations (map as_parts parts.now) }
-    ensures { OnOk result (Adds (BreaksVariables (map as_parts parts.now)) (VariablesAreWell (map as_parts parts.now)) violations.old violations.new) }
+    ensures { OnOk result (Adds (BreaksVariables (map as_parts parts.now)) (VariablesAreWell (map as_parts parts.now))
+        violations.old violations.new) }
 {
     let mut marks = vec![in alloc; false; graph.len()]?;
     for number in numbers {

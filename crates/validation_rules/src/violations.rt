@@ -2,7 +2,8 @@
 use apollo_tree::SyntaxNode;
 use std::alloc::{AllocError, Global};
 
-/// A rule of validation, under the name that graphql-js gives it, with its sections (GraphQL October 2021). The last two have no name there.
+/// A rule of validation, under the name that graphql-js gives it, with its sections (GraphQL October 2021). The last
+/// two have no name there.
 #[derive(Clone, Copy)]
 pub enum Rule {
     /// 5.1.1
@@ -145,7 +146,8 @@ impl<'t> Violations<'t> {
         node: SyntaxNode<'t>,
         other: Option<SyntaxNode<'t>>,
     ) -> Result<(), AllocError>
-        ensures { OnOk result (Adds (λ b. b ≡ breach rule (node_place node.entry) (option_map node_place other.entry)) ⊥ self.old self.new) }
+        ensures { OnOk result (Adds (λ b. b ≡ breach rule (node_place node.entry) (option_map node_place other.entry))
+            ⊥ self.old self.new) }
     {
         if !self.is_full() {
             self.list.push(Violation { rule, node, other })?;

@@ -2907,7 +2907,8 @@ impl InputFieldsDefinition {
 
 /// The definition of a directive (GraphQL October 2021, section 3.13, "Directives").
 ///
-/// *DirectiveDefinition*: Description? `directive` `@` Name ArgumentsDefinition? `repeatable`? `on` DirectiveLocations
+/// *DirectiveDefinition*: Description? `directive` `@` Name ArgumentsDefinition? `repeatable`? `on`
+/// DirectiveLocations
 #[derive(Debug, Clone, PartialEq, Eq, Hash)]
 pub struct DirectiveDefinition {
     pub(crate) syntax: SyntaxNode,

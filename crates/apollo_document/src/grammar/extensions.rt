@@ -16,7 +16,8 @@ use parser_rules::Message;
 use parser_state::ParserState;
 use std::alloc::{AllocError, Allocator};
 
-/// An extension of the type system (GraphQL October 2021, section 3, "Type System Extensions"), where `extend` comes next.
+/// An extension of the type system (GraphQL October 2021, section 3, "Type System Extensions"), where `extend` comes
+/// next.
 pub fn extensions<A: Allocator + Copy>(p: &mut ParserState<'_, A>) -> Result<(), AllocError>
     ensures { Parses (Call rule.Extensions) result p.old p.new }
 {

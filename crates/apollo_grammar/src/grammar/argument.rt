@@ -70,7 +70,8 @@ fn argument<A: Allocator + Copy>(
     Ok(())
 }
 
-/// The arguments of a field or a directive that is defined (GraphQL October 2021, section 3.6.1, "Field Arguments"), where `(` comes next.
+/// The arguments of a field or a directive that is defined (GraphQL October 2021, section 3.6.1, "Field Arguments"),
+/// where `(` comes next.
 ///     ArgumentsDefinition (3.6.1) : ( InputValueDefinition+ )
 pub fn arguments_definition<A: Allocator + Copy>(
     p: &mut ParserState<'_, A>,

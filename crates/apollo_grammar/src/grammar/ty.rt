@@ -103,7 +103,8 @@ pub fn named_type<A: Allocator + Copy>(p: &mut ParserState<'_, A>) -> Result<(),
     Ok(())
 }
 
-/// The root of a type that is parsed by itself, which opens around what is there. The checkpoint is the index before the leading text.
+/// The root of a type that is parsed by itself, which opens around what is there. The checkpoint is the index before
+/// the leading text.
 pub fn type_root<A: Allocator + Copy>(
     p: &mut ParserState<'_, A>,
     first: Checkpoint,

@@ -14,7 +14,8 @@ use parser_rules::{Constness, Message};
 use parser_state::ParserState;
 use std::alloc::{AllocError, Allocator};
 
-/// A value (GraphQL October 2021, section 2.9, "Input Values"). A token that starts none is reported, and popped where that is asked.
+/// A value (GraphQL October 2021, section 2.9, "Input Values"). A token that starts none is reported, and popped where
+/// that is asked.
 ///     Value[Const] (2.9) : [if not Const] Variable, IntValue, FloatValue, StringValue, BooleanValue, NullValue, EnumValue, ListValue[?Const], ObjectValue[?Const]
 #[cycle(value)]
 pub fn value<A: Allocator + Copy>(

@@ -94,7 +94,8 @@ fn push_change<'p>(
     Ok(())
 }
 
-/// Adds changes, each of a part of the text to a name, without the brackets of their list. It fails only where memory is refused.
+/// Adds changes, each of a part of the text to a name, without the brackets of their list. It fails only where memory
+/// is refused.
 pub fn push_changes<'p>(
     pieces: &mut Vec<Piece<'p>>,
     positions: &Positions<'_>,
@@ -224,8 +225,8 @@ fn push_shown<'p>(
     pieces.extend_from_slice(&[Piece::EndObject])
 }
 
-/// The answer to hover: what the document says of the name at a byte offset, or else another one that defines it, in a markup; or null. It fails only
-/// where memory is refused.
+/// The answer to hover: what the document says of the name at a byte offset, or else another one that defines it, in a
+/// markup; or null. It fails only where memory is refused.
 pub fn answer_hover(
     alloc: Global,
     id: &Value<'_>,

@@ -50,8 +50,8 @@ fn push_fold(
     pieces.extend_from_slice(fold_end(is_comment))
 }
 
-/// Adds the result of foldingRange: the folds of more than one line, in the order of the text. A description is a comment, and what else is folded is
-/// in brackets. It fails only where memory is refused.
+/// Adds the result of foldingRange: the folds of more than one line, in the order of the text. A description is a
+/// comment, and what else is folded is in brackets. It fails only where memory is refused.
 pub fn push_folds(
     pieces: &mut Vec<Piece<'_>>,
     root: SyntaxNode<'_>,
@@ -106,8 +106,8 @@ fn push_selection(
     push_parts(pieces, positions, &[end])
 }
 
-/// Adds the result of selectionRange: for each byte offset the parts around it, each with the next larger as its parent. It fails only where memory
-/// is refused.
+/// Adds the result of selectionRange: for each byte offset the parts around it, each with the next larger as its
+/// parent. It fails only where memory is refused.
 pub fn push_selections(
     alloc: Global,
     pieces: &mut Vec<Piece<'_>>,

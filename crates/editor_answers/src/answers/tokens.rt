@@ -13,7 +13,8 @@ use line_index::Position;
 use rpc_messages::{Piece, answer};
 use std::alloc::{AllocError, Global};
 
-// Adds the five numbers of a token that comes after another: how many lines and columns further it begins, its length, its type and no modifiers.
+// Adds the five numbers of a token that comes after another: how many lines and columns further it begins, its length,
+// its type and no modifiers.
 fn push_numbers(
     numbers: &mut Vec<usize>,
     positions: &Positions<'_>,

@@ -7,4 +7,5 @@ use Rattle.editor_text.proofs.replace_all.Given as goal
 
 abbrev pub invariant-loop-change : goal.invariant-loop-change
 invariant-loop-change l = AreFirstStarts (string_bytes l.text) l.lines
-    × (units l.encoding (string_bytes l.text) ≡ changed_all l.encoding (units l.encoding (string_bytes l.initial.text)) (take l.change-index l.changes))
+    × (units l.encoding (string_bytes l.text)
+    ≡ changed_all l.encoding (units l.encoding (string_bytes l.initial.text)) (take l.change-index l.changes))

@@ -15,13 +15,16 @@ slash rest = refl
 spelled : (rest : List ℕ) → path_of (codes "file://" ++ (47 ∷ rest)) ≡ Some (percent_decode (47 ∷ rest))
 spelled rest = refl
 
-names : (path rest : List ℕ) → path ≡ 47 ∷ rest → percent_decode (percent_encode ESCAPED path) ≡ path → path_of (uri_of path) ≡ Some path
+names : (path rest : List ℕ) → path ≡ 47 ∷ rest → percent_decode (percent_encode ESCAPED path) ≡ path
+    → path_of (uri_of path) ≡ Some path
 names path rest begins decoded =
-    let begun : percent_encode ESCAPED path ≡ 47 ∷ percent_encode ESCAPED rest = ap (percent_encode ESCAPED) begins ∙ slash rest in
+    let begun : percent_encode ESCAPED path ≡ 47 ∷ percent_encode ESCAPED rest =
+    ap (percent_encode ESCAPED) begins ∙ slash rest in
     ap (λ (x : List ℕ). path_of (codes "file://" ++ x)) begun ∙ spelled (percent_encode ESCAPED rest)
     ∙ ap (λ (x : List ℕ). Some (percent_decode x)) (sym begun) ∙ ap (λ (x : List ℕ). Some x) decoded
 
 pub returns-clause-names : goal.returns-clause-names
 returns-clause-names c = λ rest begins.
     ap path_of c.in_ok-uri.ensures ∙ ap (λ (x : List ℕ). path_of (uri_of x)) c.as_bytes.ensures.value
-    ∙ names _ rest begins (round_trip _ _ refl (All-from_get_or IsByte c.args.path.now 0 (λ i within. omega (arith, c.type_inv.path i))))
+    ∙ names _ rest begins (round_trip _ _ refl
+    (All-from_get_or IsByte c.args.path.now 0 (λ i within. omega (arith, c.type_inv.path i))))

@@ -33,7 +33,8 @@ block-trans a b c s t = record {
       (λ z. ∣ subst (Block c) (block-one b t.value s.value y x) z ∣₁)));
 }
 
-texts-trans : (k j : ℕ) (x y z : List ℕ) → k ≡ j → (x ≡ y) ⊎ ((k ≡ STRING) × SameBlock x y) → (y ≡ z) ⊎ ((j ≡ STRING) × SameBlock y z)
+texts-trans : (k j : ℕ) (x y z : List ℕ) → k ≡ j → (x ≡ y) ⊎ ((k ≡ STRING) × SameBlock x y)
+    → (y ≡ z) ⊎ ((j ≡ STRING) × SameBlock y z)
     → (x ≡ z) ⊎ ((k ≡ STRING) × SameBlock x z)
 texts-trans k j x y z e (inl a) (inl b) = inl (a ∙ b)
 texts-trans k j x y z e (inl a) (inr b) = inr (e ∙ b.0, subst (λ w. SameBlock w z) (sym a) b.1)
@@ -69,7 +70,8 @@ mutual
   all-alike-trans (t ▸ f) (u ▸ g) none a b = absurd b
   all-alike-trans (t ▸ f) (u ▸ g) (v ▸ h) a b = (alike-trans t u v a.0 b.0, all-alike-trans f g h a.1 b.1)
 
-turned-layout : (end : LineEnd) (source text : List ℕ) → Formatted source text → (t : Tree) → (own : Sentence source t a_document)
+turned-layout : (end : LineEnd) (source text : List ℕ) → Formatted source text → (t : Tree)
+    → (own : Sentence source t a_document)
     → HasLayoutOf source t own (turn end false text)
 turned-layout end source text f t own =
     let l = f.layout t own in
@@ -78,33 +80,42 @@ turned-layout end source text f t own =
     let cut = turned-cut end text items l.sentence.cut l.sentence.tokens in
     let tokens : are_tokens others ≡ true = turned-tokens end 0 items ∙ l.sentence.tokens in
     let same = turned-same end 0 0 items l.sentence.cut.each l.sentence.tokens in
-    let again = respelled text (turn end false text) items others l.tree l.sentence.cut l.sentence.tokens cut tokens same l.sentence in
-    let cuts : others ≡ again.sentence.items = one-cut (turn end false text) others again.sentence.items cut again.sentence.cut tokens in
+    let again = respelled text (turn end false text) items others l.tree l.sentence.cut l.sentence.tokens cut
+    tokens same l.sentence in
+    let cuts : others ≡ again.sentence.items =
+    one-cut (turn end false text) others again.sentence.items cut again.sentence.cut tokens in
     let marked : signs l.tree ≡ signs again.tree = sym (marks-alike false l.tree again.tree again.alike) in
-    let right : without_marked (signs l.tree) (Kept others) ≡ without_marked (signs again.tree) (Kept again.sentence.items) =
+    let right : without_marked (signs l.tree) (Kept others)
+    ≡ without_marked (signs again.tree) (Kept again.sentence.items) =
     ap (λ m. without_marked m (Kept others)) marked ∙ ap (λ i. without_marked (signs again.tree) (Kept i)) cuts in
     record {
       tree = again.tree;
       sentence = again.sentence;
-      alike = alike-trans (unsigned t) (unsigned l.tree) (unsigned again.tree) l.alike (unsigned-alike l.tree again.tree again.alike);
+      alike = alike-trans (unsigned t) (unsigned l.tree) (unsigned again.tree) l.alike
+          (unsigned-alike l.tree again.tree again.alike);
       words = subst (AreSameWords (without_marked (signs t) (Kept own.items))) right
-          (words-trans (without_marked (signs t) (Kept own.items)) (without_marked (signs l.tree) (Kept items)) (without_marked (signs l.tree) (Kept others))
+          (words-trans (without_marked (signs t) (Kept own.items)) (without_marked (signs l.tree) (Kept items))
+          (without_marked (signs l.tree) (Kept others))
           l.words (without-same (signs l.tree) (Kept items) (Kept others) same));
     }
 
-turned-formatted : (end : LineEnd) (source text : List ℕ) → Formatted source text → Formatted source (turn end false text)
+turned-formatted : (end : LineEnd) (source text : List ℕ) → Formatted source text
+    → Formatted source (turn end false text)
 turned-formatted end source text f = record { layout = turned-layout end source text f }
 
-pub document : (end : LineEnd) (source text : List ℕ) (r k : ℕ) → IsFormatted source r k text → IsFormatted source r k (with_line_end end text)
+pub document : (end : LineEnd) (source text : List ℕ) (r k : ℕ) → IsFormatted source r k text
+    → IsFormatted source r k (with_line_end end text)
 document end source text r k f = record {
   document = f.document;
   formatted = subst (Formatted source) (turn-is end text) (turned-formatted end source text f.formatted);
 }
 
-turned-holds : (end : LineEnd) (text : List ℕ) (items : List Item) → are_comments (Kept items) ≡ true → Holds text (Kept items)
+turned-holds : (end : LineEnd) (text : List ℕ) (items : List Item) → are_comments (Kept items) ≡ true
+    → Holds text (Kept items)
     → Holds (turn end false text) (Kept items)
 turned-holds end text items comments h =
-    let same = subst (λ words. AreSameWords words (Kept (turned_items end 0 h.items))) h.same (turned-same end 0 0 h.items h.cut.each h.tokens) in
+    let same = subst (λ words. AreSameWords words (Kept (turned_items end 0 h.items))) h.same
+    (turned-same end 0 0 h.items h.cut.each h.tokens) in
     record {
       items = turned_items end 0 h.items;
       cut = turned-cut end text h.items h.cut h.tokens;
@@ -112,11 +123,13 @@ turned-holds end text items comments h =
       same = same-words (Kept items) (Kept (turned_items end 0 h.items)) comments same;
     }
 
-pub comments : (end : LineEnd) (source text : List ℕ) → HasSameComments source text → HasSameComments source (with_line_end end text)
+pub comments : (end : LineEnd) (source text : List ℕ) → HasSameComments source text
+    → HasSameComments source (with_line_end end text)
 comments end source text c =
     let only = c.only in
     record {
       only = only;
       same = subst (λ t. Holds t (Kept only.items)) (turn-is end text)
-          (turned-holds end text only.items (comments-kept only.items (ignored-of only.items only.tokens only.none)) c.same);
+          (turned-holds end text only.items (comments-kept only.items (ignored-of only.items only.tokens only.none))
+          c.same);
     }

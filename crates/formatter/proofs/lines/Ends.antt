@@ -1,6 +1,6 @@
 -- One line end for all, byte by byte.
-use Rattle.std.proofs.Common.{◌≡◌, ℕ, suc, ◌<◌, Bool, true, false, cond, ◌⊎◌, ◌&&◌, List, [], ◌∷◌, ◌++◌, length}
-use Rattle.std.proofs.Common.{Option, Some, None, refl, sym, ap, ◌∙◌, subst, inl, inr, eqb, eqb-true, arith, append_assoc}
+use Rattle.std.proofs.Common.{◌≡◌, ℕ, suc, ◌<◌, Bool, true, false, cond, ◌⊎◌, ◌&&◌, List, [], ◌∷◌, ◌++◌, length, Option}
+use Rattle.std.proofs.Common.{Some, None, refl, sym, ap, ◌∙◌, subst, inl, inr, eqb, eqb-true, arith, append_assoc}
 use Rattle.std.specs.Prelude.{not, slice_index}
 use Rattle.std.specs.Option.{is_some}
 use Rattle.std.specs.List.{flat_map, list_all}
@@ -15,7 +15,8 @@ use Rattle.formatter.specs.declared.line_ends.LineEnd.{LineEnd}
 use Rattle.formatter.specs.declared.line_ends.LineEnd.TheVariants.{Lf, Crlf}
 use Rattle.formatter.specs.LineEnds.{end_bytes, joined_by, with_line_end, HasLineEnd}
 
--- the text with this end for each line end, where the byte before it is a CR or not: an LF behind a CR is written with it
+-- the text with this end for each line end, where the byte before it is a CR or not: an LF behind a CR is written with
+-- it
 abbrev pub turn : LineEnd → Bool → List ℕ → List ℕ
 turn end cr [] = []
 turn end cr (c ∷ text) =
@@ -30,20 +31,25 @@ ends_cr cr (c ∷ text) = ends_cr (eqb c 13) text
 pub byte : (c : ℕ) → (c ≡ 13) ⊎ ((c ≡ 10) ⊎ (is_line_terminator c ≡ false))
 byte c = elim (cases_Bool (eqb c 13)) [
   | inl e ↦ inl (eqb-true c 13 e)
-  | inr cr ↦ elim (cases_Bool (eqb c 10)) [ inl e ↦ inr (inl (eqb-true c 10 e)) | inr lf ↦ inr (inr (or_from _ _ lf cr)) ]
+  | inr cr ↦ elim (cases_Bool (eqb c 10))
+      [ inl e ↦ inr (inl (eqb-true c 10 e)) | inr lf ↦ inr (inr (or_from _ _ lf cr)) ]
 ]
 
-pub turn-plain : (end : LineEnd) (cr : Bool) (c : ℕ) (text : List ℕ) → is_line_terminator c ≡ false → turn end cr (c ∷ text) ≡ c ∷ turn end false text
-turn-plain end cr c text h = let q = or_parts (eqb c 10) (eqb c 13) h in let lf = q.0 in let back = q.1 in rw (back, lf) refl
+pub turn-plain : (end : LineEnd) (cr : Bool) (c : ℕ) (text : List ℕ) → is_line_terminator c ≡ false
+    → turn end cr (c ∷ text) ≡ c ∷ turn end false text
+turn-plain end cr c text h = let q = or_parts (eqb c 10) (eqb c 13) h in let lf = q.0 in let back = q.1 in
+    rw (back, lf) refl
 
-ends-plain : (cr : Bool) (c : ℕ) (text : List ℕ) → is_line_terminator c ≡ false → ends_cr cr (c ∷ text) ≡ ends_cr false text
+ends-plain : (cr : Bool) (c : ℕ) (text : List ℕ) → is_line_terminator c ≡ false
+    → ends_cr cr (c ∷ text) ≡ ends_cr false text
 ends-plain cr c text h = let q = or_parts (eqb c 10) (eqb c 13) h in ap (λ b. ends_cr b text) q.1
 
 end-append : (cr : Bool) (end xs ys : List ℕ) → cond cr (xs ++ ys) (end ++ (xs ++ ys)) ≡ cond cr xs (end ++ xs) ++ ys
 end-append true end xs ys = refl
 end-append false end xs ys = sym (append_assoc end xs ys)
 
-pub turn-append : (end : LineEnd) (cr : Bool) (xs ys : List ℕ) → turn end cr (xs ++ ys) ≡ turn end cr xs ++ turn end (ends_cr cr xs) ys
+pub turn-append : (end : LineEnd) (cr : Bool) (xs ys : List ℕ)
+    → turn end cr (xs ++ ys) ≡ turn end cr xs ++ turn end (ends_cr cr xs) ys
 turn-append end cr [] ys = refl
 turn-append end cr (c ∷ xs) ys = elim (byte c) [
   | inl e ↦
@@ -58,7 +64,8 @@ turn-append end cr (c ∷ xs) ys = elim (byte c) [
 ]
 
 -- a text without a line end stays
-pub unbroken-same : (end : LineEnd) (cr : Bool) (text : List ℕ) → list_all is_comment_character text ≡ true → turn end cr text ≡ text
+pub unbroken-same : (end : LineEnd) (cr : Bool) (text : List ℕ) → list_all is_comment_character text ≡ true
+    → turn end cr text ≡ text
 unbroken-same end cr [] h = refl
 unbroken-same end cr (c ∷ text) h =
     let q = and_parts (is_comment_character c) (list_all is_comment_character text) h in
@@ -71,7 +78,8 @@ unbroken-end (c ∷ text) h =
     ends-plain false c text (not-true _ q.0) ∙ unbroken-end text q.1
 
 -- and so does one whose line ends are LF already
-pub feeds-same : (text : List ℕ) → ((k : ℕ) → k < length text → eqb (slice_index text k) 13 ≡ true → ⊥) → turn Lf false text ≡ text
+pub feeds-same : (text : List ℕ) → ((k : ℕ) → k < length text → eqb (slice_index text k) 13 ≡ true → ⊥)
+    → turn Lf false text ≡ text
 feeds-same [] clear = refl
 feeds-same (c ∷ text) clear =
     let rest = feeds-same text (λ k lt. clear (suc k) (omega arith)) in
@@ -88,7 +96,8 @@ no-cr q h = grind (arith, nat_tests)
 no-lf : (q : ℕ) → is_comment_character q ≡ true → eqb q 10 ≡ false
 no-lf q h = grind (arith, nat_tests)
 
-begins-other : (end : LineEnd) (q : ℕ) (front rest : List ℕ) → is_comment_character q ≡ true → begins (q ∷ front) (end_bytes end ++ rest) ≡ false
+begins-other : (end : LineEnd) (q : ℕ) (front rest : List ℕ) → is_comment_character q ≡ true
+    → begins (q ∷ front) (end_bytes end ++ rest) ≡ false
 begins-other Lf q front rest h = let lf = no-lf q h in rw lf refl
 begins-other Crlf q front rest h = let cr = no-cr q h in rw cr refl
 
@@ -102,7 +111,8 @@ begins-same end (q ∷ front) (c ∷ text) h =
     elim (byte c) [
       | inl e ↦ rw e (begins-other end q front (turn end true text) p.0 ∙ rw cr refl)
       | inr (inl e) ↦ rw e (begins-other end q front (turn end false text) p.0 ∙ sym (begins-other Lf q front text p.0))
-      | inr (inr plain) ↦ ap (begins (q ∷ front)) (turn-plain end false c text plain) ∙ ap (λ b. eqb q c && b) (begins-same end front text p.1)
+      | inr (inr plain) ↦ ap (begins (q ∷ front)) (turn-plain end false c text plain)
+          ∙ ap (λ b. eqb q c && b) (begins-same end front text p.1)
     ]
 
 -- it is the text whose lines are joined so
@@ -113,16 +123,19 @@ quiet c (d ∷ text) h = let q = or_parts (eqb c 10) (eqb c 13) h in let lf = q.
 abbrev pub later_lines : LineEnd → List (List ℕ) → List ℕ
 later_lines end lines = flat_map (λ next. end_bytes end ++ next) lines
 
-onto-joined : (end : LineEnd) (c : ℕ) (lines : List (List ℕ)) → (lines ≡ [] → ⊥) → joined_by end (onto_first c lines) ≡ c ∷ joined_by end lines
+onto-joined : (end : LineEnd) (c : ℕ) (lines : List (List ℕ)) → (lines ≡ [] → ⊥)
+    → joined_by end (onto_first c lines) ≡ c ∷ joined_by end lines
 onto-joined end c [] some = absurd (some refl)
 onto-joined end c (line ∷ lines) some = refl
 
-end-joined : (end : LineEnd) (lines : List (List ℕ)) → (lines ≡ [] → ⊥) → end_bytes end ++ joined_by end lines ≡ joined_by end ([] ∷ lines)
+end-joined : (end : LineEnd) (lines : List (List ℕ)) → (lines ≡ [] → ⊥)
+    → end_bytes end ++ joined_by end lines ≡ joined_by end ([] ∷ lines)
 end-joined end [] some = absurd (some refl)
 end-joined Lf (line ∷ lines) some = refl
 end-joined Crlf (line ∷ lines) some = refl
 
-after-cr : (end : LineEnd) (d : ℕ) (text : List ℕ) → eqb d 10 ≡ false → turn end true (d ∷ text) ≡ turn end false (d ∷ text)
+after-cr : (end : LineEnd) (d : ℕ) (text : List ℕ) → eqb d 10 ≡ false
+    → turn end true (d ∷ text) ≡ turn end false (d ∷ text)
 after-cr end d text h = rw h refl
 
 cr-alone : (d : ℕ) (text : List ℕ) → eqb d 10 ≡ false → Lines (13 ∷ d ∷ text) ≡ [] ∷ Lines (d ∷ text)
@@ -137,14 +150,18 @@ turn-is end (c ∷ []) = elim (byte c) [
 ]
 turn-is end (c ∷ d ∷ text) = elim (byte c) [
   | inl e ↦ rw e (elim (cases_Bool (eqb d 10)) [
-    | inl f ↦ (let lf = eqb-true d 10 f in rw lf (ap (λ l. end_bytes end ++ l) (turn-is end text) ∙ end-joined end (Lines text) (some-line text)))
+    | inl f ↦ (let lf = eqb-true d 10 f in
+        rw lf (ap (λ l. end_bytes end ++ l) (turn-is end text) ∙ end-joined end (Lines text) (some-line text)))
     | inr f ↦
-        ap (λ l. end_bytes end ++ l) (after-cr end d text f ∙ turn-is end (d ∷ text)) ∙ end-joined end (Lines (d ∷ text)) (some-line (d ∷ text))
+        ap (λ l. end_bytes end ++ l) (after-cr end d text f ∙ turn-is end (d ∷ text))
+        ∙ end-joined end (Lines (d ∷ text)) (some-line (d ∷ text))
         ∙ sym (ap (joined_by end) (cr-alone d text f))
   ])
-  | inr (inl e) ↦ rw e (ap (λ l. end_bytes end ++ l) (turn-is end (d ∷ text)) ∙ end-joined end (Lines (d ∷ text)) (some-line (d ∷ text)))
+  | inr (inl e) ↦ rw e (ap (λ l. end_bytes end ++ l) (turn-is end (d ∷ text))
+      ∙ end-joined end (Lines (d ∷ text)) (some-line (d ∷ text)))
   | inr (inr h) ↦
-      turn-plain end false c (d ∷ text) h ∙ ap (λ l. c ∷ l) (turn-is end (d ∷ text)) ∙ sym (onto-joined end c (Lines (d ∷ text)) (some-line (d ∷ text)))
+      turn-plain end false c (d ∷ text) h ∙ ap (λ l. c ∷ l) (turn-is end (d ∷ text))
+      ∙ sym (onto-joined end c (Lines (d ∷ text)) (some-line (d ∷ text)))
       ∙ sym (ap (joined_by end) (quiet c (d ∷ text) h))
 ]
 
@@ -163,14 +180,17 @@ same-lines end (c ∷ []) = elim (byte c) [
 ]
 same-lines end (c ∷ d ∷ text) = elim (byte c) [
   | inl e ↦ rw e (elim (cases_Bool (eqb d 10)) [
-    | inl f ↦ (let lf = eqb-true d 10 f in rw lf (end-lines end (turn end false text) ∙ ap (λ l. [] ∷ l) (same-lines end text)))
+    | inl f ↦ (let lf = eqb-true d 10 f in
+        rw lf (end-lines end (turn end false text) ∙ ap (λ l. [] ∷ l) (same-lines end text)))
     | inr f ↦
-        end-lines end (turn end true (d ∷ text)) ∙ ap (λ t. [] ∷ Lines t) (after-cr end d text f) ∙ ap (λ l. [] ∷ l) (same-lines end (d ∷ text))
+        end-lines end (turn end true (d ∷ text)) ∙ ap (λ t. [] ∷ Lines t) (after-cr end d text f)
+        ∙ ap (λ l. [] ∷ l) (same-lines end (d ∷ text))
         ∙ sym (cr-alone d text f)
   ])
   | inr (inl e) ↦ rw e (end-lines end (turn end false (d ∷ text)) ∙ ap (λ l. [] ∷ l) (same-lines end (d ∷ text)))
   | inr (inr h) ↦
-      ap Lines (turn-plain end false c (d ∷ text) h) ∙ quiet c (turn end false (d ∷ text)) h ∙ ap (onto_first c) (same-lines end (d ∷ text))
+      ap Lines (turn-plain end false c (d ∷ text) h) ∙ quiet c (turn end false (d ∷ text)) h
+      ∙ ap (onto_first c) (same-lines end (d ∷ text))
       ∙ sym (quiet c (d ∷ text) h)
 ]
 
@@ -182,7 +202,8 @@ clear-feeds : (text : List ℕ) (r : Option ℕ) → IsFirstByte (is_byte 13) te
 clear-feeds text (Some i) f none = absurd (cc)
 clear-feeds text None f none = sym (feeds-same text (λ k lt. f k (omega arith) lt)) ∙ turn-is Lf text
 
-pub no-cr-feeds : (text bytes : List ℕ) (r : Option ℕ) (none : Bool) → bytes ≡ text → IsFirstByte (is_byte 13) bytes r → is_some r ≡ not none → none ≡ true
+pub no-cr-feeds : (text bytes : List ℕ) (r : Option ℕ) (none : Bool) → bytes ≡ text → IsFirstByte (is_byte 13) bytes r
+    → is_some r ≡ not none → none ≡ true
     → HasLineEnd Lf text
 no-cr-feeds text bytes r none e f some is =
     clear-feeds text r (subst (λ b. IsFirstByte (is_byte 13) b r) e f) (some ∙ ap not is)

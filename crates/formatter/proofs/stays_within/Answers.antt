@@ -11,7 +11,8 @@ count-requires-clause-fits c = inl (omega (arith, answers-fit c.new.result))
 
 pub returns-then-text-token_limit-clause-yes : goal.returns-then-text-token_limit-clause-yes
 returns-then-text-token_limit-clause-yes c = λ e source r formatted.
-    formatted-within source c.args.text.now r c.args.token_limit (is-cut c.args.text.now c.utf8.text) (omega (arith, few-from 0 0 c.args.text.now)) formatted
+    formatted-within source c.args.text.now r c.args.token_limit (is-cut c.args.text.now c.utf8.text)
+    (omega (arith, few-from 0 0 c.args.text.now)) formatted
 
 pub returns-else-text-token_limit-clause-yes : goal.returns-else-text-token_limit-clause-yes
 returns-else-text-token_limit-clause-yes c = λ e source r formatted.

@@ -3,8 +3,8 @@ ghost use Rattle.std.specs.Prelude.{◌≡◌, ◌≤◌, decimal, drop};
 
 use itoa::Integer;
 
-/// A number of bytes and its digits. An item begins where the one before it ends, so its first digits are at hand. The number has 128 bits, since no
-/// contract of an item says that its end fits in fewer.
+/// A number of bytes and its digits. An item begins where the one before it ends, so its first digits are at hand. The
+/// number has 128 bits, since no contract of an item says that its end fits in fewer.
 #[derive(Drop)]
 pub struct Digits {
     number: u128,

@@ -22,7 +22,8 @@ fn shown<'i>(error: &BorrowedError<'i>) -> &'i str
 
 /// Puts the printed form of an error.
 pub fn put_error<W: Sink>(buffer: &mut OutputBuffer, writer: &mut W, error: &BorrowedError<'_>)
-    ensures { PutsSome (IsErrorForm (error_of error.now)) (buffer.old, W.account writer.old) (buffer.new, W.account writer.new) }
+    ensures { PutsSome (IsErrorForm (error_of error.now)) (buffer.old, W.account writer.old)
+        (buffer.new, W.account writer.new) }
 {
     let data = error.data();
     let (words, quoted, found) = error.message_parts();
@@ -37,7 +38,8 @@ pub fn put_error<W: Sink>(buffer: &mut OutputBuffer, writer: &mut W, error: &Bor
 // Puts a line for each of the errors.
 #[tactic(auto, using(crate::proofs::Lines::lines_put_none))]
 fn put_lines<W: Sink>(buffer: &mut OutputBuffer, writer: &mut W, errors: &[BorrowedError<'_>])
-    ensures { PutsSome (AreLines (λ e. IsErrorForm (error_of e)) errors.now) (buffer.old, W.account writer.old) (buffer.new, W.account writer.new) }
+    ensures { PutsSome (AreLines (λ e. IsErrorForm (error_of e)) errors.now) (buffer.old, W.account writer.old)
+        (buffer.new, W.account writer.new) }
 {
     for error in errors {
         put_error(buffer, writer, error);
@@ -48,7 +50,8 @@ fn put_lines<W: Sink>(buffer: &mut OutputBuffer, writer: &mut W, errors: &[Borro
 /// Puts `clean`, or the errors and their number.
 #[tactic(auto, using(crate::proofs::Verdicts::clean_put, crate::proofs::Verdicts::report_put))]
 pub fn put_errors<W: Sink>(buffer: &mut OutputBuffer, writer: &mut W, errors: &[BorrowedError<'_>])
-    ensures { PutsSome (IsVerdict (map error_of errors.now)) (buffer.old, W.account writer.old) (buffer.new, W.account writer.new) }
+    ensures { PutsSome (IsVerdict (map error_of errors.now)) (buffer.old, W.account writer.old)
+        (buffer.new, W.account writer.new) }
 {
     if errors.is_empty() {
         buffer.put_str(writer, "clean\n");

@@ -8,7 +8,8 @@ ghost use Rattle.gqlcst_run.specs.Rendering.{IsForm, IsFormAfter};
 use crate::output_buffer::OutputBuffer;
 use byte_streams::Sink;
 
-// Whether a byte is written as it is between quotes: a character of ASCII that prints, but for the quote and the backslash.
+// Whether a byte is written as it is between quotes: a character of ASCII that prints, but for the quote and the
+// backslash.
 #[inline(always)]
 fn is_plain(byte: u8) -> bool
     ensures { result ≡ is_plain byte }
@@ -30,7 +31,8 @@ fn plain_len(bytes: &[u8]) -> usize
     bytes.iter().take_while(|b| is_plain(**b)).count()
 }
 
-// Whether all bytes are plain. A long text is gone over to its end, since a loop without an early end takes many bytes at a time.
+// Whether all bytes are plain. A long text is gone over to its end, since a loop without an early end takes many bytes
+// at a time.
 #[inline(always)]
 fn are_plain(bytes: &[u8]) -> bool
     ensures { result ≡ list_all is_plain bytes.now }
@@ -84,7 +86,8 @@ impl OutputBuffer {
     // Puts a control character's number, as `\u{1}`.
     #[cold]
     fn put_control<W: Sink>(&mut self, writer: &mut W, byte: u8)
-        ensures { Puts (self.old, W.account writer.old) (codes "\\u{" ++ (digits 16 false byte ++ codes "}")) (self.new, W.account writer.new) }
+        ensures { Puts (self.old, W.account writer.old) (codes "\\u{" ++ (digits 16 false byte ++ codes "}"))
+            (self.new, W.account writer.new) }
     {
         self.put(writer, b"\\u{");
         self.put_hex(writer, byte);
@@ -112,7 +115,8 @@ impl OutputBuffer {
     #[tactic(auto, using(crate::proofs::Quoting::front_put, crate::proofs::Quoting::escape_put))]
     fn put_front<W: Sink>(&mut self, writer: &mut W, bytes: &[u8]) -> usize
         requires { 0 < length bytes.now }
-        ensures puts { Puts (self.old, W.account writer.old) (flat_map (debug_escape 34) (take result bytes.now)) (self.new, W.account writer.new) }
+        ensures puts { Puts (self.old, W.account writer.old) (flat_map (debug_escape 34) (take result bytes.now))
+            (self.new, W.account writer.new) }
         ensures some { 0 < result }
         ensures within { result ≤ length bytes.now }
     {
@@ -128,7 +132,8 @@ impl OutputBuffer {
     // Puts a text of ASCII as it is written between quotes.
     #[tactic(auto, using(crate::proofs::Quoting::part_none, crate::proofs::Quoting::part_more, crate::proofs::Quoting::part_all))]
     fn put_ascii_escaped<W: Sink>(&mut self, writer: &mut W, bytes: &[u8])
-        ensures { Puts (self.old, W.account writer.old) (flat_map (debug_escape 34) bytes.now) (self.new, W.account writer.new) }
+        ensures { Puts (self.old, W.account writer.old) (flat_map (debug_escape 34) bytes.now)
+            (self.new, W.account writer.new) }
     {
         let mut rest = bytes;
         while !rest.is_empty() {
@@ -185,7 +190,8 @@ impl OutputBuffer {
 
     // Puts a text in quotes, with escapes.
     fn put_quoted_escaped<W: Sink>(&mut self, writer: &mut W, text: &str)
-        ensures { PutsSome (IsForm (debug_str text.now)) (self.old, W.account writer.old) (self.new, W.account writer.new) }
+        ensures { PutsSome (IsForm (debug_str text.now)) (self.old, W.account writer.old)
+            (self.new, W.account writer.new) }
     {
         self.put(writer, b"\"");
         self.put_escaped(writer, text);
@@ -196,7 +202,8 @@ impl OutputBuffer {
     #[inline(always)]
     #[tactic(auto, using(crate::proofs::Quoting::plain_put, crate::proofs::Quoting::quoted_put))]
     pub fn put_quoted_after<W: Sink>(&mut self, writer: &mut W, front: &str, text: &str)
-        ensures { PutsSome (IsFormAfter front.now (debug_str text.now)) (self.old, W.account writer.old) (self.new, W.account writer.new) }
+        ensures { PutsSome (IsFormAfter front.now (debug_str text.now)) (self.old, W.account writer.old)
+            (self.new, W.account writer.new) }
     {
         let bytes = text.as_bytes();
         if are_plain(bytes) {
@@ -211,7 +218,8 @@ impl OutputBuffer {
     #[inline(always)]
     #[tactic(auto, using(crate::proofs::Quoting::plain_parts_put))]
     fn put_escaped_parts<W: Sink>(&mut self, writer: &mut W, front: &str, middle: &str, back: &str)
-        ensures { PutsSome (IsEscaped (front.now ++ middle.now ++ back.now)) (self.old, W.account writer.old) (self.new, W.account writer.new) }
+        ensures { PutsSome (IsEscaped (front.now ++ middle.now ++ back.now)) (self.old, W.account writer.old)
+            (self.new, W.account writer.new) }
     {
         let (one, two, three) = (front.as_bytes(), middle.as_bytes(), back.as_bytes());
         if are_plain(one) && are_plain(two) && are_plain(three) {
@@ -231,7 +239,8 @@ impl OutputBuffer {
         middle: &str,
         back: &str,
     )
-        ensures { PutsSome (IsForm (debug_str (front.now ++ middle.now ++ back.now))) (self.old, W.account writer.old) (self.new, W.account writer.new) }
+        ensures { PutsSome (IsForm (debug_str (front.now ++ middle.now ++ back.now))) (self.old, W.account writer.old)
+            (self.new, W.account writer.new) }
     {
         self.put(writer, b"\"");
         self.put_escaped_parts(writer, front, middle, back);

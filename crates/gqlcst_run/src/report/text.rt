@@ -32,10 +32,11 @@ impl OutputBuffer {
         self.put_str(writer, digits.format(number));
     }
 
-    /// Puts the bytes from where to where a text of an error is, as `5:10`. The sum is made in 128 bits, since no contract of an error says that it fits
-    /// in fewer.
+    /// Puts the bytes from where to where a text of an error is, as `5:10`. The sum is made in 128 bits, since no
+    /// contract of an error says that it fits in fewer.
     pub fn put_span<W: Sink>(&mut self, writer: &mut W, start: usize, len: usize)
-        ensures { Puts (self.old, W.account writer.old) (decimal start ++ (codes ":" ++ decimal (start + len))) (self.new, W.account writer.new) }
+        ensures { Puts (self.old, W.account writer.old) (decimal start ++ (codes ":" ++ decimal (start + len)))
+            (self.new, W.account writer.new) }
     {
         self.put_number(writer, start);
         self.put_str(writer, ":");
@@ -44,7 +45,8 @@ impl OutputBuffer {
 
     /// Puts the bytes from where to where something is, with a mark between them, as `5..10`.
     pub fn put_range<W: Sink>(&mut self, writer: &mut W, start: usize, mark: &str, end: usize)
-        ensures { Puts (self.old, W.account writer.old) (decimal start ++ (mark.now ++ decimal end)) (self.new, W.account writer.new) }
+        ensures { Puts (self.old, W.account writer.old) (decimal start ++ (mark.now ++ decimal end))
+            (self.new, W.account writer.new) }
     {
         self.put_number(writer, start);
         self.put_str(writer, mark);

@@ -23,7 +23,8 @@ fn put_head<W: Sink>(
     start: usize,
     len: usize,
 )
-    ensures { Puts (buffer.old, W.account writer.old) (range_text name.now start (start + len)) (buffer.new, W.account writer.new) }
+    ensures { Puts (buffer.old, W.account writer.old) (range_text name.now start (start + len))
+        (buffer.new, W.account writer.new) }
 {
     offset.move_to(start as u128);
     buffer.put_four(writer, name.as_bytes(), b"@", offset.digits(), b":");
@@ -38,7 +39,8 @@ fn put_token<W: Sink>(
     offset: &mut Digits,
     token: Token<'_>,
 )
-    ensures { PutsSome (IsForm (token_text token.entry.kind token.entry.text.now token.entry.index)) (buffer.old, W.account writer.old) (buffer.new, W.account writer.new) }
+    ensures { PutsSome (IsForm (token_text token.entry.kind token.entry.text.now token.entry.index))
+        (buffer.old, W.account writer.old) (buffer.new, W.account writer.new) }
 {
     let text = token.data();
     put_head(
@@ -62,7 +64,8 @@ fn put_lex_error<W: Sink>(
     offset: &mut Digits,
     error: LexError<'_>,
 )
-    ensures { PutsSome (IsAnswerForm (error_answer error.entry.is_limit error.entry.text.now error.entry.index)) (buffer.old, W.account writer.old) (buffer.new, W.account writer.new) }
+    ensures { PutsSome (IsAnswerForm (error_answer error.entry.is_limit error.entry.text.now error.entry.index))
+        (buffer.old, W.account writer.old) (buffer.new, W.account writer.new) }
 {
     let text = error.data();
     let (front, quoted, back) = error.message_parts();
@@ -80,7 +83,8 @@ fn put_item<W: Sink>(
     offset: &mut Digits,
     item: Result<Token<'_>, LexError<'_>>,
 ) -> usize
-    ensures puts { PutsSome (IsAnswerForm (answer_of item.entry)) (buffer.old, W.account writer.old) (buffer.new, W.account writer.new) }
+    ensures puts { PutsSome (IsAnswerForm (answer_of item.entry)) (buffer.old, W.account writer.old)
+        (buffer.new, W.account writer.new) }
     ensures count { result ≡ error_count (answer_of item.entry ∷ []) }
 {
     match item {
@@ -95,9 +99,11 @@ fn put_item<W: Sink>(
     }
 }
 
-/// Puts a line for each item that is left, an error in place of the first that the limit leaves out. Answers the finding for the errors.
+/// Puts a line for each item that is left, an error in place of the first that the limit leaves out. Answers the
+/// finding for the errors.
 pub fn put_tokens<W: Sink>(buffer: &mut OutputBuffer, writer: &mut W, items: Lexer<'_>) -> Finding
-    ensures lines { PutsSome (AreLines IsAnswerForm (answers_left items.entry)) (buffer.old, W.account writer.old) (buffer.new, W.account writer.new) }
+    ensures lines { PutsSome (AreLines IsAnswerForm (answers_left items.entry)) (buffer.old, W.account writer.old)
+        (buffer.new, W.account writer.new) }
     ensures finding { result ≡ finding_of (error_count (answers_left items.entry)) }
 {
     answers_fit(&items);

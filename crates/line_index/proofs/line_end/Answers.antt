@@ -9,10 +9,12 @@ returns-in-Some-clause-line c =
     let rest = drop c.args.offset all in
     let same : c.args.offset + c.in-Some.length - c.args.offset ≡ c.in-Some.length = omega arith in
     ap (λ (n : ℕ). take n rest) same
-    ∙ sym (first-some rest (take (length all - c.args.offset) rest) c.in-Some.length (take_rest all c.args.offset) c.in-Some.ensures)
+    ∙ sym (first-some rest (take (length all - c.args.offset) rest) c.in-Some.length
+    (take_rest all c.args.offset) c.in-Some.ensures)
 
 pub returns-in-None-clause-line : goal.returns-in-None-clause-line
 returns-in-None-clause-line c =
     let all = c.args.bytes.now in
     let rest = drop c.args.offset all in
-    take_rest all c.args.offset ∙ sym (first-none rest (take (length all - c.args.offset) rest) (take_rest all c.args.offset) c.in-None.ensures)
+    take_rest all c.args.offset
+    ∙ sym (first-none rest (take (length all - c.args.offset) rest) (take_rest all c.args.offset) c.in-None.ensures)

@@ -21,5 +21,8 @@ by-lexer taken (gives item ∷ xs) = at (by-lexer taken xs) item.kind refl
 pub begins-reports : (items : List Answer) (state : State) → Onward true None items [] state
     → (later : List Report) × Reported true items (state.errors ++ later)
 begins-reports items state onward =
-    let l = by-lexer state.accepts (ahead state) in
-    (l.0, subst (λ (rs : List Report). Reported true items (rs ++ l.0)) (sym onward.are) (onward-all None [] state onward l.0 l.1))
+    let l = by-lexer state.accepts (ahead state) in (
+      l.0,
+      subst (λ (rs : List Report). Reported true items (rs ++ l.0)) (sym onward.are)
+          (onward-all None [] state onward l.0 l.1),
+    )

@@ -1,5 +1,7 @@
--- Where a part of a document is parsed by itself, one front of the answers has the leaves, and with the answers read after it the reports.
-use Rattle.std.proofs.Common.{◌≡◌, ℕ, ◌≤◌, Bool, true, false, List, [], ◌∷◌, ◌++◌, length, Option, Some, None, refl, sym, ap, ◌∙◌, subst, append_assoc, arith}
+-- Where a part of a document is parsed by itself, one front of the answers has the leaves, and with the answers read
+-- after it the reports.
+use Rattle.std.proofs.Common.{◌≡◌, ℕ, ◌≤◌, Bool, true, false, List, [], ◌∷◌, ◌++◌, length, Option, Some, None, refl}
+use Rattle.std.proofs.Common.{sym, ap, ◌∙◌, subst, append_assoc, arith}
 use Rattle.std.specs.Prelude.{filter, if◌then◌else◌, is_none}
 use Rattle.std.proofs.lemmas.List.{append_cancel_right}
 use Rattle.lexical_grammar.specs.declared.TokenKind.{TokenKind}
@@ -19,10 +21,12 @@ use Rattle.parser_rules.proofs.leaves.LeafCheck.{anything, leaf_check}
 use Rattle.parser_rules.proofs.leaves.OneLeaf.{first-leaves, first-leaves-left, root-part}
 use Rattle.parser_rules.proofs.reports.AlongItems.{reported-gone}
 use Rattle.parser_rules.proofs.runs.Fuel.{rules_deep}
-use Rattle.parser_rules.proofs.runs.TreesWithSources.{Source, aside, by-kind, flat, now_of, set_aside, source_at, sources, sources-append}
+use Rattle.parser_rules.proofs.runs.TreesWithSources.{Source, aside, by-kind, flat, now_of, set_aside, source_at}
+use Rattle.parser_rules.proofs.runs.TreesWithSources.{sources, sources-append}
 use Rattle.parser_rules.proofs.runs.Walk.{always, walk}
 
--- The leaves are of the front, and the reports of it and of the answers read after it: at most one token there is not ignored.
+-- The leaves are of the front, and the reports of it and of the answers read after it: at most one token there is not
+-- ignored.
 pub record OneFront (xs : List Answer) (ls : List Leaf) (rs : List Report) : Type 0 where
   pub front : List Answer
   pub ahead : List Answer
@@ -35,7 +39,8 @@ pub record OneFront (xs : List Answer) (ls : List Leaf) (rs : List Report) : Typ
 -- ---- what was read after the tree
 
 -- what waits is no token that shows
-aside-hidden : (item : Item) (pending_token : PendingToken) → source_at item item.kind ≡ aside pending_token → shows (gives item) ≡ false
+aside-hidden : (item : Item) (pending_token : PendingToken) → source_at item item.kind ≡ aside pending_token
+    → shows (gives item) ≡ false
 aside-hidden item pending_token = by-kind (λ found o. o ≡ aside pending_token
     → shown found ≡ false) item (λ e. refl) (λ k i e. absurd cc) (λ k own i e. ap is_none i)
   where
@@ -48,28 +53,33 @@ none-left [] e = omega arith
 none-left (limit_at index ∷ xs) e = none-left xs e
 none-left (gives item ∷ xs) e = absurd cc
 
-at-most-one : (xs : List Answer) (answer : Answer) → length (filter shows xs) ≤ 0 → length (filter shows (answer ∷ xs)) ≤ 1
-at-most-one xs answer h = elim (shows answer) as (λ b. length (if b then answer ∷ filter shows xs else filter shows xs) ≤ 1) [
-  | true ↦ omega (
-    arith,
-    h,
-  )
-  | false ↦ omega (arith, h)
-]
+at-most-one : (xs : List Answer) (answer : Answer) → length (filter shows xs) ≤ 0
+    → length (filter shows (answer ∷ xs)) ≤ 1
+at-most-one xs answer h =
+    elim (shows answer) as (λ b. length (if b then answer ∷ filter shows xs else filter shows xs) ≤ 1) [
+      | true ↦ omega (
+        arith,
+        h,
+      )
+      | false ↦ omega (arith, h)
+    ]
 
-few-shown : (xs : List Answer) (parts : List PendingToken) (found : Option Lexeme) → sources xs ≡ flat (set_aside parts) ++ now_of found
+few-shown : (xs : List Answer) (parts : List PendingToken) (found : Option Lexeme)
+    → sources xs ≡ flat (set_aside parts) ++ now_of found
     → length (filter shows xs) ≤ 1
 few-shown [] parts found e = omega arith
 few-shown (limit_at index ∷ xs) parts found e = few-shown xs parts found e
 few-shown (gives item ∷ xs) (pending_token ∷ parts) found e =
     let hidden = aside-hidden item pending_token (head-same e) in
-    subst (λ (b : Bool). length (if b then gives item ∷ filter shows xs else filter shows xs) ≤ 1) (sym hidden) (few-shown xs parts found (tail-same e))
+    subst (λ (b : Bool). length (if b then gives item ∷ filter shows xs else filter shows xs) ≤ 1) (sym hidden)
+    (few-shown xs parts found (tail-same e))
 few-shown (gives item ∷ xs) [] None e = absurd cc
 few-shown (gives item ∷ xs) [] (Some x) e = at-most-one xs (gives item) (none-left xs (tail-same e))
 
 -- ---- a run
 
-pub one-front : {rule : Rule} {state : State} (xs : List Answer) (limit : ℕ) (kind : SyntaxKind) → walk leaf_check rules_deep rule anything always ≡ true
+pub one-front : {rule : Rule} {state : State} (xs : List Answer) (limit : ℕ) (kind : SyntaxKind)
+    → walk leaf_check rules_deep rule anything always ≡ true
     → Runs rule (started xs limit kind) state
     → OneFront xs (leaves state.tree.here) state.errors
 one-front {state = state} xs limit kind check run =

@@ -1,7 +1,7 @@
--- A part of a document over a text: where nothing is reported, the tree's text is a sentence of the sort; and over a sentence within both
--- limits nothing is reported, and the tree is the sentence's derivation.
-use Rattle.std.proofs.Common.{◌≡◌, ℕ, ◌≤◌, true, List, [], ◌∷◌, ◌++◌, length, Option, Some, None, map, refl, sym, ap, ap₂, ◌∙◌, subst, append_assoc, append-nil}
-use Rattle.std.proofs.Common.{inl, inr}
+-- A part of a document over a text: where nothing is reported, the tree's text is a sentence of the sort; and over a
+-- sentence within both limits nothing is reported, and the tree is the sentence's derivation.
+use Rattle.std.proofs.Common.{◌≡◌, ℕ, ◌≤◌, true, List, [], ◌∷◌, ◌++◌, length, Option, Some, None, map, refl, sym, ap}
+use Rattle.std.proofs.Common.{ap₂, ◌∙◌, subst, append_assoc, append-nil, inl, inr}
 use Rattle.std.specs.Str.{IsUtf8}
 use Rattle.std.proofs.lemmas.List.{append_cancel_right}
 use Rattle.lexical_grammar.specs.Answers.{Answer, gives, limit_at, limited, answers_text}
@@ -24,16 +24,19 @@ use Rattle.parser_rules.specs.Open.{is_free, IsRoot}
 use Rattle.parser_rules.specs.RuleLanguage.{Rule}
 use Rattle.parser_rules.specs.Runs.{Runs}
 use Rattle.parser_rules.specs.State.{State, Report, Lexeme, PendingToken, ignored, finished}
-use Rattle.parser_rules.proofs.fragments.Parts.{Part, Outcome, Follows, outcome-sound, outcome-accepted, part-parsed, selections-root}
+use Rattle.parser_rules.proofs.fragments.Parts.{Part, Outcome, Follows, outcome-sound, outcome-accepted, part-parsed}
+use Rattle.parser_rules.proofs.fragments.Parts.{selections-root}
 use Rattle.parser_rules.proofs.fragments.RootChecks.{RootRule, selections_pass, type_passes, type-free}
 use Rattle.parser_rules.proofs.fragments.RootRuns.{is-root}
 use Rattle.parser_rules.proofs.fragments.TypeParts.{type-parsed}
 use Rattle.parser_rules.proofs.fragments.TypeRoots.{made-run}
 use Rattle.parser_rules.proofs.leaves.OneLeaf.{root-part}
 use Rattle.parser_rules.proofs.reports.Endings.{ends-well}
-use Rattle.parser_rules.proofs.reports.NoReport.{answers_tokens, all_tokens, item_tokens, given as given_by, ignored-tokens, EndsWell}
-use Rattle.parser_rules.proofs.runs.TreesWithSources.{TreesWithSources, none, leaf, node, Source, aside, text_of, erase, flat, set_aside, by-kind, now_of}
-use Rattle.parser_rules.proofs.runs.TreesWithSources.{sources, sources-append, source_at, FirstPart}
+use Rattle.parser_rules.proofs.reports.NoReport.{answers_tokens, all_tokens, item_tokens, given as given_by}
+use Rattle.parser_rules.proofs.reports.NoReport.{ignored-tokens, EndsWell}
+use Rattle.parser_rules.proofs.runs.TreesWithSources.{TreesWithSources, none, leaf, node, Source, aside, text_of, erase}
+use Rattle.parser_rules.proofs.runs.TreesWithSources.{flat, set_aside, by-kind, now_of, sources, sources-append}
+use Rattle.parser_rules.proofs.runs.TreesWithSources.{source_at, FirstPart}
 use Rattle.parser_rules.proofs.soundness.OverTexts.{RightFirst, before-at, right-report, sentence-answers}
 use Rattle.parser_rules.proofs.soundness.Soundness.{answers-append}
 
@@ -43,18 +46,22 @@ sources_text : List Source → Text
 sources_text [] = []
 sources_text (source ∷ os) = text_of source ++ sources_text os
 
-sources-text-append : (these_sources more_sources : List Source) → sources_text (these_sources ++ more_sources) ≡ sources_text these_sources
+sources-text-append : (these_sources more_sources : List Source)
+    → sources_text (these_sources ++ more_sources) ≡ sources_text these_sources
     ++ sources_text more_sources
 unfolding sources_text
 sources-text-append [] more_sources = refl
-sources-text-append (source ∷ these_sources) more_sources = ap (λ (t : Text). text_of source ++ t) (sources-text-append these_sources more_sources)
+sources-text-append (source ∷ these_sources) more_sources =
+    ap (λ (t : Text). text_of source ++ t) (sources-text-append these_sources more_sources)
     ∙ sym (append_assoc (text_of source) (sources_text these_sources) (sources_text more_sources))
 
 erased-text : (trees : TreesWithSources) → text (erase trees) ≡ sources_text (flat trees)
 unfolding sources_text
 erased-text none = refl
 erased-text (leaf source this_kind rest) = ap (λ (t : Text). text_of source ++ t) (erased-text rest)
-erased-text (node this_kind kids rest) = ap₂ (λ (a b : Text). a ++ b) (erased-text kids) (erased-text rest) ∙ sym (sources-text-append (flat kids) (flat rest))
+erased-text (node this_kind kids rest) =
+    ap₂ (λ (a b : Text). a ++ b) (erased-text kids) (erased-text rest)
+    ∙ sym (sources-text-append (flat kids) (flat rest))
 
 item-text : (item : Item) → text_of (source_at item item.kind) ≡ item.text
 item-text item = by-kind (λ found o. text_of o ≡ item.text) item refl (λ k i. refl) (λ k own i. refl)
@@ -73,12 +80,19 @@ record Halves (xs : List Answer) (these_sources more_sources : List Source) : Ty
   first : sources front ≡ these_sources
   second : sources back ≡ more_sources
 
-halves : (xs : List Answer) (these_sources more_sources : List Source) → these_sources ++ more_sources ≡ sources xs → Halves xs these_sources more_sources
+halves : (xs : List Answer) (these_sources more_sources : List Source) → these_sources ++ more_sources ≡ sources xs
+    → Halves xs these_sources more_sources
 halves xs [] more_sources e = record { front = []; back = xs; split = refl; first = refl; second = sym e }
 halves [] (source ∷ these_sources) more_sources e = absurd cc
 halves (limit_at index ∷ xs) (source ∷ these_sources) more_sources e =
     let h = halves xs (source ∷ these_sources) more_sources e in
-    record { front = limit_at index ∷ h.front; back = h.back; split = ap (λ (l : List Answer). limit_at index ∷ l) h.split; first = h.first; second = h.second }
+    record {
+      front = limit_at index ∷ h.front;
+      back = h.back;
+      split = ap (λ (l : List Answer). limit_at index ∷ l) h.split;
+      first = h.first;
+      second = h.second;
+    }
 halves (gives item ∷ xs) (source ∷ these_sources) more_sources e =
     let h = halves xs these_sources more_sources (tail-same e) in
     record {
@@ -90,15 +104,19 @@ halves (gives item ∷ xs) (source ∷ these_sources) more_sources e =
     }
 
 -- what waits has no tokens of the grammar
-aside-item : (item : Item) (pending_token : PendingToken) → source_at item item.kind ≡ aside pending_token → item_tokens item.kind item.text ≡ []
+aside-item : (item : Item) (pending_token : PendingToken) → source_at item item.kind ≡ aside pending_token
+    → item_tokens item.kind item.text ≡ []
 aside-item item pending_token = by-kind (λ found o. o ≡ aside pending_token
-    → item_tokens found item.text ≡ []) item (λ e. refl) (λ k i e. absurd cc) (λ k own i e. ignored-tokens k own item.text i)
+    → item_tokens found item.text ≡ []) item (λ e. refl) (λ k i e. absurd cc)
+    (λ k own i e. ignored-tokens k own item.text i)
 
-asides-none : (xs : List Answer) (parts : List PendingToken) → sources xs ≡ flat (set_aside parts) → answers_tokens xs ≡ []
+asides-none : (xs : List Answer) (parts : List PendingToken) → sources xs ≡ flat (set_aside parts)
+    → answers_tokens xs ≡ []
 asides-none [] parts e = refl
 asides-none (limit_at index ∷ xs) parts e = asides-none xs parts e
 asides-none (gives item ∷ xs) [] e = absurd cc
-asides-none (gives item ∷ xs) (pending_token ∷ parts) e = rw (aside-item item pending_token (head-same e)) (asides-none xs parts (tail-same e))
+asides-none (gives item ∷ xs) (pending_token ∷ parts) e =
+    rw (aside-item item pending_token (head-same e)) (asides-none xs parts (tail-same e))
 
 -- ---- the answers that are in the tree
 
@@ -107,56 +125,69 @@ unfolding ◌and◌
 tokens-before [] ys h = refl
 tokens-before (answer ∷ xs) ys h = and-i (and-l _ _ h) (tokens-before xs ys (and-r _ _ h))
 
-given-sources : (lexeme : Lexeme) (found : Option Lexeme) (items : List Answer) → found ≡ Some lexeme → ignored lexeme.kind ≡ None
+given-sources : (lexeme : Lexeme) (found : Option Lexeme) (items : List Answer) → found ≡ Some lexeme
+    → ignored lexeme.kind ≡ None
     → now_of found ++ sources items ≡ sources (given_by lexeme ∷ items)
 given-sources lexeme found items e i = ap (λ (z : Option Lexeme). now_of z ++ sources items) e ∙ rw i refl
 
 -- what follows begins with an answer
-then-one : (xs : List Answer) (answer : Answer) (ys : List Answer) → (other_answer : Answer) × (zs : List Answer) × (xs ++ answer ∷ ys ≡ other_answer ∷ zs)
+then-one : (xs : List Answer) (answer : Answer) (ys : List Answer)
+    → (other_answer : Answer) × (zs : List Answer) × (xs ++ answer ∷ ys ≡ other_answer ∷ zs)
 then-one [] answer ys = (answer, ys, refl)
 then-one (other_answer ∷ xs) answer ys = (other_answer, xs ++ answer ∷ ys, refl)
 
 finished-text : (state : State) → IsRoot state.tree → text (finished (left_out state)) ≡ text state.tree.here
-finished-text state root = ap (λ (above : List Open). text (close state.tree.here above).here) root.2 ∙ append-nil (text state.tree.here)
+finished-text state root =
+    ap (λ (above : List Open). text (close state.tree.here above).here) root.2 ∙ append-nil (text state.tree.here)
 
--- The tree's text is a sentence of the sort, and the tree its derivation, which nests within the limit and as deep as the greatest depth.
+-- The tree's text is a sentence of the sort, and the tree its derivation, which nests within the limit and as deep as
+-- the greatest depth.
 pub record IsSoundPart (sort : Sort) (max_depth : ℕ) (state : State) : Type 0 where
   pub sentence : Sentence (text (finished (left_out state))) (bare (tree_of (finished (left_out state)))) sort
   pub nesting : nest (bare (tree_of (finished (left_out state)))) ≤ max_depth
   pub high : state.high ≡ nest (bare (tree_of (finished (left_out state))))
 
 -- the answers of the tree's leaves, and those that wait
-parted : (sort : Sort) (max_depth : ℕ) (xs : List Answer) (state : State) (part : Part sort max_depth xs state) (trees : TreesWithSources)
+parted : (sort : Sort) (max_depth : ℕ) (xs : List Answer) (state : State) (part : Part sort max_depth xs state)
+    (trees : TreesWithSources)
     → FirstPart xs state trees → Halves part.front (flat trees) (flat (set_aside state.pending))
 parted sort max_depth xs state part trees first_part =
     let waits = flat (set_aside state.pending) in
     let after = sources (given_by part.lexeme ∷ state.items) in
-    let next : now_of state.current ++ sources state.items ≡ after = given-sources part.lexeme state.current state.items part.current part.shown in
+    let next : now_of state.current ++ sources state.items ≡ after =
+    given-sources part.lexeme state.current state.items part.current part.shown in
     let order : (flat trees ++ waits) ++ after ≡ sources part.front ++ after =
-    append_assoc (flat trees) waits after ∙ ap (λ (v : List Source). flat trees ++ (waits ++ v)) (sym next) ∙ first_part.order ∙ ap sources part.split
+    append_assoc (flat trees) waits after ∙ ap (λ (v : List Source). flat trees ++ (waits ++ v)) (sym next)
+    ∙ first_part.order ∙ ap sources part.split
     ∙ sources-append part.front (given_by part.lexeme ∷ state.items) in
     halves part.front (flat trees) waits (append_cancel_right (flat trees ++ waits) (sources part.front) after order)
 
-is-sound : (sort : Sort) (max_depth max_items : ℕ) (source : List ℕ) (items : List Item) (state : State) → Cut source items → IsRoot state.tree
-    → Part sort max_depth (limited max_items items) state → (trees : TreesWithSources) → FirstPart (limited max_items items) state trees
+is-sound : (sort : Sort) (max_depth max_items : ℕ) (source : List ℕ) (items : List Item) (state : State)
+    → Cut source items → IsRoot state.tree
+    → Part sort max_depth (limited max_items items) state → (trees : TreesWithSources)
+    → FirstPart (limited max_items items) state trees
     → IsSoundPart sort max_depth state
 is-sound sort max_depth max_items source items state cut root part trees first_part =
     let h = parted sort max_depth (limited max_items items) state part trees first_part in
     let one = then-one h.back (given_by part.lexeme) state.items in
     let split : limited max_items items ≡ h.front ++ one.0 ∷ one.1 =
-    part.split ∙ ap (λ (l : List Answer). l ++ given_by part.lexeme ∷ state.items) h.split ∙ append_assoc h.front h.back (given_by part.lexeme ∷ state.items)
+    part.split ∙ ap (λ (l : List Answer). l ++ given_by part.lexeme ∷ state.items) h.split
+    ∙ append_assoc h.front h.back (given_by part.lexeme ∷ state.items)
     ∙ ap (λ (l : List Answer). h.front ++ l) one.2 in
     let b = before-at max_items items h.front one.0 one.1 split (tokens-before h.front h.back
     (subst (λ (l : List Answer). all_tokens l ≡ true) h.split part.tokens)) in
     let ended : List Item = end_at (length (texts b.before)) ∷ [] in
-    let is : text (finished (left_out state)) ≡ texts b.before = finished-text state root ∙ ap text (sym first_part.tree) ∙ erased-text trees
+    let is : text (finished (left_out state)) ≡ texts b.before =
+    finished-text state root ∙ ap text (sym first_part.tree) ∙ erased-text trees
     ∙ ap sources_text (sym h.first) ∙ answers-text h.front ∙ b.text in
     let cut_there : Cut (texts b.before) (b.before ++ ended) = front-cut source b.before b.item b.more
     (subst (λ (l : List Item). Cut source l) b.split cut) b.tokens in
     let taken : answers_tokens part.front ≡ answers_tokens h.front =
-    ap answers_tokens h.split ∙ answers-append h.front h.back ∙ ap (λ (v : List Token). answers_tokens h.front ++ v) (asides-none h.back state.pending h.second)
+    ap answers_tokens h.split ∙ answers-append h.front h.back
+    ∙ ap (λ (v : List Token). answers_tokens h.front ++ v) (asides-none h.back state.pending h.second)
     ∙ append-nil (answers_tokens h.front) in
-    let words : Significant (b.before ++ ended) ≡ Significant b.before = significant-append b.before ended ∙ append-nil (Significant b.before) in
+    let words : Significant (b.before ++ ended) ≡ Significant b.before =
+    significant-append b.before ended ∙ append-nil (Significant b.before) in
     record {
       sentence = record {
         items = b.before ++ ended;
@@ -170,10 +201,12 @@ is-sound sort max_depth max_items source items state cut root part trees first_p
     }
 
 -- a run of a root's rule, from its outcome over the answers
-module _ (sort : Sort) (this_kind : SyntaxKind) {rule : Rule} (max_depth max_items : ℕ) (source : List ℕ) (items : List Item) (state : State)
+module _ (sort : Sort) (this_kind : SyntaxKind) {rule : Rule} (max_depth max_items : ℕ) (source : List ℕ)
+    (items : List Item) (state : State)
     (cut : Cut source items) (passes : RootRule this_kind rule) (free : is_free this_kind ≡ true)
     (run : Runs rule (started (limited max_items items) max_depth this_kind) state)
-    (outcome : EndsWell (limited max_items items) → IsRoot state.tree → Outcome sort max_depth (limited max_items items) state) where
+    (outcome : EndsWell (limited max_items items) → IsRoot state.tree
+    → Outcome sort max_depth (limited max_items items) state) where
   root : IsRoot state.tree
   root = is-root (limited max_items items) max_depth this_kind run free
 
@@ -183,7 +216,8 @@ module _ (sort : Sort) (this_kind : SyntaxKind) {rule : Rule} (max_depth max_ite
   -- Soundness.
   pub outcome-text : state.errors ≡ [] → IsSoundPart sort max_depth state
   outcome-text h = let p = root-part (limited max_items items) max_depth this_kind passes.leaves run in
-      is-sound sort max_depth max_items source items state cut root (outcome-sound sort max_depth (limited max_items items) comes h) p.0 p.1
+      is-sound sort max_depth max_items source items state cut root
+      (outcome-sound sort max_depth (limited max_items items) comes h) p.0 p.1
 
   -- Acceptance: nothing is reported, and the tree is the sentence's derivation.
   pub outcome-accepts : (tree : Tree) → Sentence source tree sort → Within source tree max_depth max_items
@@ -198,15 +232,24 @@ module _ (sort : Sort) (this_kind : SyntaxKind) {rule : Rule} (max_depth max_ite
       → RightFirst sort source items max_depth max_items (finished (left_out state)) this_report
   outcome-report u this_report more h = elim comes [
     | inl o ↦ right-report sort max_depth max_items source items cut u (left_out state) root
-        (record { report = o.report; more = o.more; reported = o.reported; taken = o.taken; right = o.right; settled = o.settled }) this_report more h
+        (record {
+          report = o.report;
+          more = o.more;
+          reported = o.reported;
+          taken = o.taken;
+          right = o.right;
+          settled = o.settled;
+        }) this_report more h
     | inr o ↦ no-cons (sym o.0 ∙ h)
   ]
 
-module _ (sort : Sort) (this_kind : SyntaxKind) {rule : Rule} (max_depth max_items : ℕ) (source : List ℕ) (items : List Item) (state : State)
+module _ (sort : Sort) (this_kind : SyntaxKind) {rule : Rule} (max_depth max_items : ℕ) (source : List ℕ)
+    (items : List Item) (state : State)
     (cut : Cut source items) (passes : RootRule this_kind rule) (free : is_free this_kind ≡ true)
     (follows : Follows sort max_depth (limited max_items items) this_kind rule)
     (run : Runs rule (started (limited max_items items) max_depth this_kind) state) where
-  outcome : EndsWell (limited max_items items) → IsRoot state.tree → Outcome sort max_depth (limited max_items items) state
+  outcome : EndsWell (limited max_items items) → IsRoot state.tree
+      → Outcome sort max_depth (limited max_items items) state
   outcome ends open_root = part-parsed sort max_depth (limited max_items items) this_kind follows ends open_root run
 
   pub sound-part : state.errors ≡ [] → IsSoundPart sort max_depth state
@@ -225,36 +268,43 @@ module _ (sort : Sort) (this_kind : SyntaxKind) {rule : Rule} (max_depth max_ite
 module _ (max_depth max_items : ℕ) (source : List ℕ) (items : List Item) (state : State) (cut : Cut source items)
     (run : Runs field_set (started (limited max_items items) max_depth kind.SELECTION_SET) state) where
   pub selections-sound : state.errors ≡ [] → IsSoundPart selections max_depth state
-  selections-sound = sound-part selections kind.SELECTION_SET max_depth max_items source items state cut selections_pass refl
+  selections-sound = sound-part selections kind.SELECTION_SET max_depth max_items source items state cut
+      selections_pass refl
       (selections-root max_depth (limited max_items items)) run
 
   pub selections-accepted : (tree : Tree) → Sentence source tree selections → Within source tree max_depth max_items
       → (state.errors ≡ []) × (bare (tree_of (finished (left_out state))) ≡ tree)
-  selections-accepted = accepts-part selections kind.SELECTION_SET max_depth max_items source items state cut selections_pass refl
+  selections-accepted = accepts-part selections kind.SELECTION_SET max_depth max_items source items state
+      cut selections_pass refl
       (selections-root max_depth (limited max_items items)) run
 
   pub selections-report : IsUtf8 source → (report : Report) (more : List Report) → state.errors ≡ report ∷ more
       → RightFirst selections source items max_depth max_items (finished (left_out state)) report
-  selections-report = report-part selections kind.SELECTION_SET max_depth max_items source items state cut selections_pass refl
+  selections-report = report-part selections kind.SELECTION_SET max_depth max_items source items state
+      cut selections_pass refl
       (selections-root max_depth (limited max_items items)) run
 
 -- ---- types
 
 module _ (max_depth max_items : ℕ) (source : List ℕ) (items : List Item) (state : State) (cut : Cut source items)
     (made : RunsTypeRoot (unopened (limited max_items items) max_depth) state) where
-  type-outcome : EndsWell (limited max_items items) → IsRoot state.tree → Outcome type max_depth (limited max_items items) state
+  type-outcome : EndsWell (limited max_items items) → IsRoot state.tree
+      → Outcome type max_depth (limited max_items items) state
   type-outcome ends _ = type-parsed max_depth (limited max_items items) ends made
 
   pub types-sound : state.errors ≡ [] → IsSoundPart type max_depth state
   types-sound = let m = made-run (limited max_items items) max_depth made in
-      outcome-text type m.kind max_depth max_items source items state cut (type_passes m.is) (type-free m.is) m.run type-outcome
+      outcome-text type m.kind max_depth max_items source items state cut (type_passes m.is) (type-free m.is)
+      m.run type-outcome
 
   pub types-accepted : (tree : Tree) → Sentence source tree type → Within source tree max_depth max_items
       → (state.errors ≡ []) × (bare (tree_of (finished (left_out state))) ≡ tree)
   types-accepted = let m = made-run (limited max_items items) max_depth made in
-      outcome-accepts type m.kind max_depth max_items source items state cut (type_passes m.is) (type-free m.is) m.run type-outcome
+      outcome-accepts type m.kind max_depth max_items source items state cut (type_passes m.is) (type-free m.is)
+      m.run type-outcome
 
   pub types-report : IsUtf8 source → (report : Report) (more : List Report) → state.errors ≡ report ∷ more
       → RightFirst type source items max_depth max_items (finished (left_out state)) report
   types-report = let m = made-run (limited max_items items) max_depth made in
-      outcome-report type m.kind max_depth max_items source items state cut (type_passes m.is) (type-free m.is) m.run type-outcome
+      outcome-report type m.kind max_depth max_items source items state cut (type_passes m.is) (type-free m.is)
+      m.run type-outcome

@@ -1,6 +1,8 @@
--- A run of a root's rule over the answers, where a part of a document is parsed by itself: its first report is right; or it reports nothing,
--- and the tree without its ignored leaves is a derivation of the tokens that were taken. More may follow them.
-use Rattle.std.proofs.Common.{◌≡◌, ℕ, ◌≤◌, true, eqb, List, [], ◌∷◌, ◌++◌, Option, Some, None, refl, sym, ap, ◌∙◌, subst, ◌⊎◌, inl, inr, eqb-true}
+-- A run of a root's rule over the answers, where a part of a document is parsed by itself: its first report is right;
+-- or it reports nothing, and the tree without its ignored leaves is a derivation of the tokens that were taken. More
+-- may follow them.
+use Rattle.std.proofs.Common.{◌≡◌, ℕ, ◌≤◌, true, eqb, List, [], ◌∷◌, ◌++◌, Option, Some, None, refl, sym, ap, ◌∙◌}
+use Rattle.std.proofs.Common.{subst, ◌⊎◌, inl, inr, eqb-true}
 use Rattle.std.proofs.lemmas.Bool.{eqb-false}
 use Rattle.lexical_grammar.specs.Answers.{Answer}
 use Rattle.lexical_grammar.specs.declared.TokenKind.TheVariants as token
@@ -22,7 +24,8 @@ use Rattle.grammar_machine.proofs.Run.{next}
 use Rattle.grammar_machine.proofs.Sound.{any, holds-one, first-any}
 use Rattle.grammar_machine.proofs.Steps.{closes-move}
 use Rattle.grammar_machine.proofs.TableLemmas.{no-cons}
-use Rattle.grammar_machine.specs.Machine.{holds as within, first as first_class, second as second_class, yields, opening, close as closes_move, frame}
+use Rattle.grammar_machine.specs.Machine.{holds as within, first as first_class, second as second_class, yields}
+use Rattle.grammar_machine.specs.Machine.{opening, close as closes_move, frame}
 use Rattle.parser_rules.specs.Fragments.{started, left_out, field_set}
 use Rattle.parser_rules.specs.Open.{IsRoot}
 use Rattle.parser_rules.specs.RuleLanguage.{Rule}
@@ -37,16 +40,20 @@ use Rattle.parser_rules.proofs.runs.Frame.{read-untouched}
 use Rattle.parser_rules.proofs.reports.NoReport.{answers_tokens, all_tokens, rest, given as given_by, EndsWell}
 use Rattle.parser_rules.proofs.soundness.MachineStack.{image, image-node}
 use Rattle.parser_rules.proofs.soundness.Moves.{next-classes, with-sets, flushed}
-use Rattle.parser_rules.proofs.soundness.Positions.{ParserInput, top, PositionHolds, StateFits, RightlyReported, RunOutcome, rightly-on, run-grows, current}
-use Rattle.parser_rules.proofs.soundness.Positions.{OnlyBuilds, flush-builds, unread-rest, unread-grows, certainty-forgotten, still-leveled, moved-on}
-use Rattle.parser_rules.proofs.soundness.Roots.{input_of, IsRootSymbol, Begins, symbol-begins, first_state, root-starts, root-ended, never-right}
+use Rattle.parser_rules.proofs.soundness.Positions.{ParserInput, top, PositionHolds, StateFits, RightlyReported}
+use Rattle.parser_rules.proofs.soundness.Positions.{RunOutcome, rightly-on, run-grows, current, OnlyBuilds}
+use Rattle.parser_rules.proofs.soundness.Positions.{flush-builds, unread-rest, unread-grows, certainty-forgotten}
+use Rattle.parser_rules.proofs.soundness.Positions.{still-leveled, moved-on}
+use Rattle.parser_rules.proofs.soundness.Roots.{input_of, IsRootSymbol, Begins, symbol-begins, first_state, root-starts}
+use Rattle.parser_rules.proofs.soundness.Roots.{root-ended, never-right}
 use Rattle.parser_rules.proofs.soundness.Simulation.{checked, simulation}
 use Rattle.parser_rules.proofs.soundness.Soundness.{finished-tree, words-before}
-use Rattle.parser_rules.proofs.soundness.TableCheck.{Then, counts_itself, absent_as_end, no_brace, part_may_end, keeps_to_table}
+use Rattle.parser_rules.proofs.soundness.TableCheck.{Then, counts_itself, absent_as_end, no_brace, part_may_end}
+use Rattle.parser_rules.proofs.soundness.TableCheck.{keeps_to_table}
 use Rattle.parser_rules.proofs.soundness.WithoutIgnored.{stack}
 
--- All answers before the current token are tokens; a derivation of the sort spells them. It nests within the limit, and as deep as the
--- greatest depth.
+-- All answers before the current token are tokens; a derivation of the sort spells them. It nests within the limit, and
+-- as deep as the greatest depth.
 pub record PartAs (sort : Sort) (max_depth : ℕ) (xs : List Answer) (state : State) (tree : Tree) : Type 0 where
   pub front : List Answer
   pub lexeme : Lexeme
@@ -109,16 +116,21 @@ module _ (sort : Sort) (max_depth : ℕ) (xs : List Answer) where
               certainty-forgotten R OpenWhateverFollows (frame (top R) 0 c.children ∷ []) state (flush state)
                   (unread-rest only_builds.reads_nothing) g.0.position.1,
             ) in
-            let near : within (class_of state.current) kept.set ≡ true = rw (current-class state.current state.items g.0.no_report.now, g.1) kept.first in
+            let near : within (class_of state.current) kept.set ≡ true =
+            rw (current-class state.current state.items g.0.no_report.now, g.1) kept.first in
             inr (record {
-              fits = moved-on R (with-sets R g.0 (record { near = near; far = g.0.seen.far })) only_builds.reads_nothing position;
-              built = flushed R state g.0.no_report ∙ ap stack (read-untouched xs (first_state xs max_depth building)).tree;
+              fits = moved-on R (with-sets R g.0 (record { near = near; far = g.0.seen.far }))
+                  only_builds.reads_nothing position;
+              built = flushed R state g.0.no_report
+                  ∙ ap stack (read-untouched xs (first_state xs max_depth building)).tree;
             }))
       ]
 
-  pub part-runs : {building : Building} {then : Then} {rule : Rule} {state : State} (kept : Keeps building then rule) → Starts building kept.set
+  pub part-runs : {building : Building} {then : Then} {rule : Rule} {state : State} (kept : Keeps building then rule)
+      → Starts building kept.set
       → Runs rule (first_token building) state → RunOutcome R (top R) [] then state
-  part-runs {then = then} {rule = rule} kept starts run = simulation R run rules_deep (top R) at_root_start kept.set any [] then
+  part-runs {then = then} {rule = rule} kept starts run =
+      simulation R run rules_deep (top R) at_root_start kept.set any [] then
       (checked R rules_deep (top R) at_root_start kept.set any rule then kept.follows) starts.fits
 
   -- Nothing is reported, and the machine's root may end.
@@ -128,9 +140,11 @@ module _ (sort : Sort) (max_depth : ℕ) (xs : List Answer) where
     pub children : Forest
     pub built : stack this_state.tree ≡ image (frame (top R) state children ∷ [])
     -- whatever is built of it
-    pub part : (building : Building) → PartAs sort max_depth xs (record this_state { tree = building }) (show (node (top R) children))
+    pub part : (building : Building)
+        → PartAs sort max_depth xs (record this_state { tree = building }) (show (node (top R) children))
 
-  pub part-out : (this_state : State) → RunOutcome R (top R) [] (part_may_end (top R)) this_state → RightlyReported R this_state ⊎ Ended this_state
+  pub part-out : (this_state : State) → RunOutcome R (top R) [] (part_may_end (top R)) this_state
+      → RightlyReported R this_state ⊎ Ended this_state
   unfolding part_may_end
   part-out this_state (inl t) = inl t
   part-out this_state (inr (machine_is_stuck, x, y, h, g)) = false-true refl h
@@ -138,7 +152,8 @@ module _ (sort : Sort) (max_depth : ℕ) (xs : List Answer) where
       let c = g.position.0 in
       let forest : Forest = c.children in
       let n : Next x y (rest this_state) = next-classes R g in
-      let m : next (top R) q (rest this_state) ≡ closes_move = closes-move (top R) q x (absent_as_end y) (first_class (rest this_state))
+      let m : next (top R) q (rest this_state) ≡ closes_move =
+      closes-move (top R) q x (absent_as_end y) (first_class (rest this_state))
       (second_class (rest this_state)) (and-l _ _ h) n.near n.far in
       let e = root-ended R c.machine m (eqb-true _ _ (and-r _ _ (and-r _ _ h))) in
       let t = current R this_state g.no_report in
@@ -174,9 +189,11 @@ module _ (sort : Sort) (max_depth : ℕ) (xs : List Answer) where
   outcome-sound o h = elim o [ inl o ↦ no-cons (sym h ∙ o.reported) | inr o ↦ o.1 ]
 
   -- Acceptance.
-  pub outcome-accepted : {state : State} → Outcome state → (tree : Tree) → Spells (answers_tokens xs) tree sort → nest tree ≤ max_depth → all_tokens xs ≡ true
+  pub outcome-accepted : {state : State} → Outcome state → (tree : Tree) → Spells (answers_tokens xs) tree sort
+      → nest tree ≤ max_depth → all_tokens xs ≡ true
       → state.errors ≡ []
-  outcome-accepted o tree spells n a = elim o [ inl o ↦ absurd (never-right sort max_depth xs o.report o.taken tree spells n a o.right) | inr o ↦ o.0 ]
+  outcome-accepted o tree spells n a =
+      elim o [ inl o ↦ absurd (never-right sort max_depth xs o.report o.taken tree spells n a o.right) | inr o ↦ o.0 ]
 
 -- ---- a root that is open from the beginning
 
@@ -188,20 +205,24 @@ module _ (sort : Sort) (max_depth : ℕ) (xs : List Answer) (this_kind : SyntaxK
     pub symbol : IsRootSymbol S this_kind
     pub keeps : Keeps sort max_depth xs (start this_kind nothing) (part_may_end S) rule
 
-  pub part-parsed : {rule : Rule} {state : State} → Follows rule → EndsWell xs → IsRoot state.tree → Runs rule (started xs max_depth this_kind) state
+  pub part-parsed : {rule : Rule} {state : State} → Follows rule → EndsWell xs → IsRoot state.tree
+      → Runs rule (started xs max_depth this_kind) state
       → Outcome sort max_depth xs state
-  part-parsed {state = state} follows ends_well root run = elim (part-starts sort max_depth xs follows.keeps ends_well) [
-    | inl o ↦ inl (rightly-on (input_of sort max_depth xs) (started xs max_depth this_kind) state (run-grows run) o)
-    | inr g ↦ elim (part-out sort max_depth xs state (part-runs sort max_depth xs follows.keeps g run)) [
-      | inl o ↦ inl o
-      | inr o ↦ (
-          let f : Forest = o.children in
-          let built : stack state.tree ≡ (label S, shows f) ∷ ((0, none) ∷ []) = o.built ∙ image-node S o.state f [] follows.symbol.no_type in
-          let tree : bare (tree_of (finished (left_out state))) ≡ show (node S f) = finished-tree (left_out state) (label S, shows f)
-          ((0, none) ∷ []) root built ∙ sym (show-root S f follows.symbol.no_type) in
-          inr (o.silent, rw tree (o.part state.tree)))
-    ]
-  ]
+  part-parsed {state = state} follows ends_well root run =
+      elim (part-starts sort max_depth xs follows.keeps ends_well) [
+        | inl o ↦ inl (rightly-on (input_of sort max_depth xs) (started xs max_depth this_kind) state (run-grows run) o)
+        | inr g ↦ elim (part-out sort max_depth xs state (part-runs sort max_depth xs follows.keeps g run)) [
+          | inl o ↦ inl o
+          | inr o ↦ (
+              let f : Forest = o.children in
+              let built : stack state.tree ≡ (label S, shows f) ∷ ((0, none) ∷ []) =
+              o.built ∙ image-node S o.state f [] follows.symbol.no_type in
+              let tree : bare (tree_of (finished (left_out state))) ≡ show (node S f) =
+              finished-tree (left_out state) (label S, shows f)
+              ((0, none) ∷ []) root built ∙ sym (show-root S f follows.symbol.no_type) in
+              inr (o.silent, rw tree (o.part state.tree)))
+        ]
+      ]
 
 -- ---- selection sets
 
@@ -240,4 +261,7 @@ opens-by-class a h = elim (either (eqb a L_CURLY)) [
 pub selections-root : (max_depth : ℕ) (xs : List Answer) → Follows selections max_depth xs kind.SELECTION_SET field_set
 selections-root max_depth xs =
     let o = opens-by-class (first_class (answers_tokens xs)) (first-any (answers_tokens xs)) in
-    record { symbol = o.symbol; keeps = record { begins = symbol-begins o.symbol; set = o.set; follows = o.follows; first = o.first } }
+    record {
+      symbol = o.symbol;
+      keeps = record { begins = symbol-begins o.symbol; set = o.set; follows = o.follows; first = o.first };
+    }

@@ -14,7 +14,8 @@ use Rattle.parser_rules.proofs.lookahead.TokenSets.{kind_set, absent, present as
 use Rattle.parser_rules.proofs.lookahead.Split.{at_root_start}
 use Rattle.parser_rules.proofs.soundness.TableCheck.{Then, counts_itself, no_brace, part_may_end, keeps_to_table}
 use Rattle.document_grammar.specs.Numbers.{number}
-use Rattle.parser_rules.specs.Fragments.{field_set, list_root, named_root, non_null_root, no_type_root, IsTypeRoot, a_list, a_name, not_null, no_type}
+use Rattle.parser_rules.specs.Fragments.{field_set, list_root, named_root, non_null_root, no_type_root, IsTypeRoot}
+use Rattle.parser_rules.specs.Fragments.{a_list, a_name, not_null, no_type}
 use Rattle.parser_rules.specs.Open.{is_free}
 use Rattle.parser_rules.specs.State.{State}
 use Rattle.parser_rules.specs.RuleLanguage.{Here, At, Ready, Bump, Rule, Skip, Do, When, While, ◌>◌}
@@ -34,7 +35,8 @@ pub record RootRule (this_kind : SyntaxKind) (rule : Rule) : Type 0 where
   pub leaves : walk leaf_check rules_deep rule anything always ≡ true
   pub levels : walk level_check rules_deep rule (at_first (number this_kind)) (level_check.ends this_kind) ≡ true
   -- the kind's own level is all that the root counts
-  pub heavy : eqb (weight DOCUMENT (number this_kind)) (counts_itself (number this_kind)) and leb (counts_itself (number this_kind)) 1 ≡ true
+  pub heavy : eqb (weight DOCUMENT (number this_kind)) (counts_itself (number this_kind))
+      and leb (counts_itself (number this_kind)) 1 ≡ true
   pub limits : walk limit_check rules_deep rule present always ≡ true
   pub tokens : walk token_check rules_deep rule (record (untaken false) { spare = 1 }) always ≡ true
   pub row : walk row_check rules_deep rule (row_of this_kind) (row_check.ends this_kind) ≡ true
@@ -59,13 +61,15 @@ pub no_type_passes : RootRule kind.ERROR no_type_root
 unfolding computing
 no_type_passes = record { leaves = refl; levels = refl; heavy = refl; limits = refl; tokens = refl; row = refl }
 
-pub type_passes : {state : State} {this_kind : SyntaxKind} {rule : Rule} → IsTypeRoot state this_kind rule → RootRule this_kind rule
+pub type_passes : {state : State} {this_kind : SyntaxKind} {rule : Rule} → IsTypeRoot state this_kind rule
+    → RootRule this_kind rule
 type_passes (a_list e) = list_passes
 type_passes (a_name e) = named_passes
 type_passes (not_null e) = non_null_passes
 type_passes (no_type e) = no_type_passes
 
-pub type-free : {state : State} {this_kind : SyntaxKind} {rule : Rule} → IsTypeRoot state this_kind rule → is_free this_kind ≡ true
+pub type-free : {state : State} {this_kind : SyntaxKind} {rule : Rule} → IsTypeRoot state this_kind rule
+    → is_free this_kind ≡ true
 type-free (a_list e) = refl
 type-free (a_name e) = refl
 type-free (not_null e) = refl
@@ -86,12 +90,14 @@ absent_rule = When (Here type_start) (While Ready Skip) no_type_root
 abbrev pub never : Then
 never p x y = false
 
-pub type_follows : follows_part TYPE any type_rule × (keeps_to_table rules_deep TYPE at_root_start any any absent_rule never ≡ true)
+pub type_follows : follows_part TYPE any type_rule
+    × (keeps_to_table rules_deep TYPE at_root_start any any absent_rule never ≡ true)
 unfolding computing
 type_follows = (refl, refl)
 
 -- with braces and without
-pub selections_follow : follows_part SELECTION_SET (kind_set token.LCurly) field_set × follows_part BARE_SELECTIONS no_brace field_set
+pub selections_follow : follows_part SELECTION_SET (kind_set token.LCurly) field_set
+    × follows_part BARE_SELECTIONS no_brace field_set
 unfolding computing
 selections_follow = (refl, refl)
 
@@ -102,21 +108,36 @@ pub record PaidRoot (rule : Rule) : Type 0 where
 
 pub selections_paid : PaidRoot field_set
 unfolding computing
-selections_paid = record { none = record { elements = refl; reports = refl }; some = record { elements = refl; reports = refl } }
+selections_paid = record {
+  none = record { elements = refl; reports = refl };
+  some = record { elements = refl; reports = refl };
+}
 
 pub list_paid : PaidRoot list_root
 unfolding computing
-list_paid = record { none = record { elements = refl; reports = refl }; some = record { elements = refl; reports = refl } }
+list_paid = record {
+  none = record { elements = refl; reports = refl };
+  some = record { elements = refl; reports = refl };
+}
 
 pub named_paid : PaidRoot named_root
 unfolding computing
-named_paid = record { none = record { elements = refl; reports = refl }; some = record { elements = refl; reports = refl } }
+named_paid = record {
+  none = record { elements = refl; reports = refl };
+  some = record { elements = refl; reports = refl };
+}
 
 -- it runs only where a type starts
 pub non_null_paid : PaidRoot (When (Here type_start) non_null_root Skip)
 unfolding computing
-non_null_paid = record { none = record { elements = refl; reports = refl }; some = record { elements = refl; reports = refl } }
+non_null_paid = record {
+  none = record { elements = refl; reports = refl };
+  some = record { elements = refl; reports = refl };
+}
 
 pub no_type_paid : PaidRoot no_type_root
 unfolding computing
-no_type_paid = record { none = record { elements = refl; reports = refl }; some = record { elements = refl; reports = refl } }
+no_type_paid = record {
+  none = record { elements = refl; reports = refl };
+  some = record { elements = refl; reports = refl };
+}

@@ -1,4 +1,5 @@
--- What holds of every run of a root's rule: it begins where the root is open and the text before the first token is in it.
+-- What holds of every run of a root's rule: it begins where the root is open and the text before the first token is in
+-- it.
 use Rattle.std.proofs.Common.{◌≡◌, ℕ, ◌+◌, ◌≤◌, min, true, None, List, [], ◌∷◌, ◌++◌, length, map, ap, ◌∙◌}
 use Rattle.std.specs.List.{list_any}
 use Rattle.std.specs.List.Sorted.{IsNonDecreasing}
@@ -20,7 +21,8 @@ use Rattle.parser_rules.proofs.reports.AtTheLimit.{limits-along, asked-since}
 use Rattle.parser_rules.proofs.reports.InOrder.{in-order-front}
 use Rattle.parser_rules.proofs.fragments.FrontReports.{begins-reports}
 
-module _ {rule : Rule} {state : State} (items : List Answer) (limit : ℕ) (this_kind : SyntaxKind) (run : Runs rule (started items limit this_kind) state) where
+module _ {rule : Rule} {state : State} (items : List Answer) (limit : ℕ) (this_kind : SyntaxKind)
+    (run : Runs rule (started items limit this_kind) state) where
   -- what holds along each step holds from the first token on
   pub since : {R : State → State → Type 0} → Holds_along R → R (begun items limit this_kind) state
   since holds_along = let before : State = begun items limit this_kind in
@@ -49,8 +51,10 @@ module _ {rule : Rule} {state : State} (items : List Answer) (limit : ℕ) (this
   pub so-far : Onward true None items [] state
   so-far = so_far items limit this_kind state (since tells-along)
 
-pub ordered-front : {rule : Rule} {state : State} (n : ℕ) (source : List ℕ) (items : List Item) (limit : ℕ) (kind : SyntaxKind)
+pub ordered-front : {rule : Rule} {state : State} (n : ℕ) (source : List ℕ) (items : List Item)
+    (limit : ℕ) (kind : SyntaxKind)
     → Runs rule (started (limited n items) limit kind) state → Cut source items
     → IsNonDecreasing (map (λ (report : Report). report.index) state.errors)
-ordered-front {state = state} n source items limit kind run cut = let a = all-reported (limited n items) limit kind run in
+ordered-front {state = state} n source items limit kind run cut =
+    let a = all-reported (limited n items) limit kind run in
     in-order-front n source items state.errors a.0 cut a.1

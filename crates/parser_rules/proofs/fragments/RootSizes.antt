@@ -17,7 +17,8 @@ use Rattle.parser_rules.proofs.sizes.Sizes.{Sized, sized}
 use Rattle.parser_rules.proofs.fragments.RootChecks.{PaidRoot, list_paid, named_paid, non_null_paid, no_type_paid}
 use Rattle.parser_rules.proofs.fragments.WrappedRuns.{started-around}
 
-pub root-sized : {rule : Rule} {state : State} (n : ℕ) (items : List Item) (limit : ℕ) (kind : SyntaxKind) → PaidRoot rule
+pub root-sized : {rule : Rule} {state : State} (n : ℕ) (items : List Item) (limit : ℕ) (kind : SyntaxKind)
+    → PaidRoot rule
     → Runs rule (started (limited n items) limit kind) state → Sized (min (length items) n) state
 unfolding flush
 root-sized n items limit kind pays run =
@@ -25,7 +26,8 @@ root-sized n items limit kind pays run =
     let before : State = begun xs limit kind in
     let shown = (found (reading xs (fresh xs limit kind))).shown in
     elim (either (is_some before.current)) [
-      | inl p ↦ sized n items limit kind present pays.some (λ d. flush-cost d before) shown (sym (present-is before.current shown) ∙ p) run
+      | inl p ↦ sized n items limit kind present pays.some (λ d. flush-cost d before) shown
+          (sym (present-is before.current shown) ∙ p) run
       | inr p ↦ sized n items limit kind (2 ^ absent) pays.none (λ d. flush-cost d before) shown
           (subst (λ o. within (class_of o) (2 ^ absent) ≡ true) (sym (not-some before.current p)) edges.none_one) run
     ]
@@ -37,8 +39,10 @@ unfolding holds
 still-starts xs limit kind e = e ∙ ap (λ (s : State). fits type_start s.current) (sym (started-around xs limit kind))
 
 pub type-sized : {kind : SyntaxKind} {rule : Rule} {state : State} (n : ℕ) (items : List Item) (limit : ℕ)
-    → IsTypeRoot (unopened (limited n items) limit) kind rule → Runs rule (started (limited n items) limit kind) state → Sized (min (length items) n) state
+    → IsTypeRoot (unopened (limited n items) limit) kind rule → Runs rule (started (limited n items) limit kind) state
+    → Sized (min (length items) n) state
 type-sized {kind = kind} n items limit (a_list e) run = root-sized n items limit kind list_paid run
 type-sized {kind = kind} n items limit (a_name e) run = root-sized n items limit kind named_paid run
-type-sized {kind = kind} n items limit (not_null e) run = root-sized n items limit kind non_null_paid (yes (still-starts (limited n items) limit kind e) run)
+type-sized {kind = kind} n items limit (not_null e) run =
+    root-sized n items limit kind non_null_paid (yes (still-starts (limited n items) limit kind e) run)
 type-sized {kind = kind} n items limit (no_type e) run = root-sized n items limit kind no_type_paid run

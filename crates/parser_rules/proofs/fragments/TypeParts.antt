@@ -1,6 +1,7 @@
--- A type that is parsed by itself, over the answers: the machine follows the type's rule from where no root is open, and the root that opens
--- last is the type that the machine makes.
-use Rattle.std.proofs.Common.{◌≡◌, ℕ, true, false, List, [], ◌∷◌, Option, Some, None, refl, sym, ap, ◌∙◌, subst, inl, inr, true≢false}
+-- A type that is parsed by itself, over the answers: the machine follows the type's rule from where no root is open,
+-- and the root that opens last is the type that the machine makes.
+use Rattle.std.proofs.Common.{◌≡◌, ℕ, true, false, List, [], ◌∷◌, Option, Some, None, refl, sym, ap, ◌∙◌, subst, inl}
+use Rattle.std.proofs.Common.{inr, true≢false}
 use Rattle.lexical_grammar.specs.Answers.{Answer}
 use Rattle.lexical_grammar.specs.declared.TokenKind.TheVariants as token
 use Rattle.document_grammar.specs.Booleans.{◌or◌}
@@ -22,18 +23,21 @@ use Rattle.grammar_machine.proofs.FromMachineTree.{show, type_of}
 use Rattle.grammar_machine.proofs.Patterns.{label}
 use Rattle.grammar_machine.proofs.generated.Labels.{labels}
 use Rattle.grammar_machine.proofs.Sound.{any, first-any}
-use Rattle.parser_rules.specs.Fragments.{unopened, left_out, no_type_root, ClosesType, nullable, non_null, RunsTypeRoot, makes_list, makes_name, makes_none}
+use Rattle.parser_rules.specs.Fragments.{unopened, left_out, no_type_root, ClosesType, nullable, non_null, RunsTypeRoot}
+use Rattle.parser_rules.specs.Fragments.{makes_list, makes_name, makes_none}
 use Rattle.parser_rules.specs.RuleLanguage.{Here, At, holds, step, Do, Bump, Rule}
 use Rattle.parser_rules.specs.Rules.{type_start}
 use Rattle.parser_rules.specs.Runs.{Runs, skip, does, yes, no}
 use Rattle.parser_rules.specs.State.{State, Lexeme, add_all, flush, closed, wrapped_from, moved, bump, is_at, finished}
 use Rattle.parser_rules.proofs.fragments.Parts.{Keeps, Starts, Outcome, part-starts, part-runs, part-out}
 use Rattle.parser_rules.proofs.fragments.RootChecks.{type_rule, absent_rule, never, type_follows}
-use Rattle.parser_rules.proofs.fragments.TypeRoots.{Nullable, list-first, name-first, unopened-none, unopened-waits, still-none}
+use Rattle.parser_rules.proofs.fragments.TypeRoots.{Nullable, list-first, name-first, unopened-none, unopened-waits}
+use Rattle.parser_rules.proofs.fragments.TypeRoots.{still-none}
 use Rattle.parser_rules.proofs.fragments.WrappedRuns.{wrapped-all}
 use Rattle.parser_rules.proofs.reports.NoReport.{answers_tokens, EndsWell}
 use Rattle.parser_rules.proofs.runs.Frame.{Adds, adds, parts_forest, added-all, read-untouched}
-use Rattle.parser_rules.proofs.soundness.Positions.{ParserInput, RightlyReported, rightly-on, run-grows, unread-grows, wrapped-builds}
+use Rattle.parser_rules.proofs.soundness.Positions.{ParserInput, RightlyReported, rightly-on, run-grows, unread-grows}
+use Rattle.parser_rules.proofs.soundness.Positions.{wrapped-builds}
 use Rattle.parser_rules.proofs.soundness.Roots.{input_of, Begins}
 use Rattle.parser_rules.proofs.soundness.Settled.{settled-unwrapped}
 use Rattle.parser_rules.proofs.soundness.TableCheck.{counts_itself, part_may_end}
@@ -47,13 +51,16 @@ here_of [] = none
 here_of (layer ∷ more) = layer.1
 
 stack-here : (building : Building) → here_of (stack building) ≡ strip building.here
-stack-here building = (elim building.above as (λ above. here_of (layers building.here above) ≡ strip building.here) [ [] ↦ refl | o ∷ above ↦ refl ])
+stack-here building = (elim building.above as (λ above. here_of (layers building.here above) ≡ strip building.here)
+    [ [] ↦ refl | o ∷ above ↦ refl ])
 
 -- the root around all
 root-tree : (this_kind : SyntaxKind) (state : State) → state.tree.above ≡ []
-    → bare (tree_of (finished (left_out (wrapped_from 0 this_kind state)))) ≡ node (number this_kind) (strip state.tree.here)
+    → bare (tree_of (finished (left_out (wrapped_from 0 this_kind state))))
+    ≡ node (number this_kind) (strip state.tree.here)
 unfolding wrapped_from
-root-tree this_kind state none_open = ap (λ (b : Building). bare (tree_of (finish b).here)) (wrapped-all this_kind state.tree none_open)
+root-tree this_kind state none_open =
+    ap (λ (b : Building). bare (tree_of (finish b).here)) (wrapped-all this_kind state.tree none_open)
 
 -- a type with more after it is not a type by itself
 two-trees : (tree other_tree : Tree) (forest : Forest) → type_of (tree ▸ (forest +++ (other_tree ▸ none)))
@@ -66,11 +73,13 @@ bump-tree : (this_kind : SyntaxKind) (state : State) (lexeme : Lexeme) → state
     → (bump this_kind state).tree ≡ add_leaf this_kind lexeme.text (add_all state.pending state.tree)
 unfolding bump flush
 bump-tree this_kind state lexeme e = ap (λ (o : Option Lexeme). (moved this_kind state o).tree) e
-    ∙ (read-untouched state.items (record state { tree = add_leaf this_kind lexeme.text (add_all state.pending state.tree); pending = [] })).tree
+    ∙ (read-untouched state.items
+    (record state { tree = add_leaf this_kind lexeme.text (add_all state.pending state.tree); pending = [] })).tree
 
 -- so does a `!`
 bang-tree : (state after : State) → true ≡ holds (At token.Bang) state → Runs (Do (Bump kind.BANG)) state after
-    → (text : Text) × (stack after.tree ≡ put (leaf (number kind.BANG) text ▸ none) (put (strip (parts_forest state.pending)) (stack state.tree)))
+    → (text : Text) × (stack after.tree
+    ≡ put (leaf (number kind.BANG) text ▸ none) (put (strip (parts_forest state.pending)) (stack state.tree)))
 unfolding holds step
 bang-tree state after b (does e) = at state.current refl
   where
@@ -79,7 +88,8 @@ bang-tree state after b (does e) = at state.current refl
     at None i = absurd (true≢false (b ∙ ap (is_at token.Bang) i))
     at (Some x) i = (
       x.text,
-      ap (λ (z : State). stack z.tree) e ∙ ap stack (bump-tree kind.BANG state x i) ∙ stack-leaf kind.BANG x.text (add_all state.pending state.tree) refl
+      ap (λ (z : State). stack z.tree) e ∙ ap stack (bump-tree kind.BANG state x i)
+          ∙ stack-leaf kind.BANG x.text (add_all state.pending state.tree) refl
           ∙ ap (put (leaf (number kind.BANG) x.text ▸ none)) (stack-added (added-all state.pending state.tree)),
     )
 
@@ -106,12 +116,14 @@ module _ (max_depth : ℕ) (xs : List Answer) where
   From after = Starts type max_depth xs nothing any → Outcome type max_depth xs after
 
   -- a report stays right when the root opens
-  tell-root : (this_kind : SyntaxKind) (state : State) → RightlyReported R state → RightlyReported R (wrapped_from 0 this_kind state)
+  tell-root : (this_kind : SyntaxKind) (state : State) → RightlyReported R state
+      → RightlyReported R (wrapped_from 0 this_kind state)
   tell-root this_kind state rightly_reported = rightly-on R state (wrapped_from 0 this_kind state)
       (unread-grows (wrapped-builds 0 this_kind state).reads_nothing) rightly_reported
 
   -- a report before the first token
-  from-first : {rule : Rule} {later after : State} (this_kind : SyntaxKind) → EndsWell xs → Runs rule first later → after ≡ wrapped_from 0 this_kind later
+  from-first : {rule : Rule} {later after : State} (this_kind : SyntaxKind) → EndsWell xs → Runs rule first later
+      → after ≡ wrapped_from 0 this_kind later
       → From (wrapped_from 0 this_kind later) → Outcome type max_depth xs after
   from-first {later = later} this_kind ends_well run a on = subst (Outcome type max_depth xs) (sym a)
       (elim (part-starts type max_depth xs keeps-type ends_well) [
@@ -120,7 +132,8 @@ module _ (max_depth : ℕ) (xs : List Answer) where
       ])
 
   -- no type
-  absent : {state : State} → false ≡ holds (Here type_start) first → Runs no_type_root first state → From (wrapped_from 0 kind.ERROR state)
+  absent : {state : State} → false ≡ holds (Here type_start) first → Runs no_type_root first state
+      → From (wrapped_from 0 kind.ERROR state)
   absent {state = state} n run g = elim (part-runs type max_depth xs keeps-absent g (no n run)) [
     | inl o ↦ inl (tell-root kind.ERROR state o)
     | inr w ↦ false-true refl w.3
@@ -130,13 +143,15 @@ module _ (max_depth : ℕ) (xs : List Answer) where
   type-out : {last : State} (building : Building) → let after : State = record last { tree = building } in
       Runs type_rule first last → (RightlyReported R last → RightlyReported R after)
       → bare (tree_of (finished (left_out after))) ≡ type_of (here_of (stack last.tree)) → From after
-  type-out {last = last} building run tells tree g = elim (part-out type max_depth xs last (part-runs type max_depth xs keeps-type g run)) [
-    | inl o ↦ inl (tells o)
-    | inr e ↦ (
-        let shown : bare (tree_of (finished (left_out (record last { tree = building })))) ≡ show (node TYPE e.children) = tree
-        ∙ ap (λ (l : Stack). type_of (here_of l)) e.built in
-        inr (e.silent, rw shown (e.part building)))
-  ]
+  type-out {last = last} building run tells tree g =
+      elim (part-out type max_depth xs last (part-runs type max_depth xs keeps-type g run)) [
+        | inl o ↦ inl (tells o)
+        | inr e ↦ (
+            let shown : bare (tree_of (finished (left_out (record last { tree = building }))))
+            ≡ show (node TYPE e.children) = tree
+            ∙ ap (λ (l : Stack). type_of (here_of l)) e.built in
+            inr (e.silent, rw shown (e.part building)))
+      ]
 
   module _ {this_kind : SyntaxKind} {state : State} (second_nullable : Nullable first this_kind state) where
     abbrev index : ℕ
@@ -153,7 +168,8 @@ module _ (max_depth : ℕ) (xs : List Answer) where
     unfolding closed wrapped_from
     one_more = added-node this_kind (added-wrap this_kind more.trees)
 
-    node-built : Starts type max_depth xs nothing any → stack type_node.tree ≡ (0, node (number this_kind) (strip more.more) ▸ none) ∷ []
+    node-built : Starts type max_depth xs nothing any
+        → stack type_node.tree ≡ (0, node (number this_kind) (strip more.more) ▸ none) ∷ []
     node-built starts = stack-added one_more ∙ ap (put (strip (built.node this_kind more.more built.none))) starts.built
 
     -- no `!` comes next
@@ -162,8 +178,10 @@ module _ (max_depth : ℕ) (xs : List Answer) where
     alone b g =
         let kids : strip state.tree.here ≡ strip more.more = sym (stack-here state.tree)
         ∙ ap here_of (stack-added more.trees ∙ ap (put (strip more.more)) g.built) in
-        let tree : bare (tree_of (finished (left_out (wrapped_from 0 this_kind state)))) ≡ type_of (here_of (stack type_node.tree)) =
-        root-tree this_kind state (still-none second_nullable.run (unopened-none xs max_depth)) ∙ ap (node (number this_kind)) kids
+        let tree : bare (tree_of (finished (left_out (wrapped_from 0 this_kind state))))
+        ≡ type_of (here_of (stack type_node.tree)) =
+        root-tree this_kind state (still-none second_nullable.run (unopened-none xs max_depth))
+        ∙ ap (node (number this_kind)) kids
         ∙ sym (ap (λ (l : Stack). type_of (here_of l)) (node-built g)) in
         type-out (wrap 0 this_kind state.tree) (yes second_nullable.starts (second_nullable.before (no b skip)))
         (λ o. tell-root this_kind state (tells o)) tree g
@@ -179,29 +197,40 @@ module _ (max_depth : ℕ) (xs : List Answer) where
         }
 
     -- the `!` is taken
-    bang-run : {end_state : State} → true ≡ holds (At token.Bang) state → Runs (Do (Bump kind.BANG)) type_node end_state → Runs type_rule first end_state
+    bang-run : {end_state : State} → true ≡ holds (At token.Bang) state → Runs (Do (Bump kind.BANG)) type_node end_state
+        → Runs type_rule first end_state
     unfolding holds closed wrapped_from
     bang-run b run = yes second_nullable.starts (second_nullable.before (yes b run))
 
-    with-bang : {end_state : State} → true ≡ holds (At token.Bang) state → Runs (Do (Bump kind.BANG)) type_node end_state
+    with-bang : {end_state : State} → true ≡ holds (At token.Bang) state
+        → Runs (Do (Bump kind.BANG)) type_node end_state
         → From (wrapped_from 0 kind.NON_NULL_TYPE end_state)
     unfolding holds closed wrapped_from
     with-bang {end_state = end_state} b run g =
         let bang = bang-tree type_node end_state b run in
-        let kids : Forest = (node (number this_kind) (strip more.more) ▸ none) +++ strip (parts_forest state.pending) +++
+        let kids : Forest = (node (number this_kind) (strip more.more) ▸ none)
+        +++ strip (parts_forest state.pending) +++
         (leaf (number kind.BANG) bang.0 ▸ none) in
         let are : here_of (stack end_state.tree) ≡ kids = ap here_of (bang.1 ∙ ap
-        (λ (l : Stack). put (leaf (number kind.BANG) bang.0 ▸ none) (put (strip (parts_forest state.pending)) l)) (node-built g)) in
-        let tree : bare (tree_of (finished (left_out (wrapped_from 0 kind.NON_NULL_TYPE end_state)))) ≡ type_of (here_of (stack end_state.tree)) =
+        (λ (l : Stack). put (leaf (number kind.BANG) bang.0 ▸ none) (put (strip (parts_forest state.pending)) l))
+        (node-built g)) in
+        let tree : bare (tree_of (finished (left_out (wrapped_from 0 kind.NON_NULL_TYPE end_state))))
+        ≡ type_of (here_of (stack end_state.tree)) =
         root-tree kind.NON_NULL_TYPE end_state (still-none (bang-run b run) (unopened-none xs max_depth))
-        ∙ ap (node NON_NULL_TYPE) (sym (stack-here end_state.tree) ∙ are) ∙ sym (ap type_of are ∙ two-trees _ _ (strip (parts_forest state.pending))) in
-        type-out (wrap 0 kind.NON_NULL_TYPE end_state.tree) (bang-run b run) (tell-root kind.NON_NULL_TYPE end_state) tree g
+        ∙ ap (node NON_NULL_TYPE) (sym (stack-here end_state.tree) ∙ are)
+        ∙ sym (ap type_of are ∙ two-trees _ _ (strip (parts_forest state.pending))) in
+        type-out (wrap 0 kind.NON_NULL_TYPE end_state.tree) (bang-run b run)
+        (tell-root kind.NON_NULL_TYPE end_state) tree g
 
-    nullable-outcome : {after : State} → EndsWell xs → ClosesType index this_kind state after → Outcome type max_depth xs after
+    nullable-outcome : {after : State} → EndsWell xs → ClosesType index this_kind state after
+        → Outcome type max_depth xs after
     nullable-outcome ends_well (nullable b a) = from-first this_kind ends_well second_nullable.run a (alone b)
-    nullable-outcome ends_well (non_null b run a) = from-first kind.NON_NULL_TYPE ends_well (bang-run b run) a (with-bang b run)
+    nullable-outcome ends_well (non_null b run a) =
+        from-first kind.NON_NULL_TYPE ends_well (bang-run b run) a (with-bang b run)
 
   pub type-parsed : {state : State} → EndsWell xs → RunsTypeRoot first state → Outcome type max_depth xs state
-  type-parsed ends_well (makes_list b run close) = nullable-outcome (list-first (unopened-waits xs max_depth) b run) ends_well close
-  type-parsed ends_well (makes_name b n run close) = nullable-outcome (name-first (unopened-waits xs max_depth) b n run) ends_well close
+  type-parsed ends_well (makes_list b run close) =
+      nullable-outcome (list-first (unopened-waits xs max_depth) b run) ends_well close
+  type-parsed ends_well (makes_name b n run close) =
+      nullable-outcome (name-first (unopened-waits xs max_depth) b n run) ends_well close
   type-parsed ends_well (makes_none n run a) = from-first kind.ERROR ends_well run a (absent n run)

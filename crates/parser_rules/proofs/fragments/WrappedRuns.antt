@@ -13,9 +13,12 @@ use Rattle.parser_rules.proofs.runs.Reading.{Reading, stops, cuts, bad_text, wai
 use Rattle.parser_rules.proofs.runs.Frame.{added-all, read-untouched}
 use Rattle.parser_rules.proofs.runs.Anew.{anew}
 
-added-same : {forest : Forest} {building later_building last_building : Building} → Added forest building later_building → Added forest building last_building
+added-same : {forest : Forest} {building later_building last_building : Building} → Added forest building later_building
+    → Added forest building last_building
     → later_building ≡ last_building
-added-same added second_added = ap₂ (λ (here : Forest) (above : List Open). record { here = here; above = above }) (added.here ∙ sym second_added.here)
+added-same added second_added =
+    ap₂ (λ (here : Forest) (above : List Open). record { here = here; above = above })
+    (added.here ∙ sym second_added.here)
     (added.above ∙ sym second_added.above)
 
 -- the same run, where something else is built, as long as what is added fits
@@ -28,15 +31,18 @@ elsewhere {rule = rule} {state = state} {after = after} run building later_build
     let errors : e.errors ≡ after.errors = k.other.errors ∙ sym k.one.errors in
     let high : e.high ≡ after.high = k.other.high ∙ sym k.one.high in
     subst (λ (z : Building). Runs rule (record state { tree = building }) (record after { tree = z })) trees
-    (subst (λ (es : List Report). Runs rule (record state { tree = building }) (record after { tree = e.tree; errors = es })) errors
-    (subst (λ (n : ℕ). Runs rule (record state { tree = building }) (record after { tree = e.tree; errors = e.errors; high = n })) high h))
+    (subst (λ (es : List Report). Runs rule (record state { tree = building })
+    (record after { tree = e.tree; errors = es })) errors
+    (subst (λ (n : ℕ). Runs rule (record state { tree = building })
+    (record after { tree = e.tree; errors = e.errors; high = n })) high h))
 
 -- a node that opens around what a run added
 pub wrapped-run : {rule : Rule} {state after : State} (kind : SyntaxKind) → state.pending ≡ [] → Runs rule state after
     → Runs rule (opened kind state) (wrapped_from (built_count state.tree) kind after)
 unfolding opened flush wrapped_from
 wrapped-run {rule = rule} {state = state} {after = after} kind none run =
-    subst (λ (p : List PendingToken). Runs rule (record state { tree = start kind (add_all p state.tree); pending = [] })
+    subst (λ (p : List PendingToken). Runs rule
+    (record state { tree = start kind (add_all p state.tree); pending = [] })
     (record after { tree = wrap (built_count state.tree) kind after.tree })) (sym none)
     (subst (λ (p : List PendingToken). Runs rule (record state { tree = start kind state.tree; pending = p })
     (record after { tree = wrap (built_count state.tree) kind after.tree })) none
@@ -58,9 +64,11 @@ read-built xs state building = (found (builds building (reading xs state))).is
 
 -- the root around all that there is
 abbrev pub around_all : SyntaxKind → Building → Building
-around_all this_kind building = record { here = building.here; above = record { before = no_trees; kind = this_kind } ∷ [] }
+around_all this_kind building =
+    record { here = building.here; above = record { before = no_trees; kind = this_kind } ∷ [] }
 
-flushed-around : (kind : SyntaxKind) (parts : List PendingToken) → add_all parts (start kind nothing) ≡ around_all kind (add_all parts nothing)
+flushed-around : (kind : SyntaxKind) (parts : List PendingToken)
+    → add_all parts (start kind nothing) ≡ around_all kind (add_all parts nothing)
 flushed-around kind parts =
     let a = added-all parts (start kind nothing) in
     let b = added-all parts nothing in
@@ -77,7 +85,8 @@ started-around xs max_depth kind =
     ∙ ap (λ (b : Building). record read { tree = b; pending = [] }) (flushed-around kind read.pending
     ∙ ap (λ (b : Building). around_all kind (add_all read.pending b)) (sym tree))
 
-pub wrapped-all : (this_kind : SyntaxKind) (building : Building) → building.above ≡ [] → wrap 0 this_kind building ≡ around_all this_kind building
+pub wrapped-all : (this_kind : SyntaxKind) (building : Building) → building.above ≡ []
+    → wrap 0 this_kind building ≡ around_all this_kind building
 wrapped-all this_kind building none =
     let zero_is : 0 - open_count building.above ≡ 0 = omega arith in
     ap (λ (n : ℕ). wrap_at n this_kind building) zero_is ∙ ap (λ (above : List Open). record {
@@ -86,11 +95,14 @@ wrapped-all this_kind building none =
     }) none
 
 -- a root that opens around all that a run built
-pub wrapped-root : {rule : Rule} {state : State} (xs : List Answer) (max_depth : ℕ) (kind : SyntaxKind) → Runs rule (unopened xs max_depth) state
+pub wrapped-root : {rule : Rule} {state : State} (xs : List Answer) (max_depth : ℕ) (kind : SyntaxKind)
+    → Runs rule (unopened xs max_depth) state
     → state.tree.above ≡ [] → Runs rule (started xs max_depth kind) (wrapped_from 0 kind state)
 unfolding wrapped_from
 wrapped-root {rule = rule} {state = state} xs max_depth kind run none =
     let s : State = unopened xs max_depth in
     subst (λ (z : State). Runs rule z (wrapped_from 0 kind state)) (sym (started-around xs max_depth kind))
-    (subst (λ (b : Building). Runs rule (record s { tree = around_all kind s.tree }) (record state { tree = b })) (sym (wrapped-all kind state.tree none))
-    (elsewhere run (around_all kind s.tree) (around_all kind state.tree) (λ f h. record { above = refl; here = h.here })))
+    (subst (λ (b : Building). Runs rule (record s { tree = around_all kind s.tree }) (record state { tree = b }))
+    (sym (wrapped-all kind state.tree none))
+    (elsewhere run (around_all kind s.tree) (around_all kind state.tree)
+    (λ f h. record { above = refl; here = h.here })))

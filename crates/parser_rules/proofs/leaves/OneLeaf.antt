@@ -1,6 +1,6 @@
 -- Each item becomes one leaf: runs of the grammar's rules give each token a leaf of its own kind, or an ERROR.
-use Rattle.std.proofs.Common.{◌≡◌, ℕ, Option, Some, None, List, [], ◌∷◌, ◌++◌, refl, sym, ◌∙◌, ap, ap₂, subst, true, false, Bool, cond, eqb, append_assoc}
-use Rattle.std.proofs.Common.{append-nil, not, inl, inr, eqb-true}
+use Rattle.std.proofs.Common.{◌≡◌, ℕ, Option, Some, None, List, [], ◌∷◌, ◌++◌, refl, sym, ◌∙◌, ap, ap₂, subst, true}
+use Rattle.std.proofs.Common.{false, Bool, cond, eqb, append_assoc, append-nil, not, inl, inr, eqb-true}
 use Rattle.lexical_grammar.specs.declared.TokenKind.{TokenKind}
 use Rattle.lexical_grammar.specs.declared.TokenKind.TheVariants as token_kind
 use Rattle.lexical_grammar.specs.Cut.{Item}
@@ -25,10 +25,11 @@ use Rattle.grammar_machine.proofs.Patterns.{label}
 use Rattle.grammar_machine.proofs.Rules.{leaf-rule}
 use Rattle.grammar_machine.proofs.Sound.{any, leaf-lt, leaf-ok, leaf-token}
 use Rattle.grammar_machine.proofs.Steps.{hits-fires}
-use Rattle.parser_rules.specs.State.{State, Text, Lexeme, PendingToken, ignored, second, add_all, flush, opened, closed, wrapped_from, moved, is_over, enter}
-use Rattle.parser_rules.specs.State.{leave, fresh, begun, finished}
+use Rattle.parser_rules.specs.State.{State, Text, Lexeme, PendingToken, ignored, second, add_all, flush, opened, closed}
+use Rattle.parser_rules.specs.State.{wrapped_from, moved, is_over, enter, leave, fresh, begun, finished}
 use Rattle.parser_rules.specs.Open.{IsRoot}
-use Rattle.document_grammar.specs.Leaves.{leaves, IsLeafOf, IsLeafOfToken, OneLeafAnItem, nothing, one, the_end, the_limit}
+use Rattle.document_grammar.specs.Leaves.{leaves, IsLeafOf, IsLeafOfToken, OneLeafAnItem, nothing, one, the_end}
+use Rattle.document_grammar.specs.Leaves.{the_limit}
 use Rattle.parser_rules.specs.Nodes as rule
 use Rattle.parser_rules.specs.Nodes.{kind_of}
 use Rattle.parser_rules.specs.RuleLanguage.{Ready, holds, Prim, Rule, Do, Seq, When, While, Call}
@@ -39,12 +40,14 @@ use Rattle.parser_rules.proofs.runs.Frame.{add_all-above, root-kept}
 use Rattle.parser_rules.proofs.runs.AtTheEnd.{EndNow, ends, read-ends}
 use Rattle.parser_rules.proofs.runs.Reading.{Reading, found, Shown, second-shown, reading}
 use Rattle.parser_rules.proofs.runs.TreesWithSources as trees
-use Rattle.parser_rules.proofs.runs.TreesWithSources.{by-kind, Source, token, aside, TreesWithSources, append, erase, erase-append, flat, flat-append}
-use Rattle.parser_rules.proofs.runs.TreesWithSources.{set_aside, source_at, now_of, sources, moved_on, to_come, FirstPart, first-part}
+use Rattle.parser_rules.proofs.runs.TreesWithSources.{by-kind, Source, token, aside, TreesWithSources, append, erase}
+use Rattle.parser_rules.proofs.runs.TreesWithSources.{erase-append, flat, flat-append, set_aside, source_at, now_of}
+use Rattle.parser_rules.proofs.runs.TreesWithSources.{sources, moved_on, to_come, FirstPart, first-part}
 use Rattle.parser_rules.proofs.runs.Walk.{after_pending, always, Goes, Sound, walked_whole, walk, walked_root}
 use Rattle.parser_rules.proofs.runs.Reporting.{after-note, after-too-deep}
 use Rattle.parser_rules.proofs.reports.NoReport.{end-kind}
-use Rattle.parser_rules.proofs.lookahead.TokenSets.{absent, over, class_of, of-any, Seen, seen-any, seen-more, edges, flip}
+use Rattle.parser_rules.proofs.lookahead.TokenSets.{absent, over, class_of, of-any, Seen, seen-any, seen-more, edges}
+use Rattle.parser_rules.proofs.lookahead.TokenSets.{flip}
 use Rattle.parser_rules.proofs.lookahead.Split.{split-at}
 use Rattle.parser_rules.proofs.leaves.LeafCheck.{is_error, belongs, Tokens, anything, leaf_check}
 use Rattle.parser_rules.proofs.NodeChecks.{node-passes, document_passes}
@@ -53,7 +56,8 @@ use Rattle.parser_rules.proofs.NodeChecks.{node-passes, document_passes}
 
 leaves-join : (forest more_trees : Forest) → leaves (join forest more_trees) ≡ leaves forest ++ leaves more_trees
 leaves-join none more_trees = refl
-leaves-join (leaf this_kind s rest) more_trees = ap (λ l. record { kind = this_kind; text = s } ∷ l) (leaves-join rest more_trees)
+leaves-join (leaf this_kind s rest) more_trees =
+    ap (λ l. record { kind = this_kind; text = s } ∷ l) (leaves-join rest more_trees)
 leaves-join (node this_kind kids rest) more_trees = ap (λ l. leaves kids ++ l) (leaves-join rest more_trees)
     ∙ sym (append_assoc (leaves kids) (leaves rest) (leaves more_trees))
 
@@ -64,18 +68,22 @@ LeafOf (aside pending_token) l = (l.text ≡ pending_token.text) × (l.kind ≡ 
 
 pub data LeavesOf : List Source → List PendingToken → Type 0 where
   no_more : LeavesOf [] []
-  one_more : {source : Source} {pending_token : PendingToken} {these_sources : List Source} {ls : List PendingToken} → LeafOf source pending_token
+  one_more : {source : Source} {pending_token : PendingToken} {these_sources : List Source} {ls : List PendingToken}
+      → LeafOf source pending_token
       → LeavesOf these_sources ls → LeavesOf (source ∷ these_sources) (pending_token ∷ ls)
 
-leaves-append : {these_sources more_sources : List Source} {ls ms : List PendingToken} → LeavesOf these_sources ls → LeavesOf more_sources ms
+leaves-append : {these_sources more_sources : List Source} {ls ms : List PendingToken} → LeavesOf these_sources ls
+    → LeavesOf more_sources ms
     → LeavesOf (these_sources ++ more_sources) (ls ++ ms)
 leaves-append no_more leaves_of = leaves_of
-leaves-append (one_more leaf_of leaves_of) second_leaves_of = one_more leaf_of (leaves-append leaves_of second_leaves_of)
+leaves-append (one_more leaf_of leaves_of) second_leaves_of =
+    one_more leaf_of (leaves-append leaves_of second_leaves_of)
 
 abbrev pub Fit : TreesWithSources → Type 0
 Fit these_trees = LeavesOf (flat these_trees) (leaves (erase these_trees))
 
-fit-append : (these_trees more_trees : TreesWithSources) → Fit these_trees → Fit more_trees → Fit (append these_trees more_trees)
+fit-append : (these_trees more_trees : TreesWithSources) → Fit these_trees → Fit more_trees
+    → Fit (append these_trees more_trees)
 fit-append these_trees more_trees fit second_fit = rw (
   flat-append these_trees more_trees,
   erase-append these_trees more_trees,
@@ -91,7 +99,8 @@ fit-after : (state : State) (these_trees more_trees : TreesWithSources) → Fit 
 fit-after state these_trees more_trees fit second_fit = fit-append these_trees (after_pending state more_trees) fit
     (fit-append (set_aside state.pending) more_trees (fit-aside state.pending) second_fit)
 
-fit-node : (this_kind : SyntaxKind) (these_trees : TreesWithSources) → Fit these_trees → Fit (trees.node this_kind these_trees trees.none)
+fit-node : (this_kind : SyntaxKind) (these_trees : TreesWithSources) → Fit these_trees
+    → Fit (trees.node this_kind these_trees trees.none)
 fit-node this_kind these_trees fit = leaves-append fit no_more
 
 -- ---- a leaf that belongs to its token
@@ -102,7 +111,8 @@ error-is _ e = absurd cc
 
 error-fits : (lexeme : Lexeme) (own : SyntaxKind) → ignored lexeme.kind ≡ None → own ≡ kind.ERROR
     → IsLeafOf (Some lexeme.kind) (record { kind = own; text = lexeme.text })
-error-fits lexeme own i e = subst (λ found. IsLeafOfToken lexeme.kind found (record { kind = own; text = lexeme.text })) (sym i) (inl e)
+error-fits lexeme own i e =
+    subst (λ found. IsLeafOfToken lexeme.kind found (record { kind = own; text = lexeme.text })) (sym i) (inl e)
 
 abbrev spell_test : ℕ → Bool
 spell_test l = not (eqb (label l) l) or eqb (cond (is_keyword l) IDENT l) (cond (within l name_leaves) IDENT l)
@@ -112,27 +122,32 @@ unfolding ◌and◌ ◌or◌ within label labels
 spell-checked = refl
 
 token-belongs : (l : ℕ) (this_token_kind : TokenKind) (this_text : Text) → is_leaf l ≡ true → eqb (label l) l ≡ true
-    → fires l (class (leaf_number this_token_kind, this_text)) 0 ≡ true → (spelled l this_text ≡ (leaf_number this_token_kind, this_text))
+    → fires l (class (leaf_number this_token_kind, this_text)) 0 ≡ true
+    → (spelled l this_text ≡ (leaf_number this_token_kind, this_text))
     × LeafRule l this_text
 unfolding token_of_leaf
 token-belongs l this_token_kind this_text i e f =
     let s = eqb-true _ _ (implies _ _ (below-at spell_test DOCUMENT l (leaf-lt l i) spell-checked) e) in (
       ap (λ n. (n, this_text)) s ∙ leaf-token l 0 (leaf_number this_token_kind, this_text) i f,
-      subst (λ n. LeafRule n this_text) (eqb-true _ _ e) (leaf-rule l this_text (leaf-ok l 0 (leaf_number this_token_kind, this_text) i f)),
+      subst (λ n. LeafRule n this_text) (eqb-true _ _ e)
+          (leaf-rule l this_text (leaf-ok l 0 (leaf_number this_token_kind, this_text) i f)),
     )
 
-belongs-fits : (x : ℕ) (own : SyntaxKind) (lexeme : Lexeme) → ignored lexeme.kind ≡ None → belongs x own ≡ true → within (class_of (Some lexeme)) x ≡ true
+belongs-fits : (x : ℕ) (own : SyntaxKind) (lexeme : Lexeme) → ignored lexeme.kind ≡ None → belongs x own ≡ true
+    → within (class_of (Some lexeme)) x ≡ true
     → IsLeafOf (Some lexeme.kind) (record { kind = own; text = lexeme.text })
 unfolding belongs fires
 belongs-fits x own lexeme i b h = elim (either (is_end lexeme.kind)) [
   | inl e ↦ (
-      let z : within 0 x ≡ true = subst (λ b. within (cond b 0 (class (leaf_number lexeme.kind, lexeme.text))) x ≡ true) e h in
+      let z : within 0 x ≡ true =
+      subst (λ b. within (cond b 0 (class (leaf_number lexeme.kind, lexeme.text))) x ≡ true) e h in
       false-true (holds-disjoint 0 x over (and-l _ _ (and-l _ _ b)) z) edges.end_over)
   | inr e ↦ (
       let z : within (class (leaf_number lexeme.kind, lexeme.text)) x ≡ true = subst
       (λ b. within (cond b 0 (class (leaf_number lexeme.kind, lexeme.text))) x ≡ true) e h in
       let f : fires (number own) (class (leaf_number lexeme.kind, lexeme.text)) 0
-      ≡ true = hits-fires (entries (number own)) x any (class (leaf_number lexeme.kind, lexeme.text)) 0 (and-r _ _ (and-r _ _ b)) z edges.end_any in
+      ≡ true = hits-fires (entries (number own)) x any (class (leaf_number lexeme.kind, lexeme.text)) 0
+      (and-r _ _ (and-r _ _ b)) z edges.end_any in
       subst (λ found. IsLeafOfToken lexeme.kind found (record { kind = own; text = lexeme.text })) (sym i)
       (inr (token-belongs (number own) lexeme.kind lexeme.text (and-r _ _ (and-l _ _ b)) (and-l _ _ (and-r _ _ b)) f)))
 ]
@@ -144,9 +159,11 @@ none_belongs x own b h = false-true (holds-disjoint absent x over (and-l _ _ (an
 -- ---- runs
 
 abbrev Held : Tokens → State → State → TreesWithSources → Type 0
-Held tokens before state these_trees = record { shown : Shown state.current; seen : Seen tokens.near tokens.far state; fits : Fit these_trees }
+Held tokens before state these_trees =
+    record { shown : Shown state.current; seen : Seen tokens.near tokens.far state; fits : Fit these_trees }
 
-module _ (own : SyntaxKind) (tokens : Tokens) (rest : Tokens → Bool) (before state : State) (these_trees : TreesWithSources) (lexeme : Lexeme)
+module _ (own : SyntaxKind) (tokens : Tokens) (rest : Tokens → Bool) (before state : State)
+    (these_trees : TreesWithSources) (lexeme : Lexeme)
     (e : state.current ≡ Some lexeme) (held : Held tokens before state these_trees) where
   abbrev after : State
   after = moved own state (Some lexeme)
@@ -159,9 +176,12 @@ module _ (own : SyntaxKind) (tokens : Tokens) (rest : Tokens → Bool) (before s
   next = reading state.items (moved_on own lexeme (flush state))
 
   fits-after : IsLeafOf (Some lexeme.kind) (record { kind = own; text = lexeme.text }) → Fit grown
-  fits-after is_leaf_of = fit-after state these_trees (trees.leaf (token lexeme) own trees.none) held.fits (one_more (refl, is_leaf_of) no_more)
+  fits-after is_leaf_of =
+      fit-after state these_trees (trees.leaf (token lexeme) own trees.none) held.fits
+      (one_more (refl, is_leaf_of) no_more)
 
-  taken : cond (is_error own) (rest anything) (belongs tokens.near own and rest (record { near = tokens.far; far = any })) ≡ true
+  taken : cond (is_error own) (rest anything)
+      (belongs tokens.near own and rest (record { near = tokens.far; far = any })) ≡ true
       → Goes leaf_check Held rest before after grown
   taken c = elim (either (is_error own)) [
     | inl i ↦ (
@@ -189,12 +209,15 @@ module _ (own : SyntaxKind) (tokens : Tokens) (rest : Tokens → Bool) (before s
         ))
   ]
 
-not-taken : (own : SyntaxKind) (tokens : Tokens) (rest : Tokens → Bool) (before state : State) (these_trees : TreesWithSources) → state.current ≡ None
-    → cond (is_error own) (rest anything) (belongs tokens.near own and rest (record { near = tokens.far; far = any })) ≡ true
+not-taken : (own : SyntaxKind) (tokens : Tokens) (rest : Tokens → Bool) (before state : State)
+    (these_trees : TreesWithSources) → state.current ≡ None
+    → cond (is_error own) (rest anything) (belongs tokens.near own and rest (record { near = tokens.far; far = any }))
+    ≡ true
     → Held tokens before state these_trees → Goes leaf_check Held rest before state these_trees
 not-taken own tokens rest before state these_trees e c held = elim (either (is_error own)) [
   | inl i ↦ (anything, (rw i at c), record { shown = held.shown; seen = seen-any state held.shown; fits = held.fits })
-  | inr i ↦ none_belongs tokens.near own (and-l _ _ (rw i at c)) (subst (λ o. within (class_of o) tokens.near ≡ true) e held.seen.near)
+  | inr i ↦ none_belongs tokens.near own (and-l _ _ (rw i at c))
+      (subst (λ o. within (class_of o) tokens.near ≡ true) e held.seen.near)
 ]
 
 sound : Sound leaf_check Held
@@ -205,9 +228,11 @@ sound = record {
   report = λ m a b s f h. after-note (λ t. Held a b t f) m s (λ errors. h);
   limit = λ a k b s f d c h. (a, c, after-too-deep (λ t. Held a b t f) s (λ errors accepts. h));
   passes = λ q a x y b s f e c h. let r = split-at q true a.near a.far (λ u v. x (record { near = u; far = v }))
-      (λ u v. y (record { near = u; far = v })) s h.shown e c h.seen in (_, r.2, record { shown = h.shown; seen = r.3; fits = h.fits });
+      (λ u v. y (record { near = u; far = v })) s h.shown e c h.seen in
+      (_, r.2, record { shown = h.shown; seen = r.3; fits = h.fits });
   fails = λ q a x y b s f e c h. let r = split-at q false a.near a.far (λ u v. x (record { near = u; far = v }))
-      (λ u v. y (record { near = u; far = v })) s h.shown e c h.seen in (_, r.2, record { shown = h.shown; seen = r.3; fits = h.fits });
+      (λ u v. y (record { near = u; far = v })) s h.shown e c h.seen in
+      (_, r.2, record { shown = h.shown; seen = r.3; fits = h.fits });
   turn = λ a b s f h. record { shown = h.shown; seen = seen-any s h.shown; fits = h.fits };
   settles = λ a. refl;
   keeps = λ a c b s f e h. record { shown = h.shown; seen = seen-any s h.shown; fits = h.fits };
@@ -230,7 +255,8 @@ sound = record {
   enters = λ a k b s f w c h. (a, c, h);
   leaves = λ a k b s f c h. (a, c, h);
   types = λ a b s f h. record { shown = h.shown; seen = h.seen; fits = no_more };
-  plain = λ a e k b s u f g c h i l. (e, c, record { shown = i.shown; seen = i.seen; fits = fit-after s f g h.fits i.fits });
+  plain = λ a e k b s u f g c h i
+      l. (e, c, record { shown = i.shown; seen = i.seen; fits = fit-after s f g h.fits i.fits });
   wraps = λ e k s u g c i l. (e, c, i);
   nodes = λ n. (node-passes n).leaves;
 }
@@ -248,65 +274,79 @@ ends_text (token lexeme) = is_end lexeme.kind
 ends_text (aside pending_token) = false
 
 end-item : (item : Item) → ends_text (source_at item item.kind) ≡ true → item.kind ≡ Some token_kind.Eof
-end-item item = by-kind (λ found o. ends_text o ≡ true → found ≡ Some token_kind.Eof) item (λ h. absurd cc) (λ k i h. ap Some (end-kind k h))
+end-item item = by-kind (λ found o. ends_text o ≡ true → found ≡ Some token_kind.Eof) item (λ h. absurd cc)
+    (λ k i h. ap Some (end-kind k h))
     (λ k own i h. absurd cc)
 
 -- each item has a leaf, but for the end
-each-item : (xs : List Answer) {these_sources : List Source} {ls : List PendingToken} (maybe_lexeme : Option Lexeme) → is_over maybe_lexeme ≡ true
+each-item : (xs : List Answer) {these_sources : List Source} {ls : List PendingToken} (maybe_lexeme : Option Lexeme)
+    → is_over maybe_lexeme ≡ true
     → LeavesOf these_sources ls → these_sources ++ now_of maybe_lexeme ≡ sources xs → OneLeafAnItem xs ls
 each-item [] maybe_lexeme h no_more e = nothing
 each-item [] maybe_lexeme h (one_more leaf_of leaves_of) e = absurd cc
 each-item (limit_at index ∷ xs) maybe_lexeme h leaves_of e = the_limit (each-item xs maybe_lexeme h leaves_of e)
 each-item (gives item ∷ xs) None h no_more e = absurd cc
-each-item (gives item ∷ xs) (Some x) h no_more e = the_end (end-item item (ap ends_text (sym (head-same e)) ∙ h)) (each-item xs None refl no_more (tail-same e))
+each-item (gives item ∷ xs) (Some x) h no_more e =
+    the_end (end-item item (ap ends_text (sym (head-same e)) ∙ h)) (each-item xs None refl no_more (tail-same e))
 each-item (gives item ∷ xs) maybe_lexeme h (one_more {pending_token = pending_token} leaf_of leaves_of) e =
     let f = leaf-item item pending_token (subst (λ x. LeafOf x pending_token) (head-same e) leaf_of) in
     one f.0 f.1 (each-item xs maybe_lexeme h leaves_of (tail-same e))
 
-finished-leaves : (state : State) → IsRoot state.tree → leaves (finished state) ≡ leaves (add_all state.pending state.tree).here
+finished-leaves : (state : State) → IsRoot state.tree
+    → leaves (finished state) ≡ leaves (add_all state.pending state.tree).here
 finished-leaves state is_root = let here = (add_all state.pending state.tree).here in
-    ap (λ (above : List Open). leaves (close here above).here) (add_all-above state.pending state.tree ∙ is_root.2) ∙ append-nil (leaves here)
+    ap (λ (above : List Open). leaves (close here above).here) (add_all-above state.pending state.tree ∙ is_root.2)
+    ∙ append-nil (leaves here)
 
-none-left : (maybe_lexeme : Option Lexeme) (items : List Answer) → EndNow maybe_lexeme items → is_over maybe_lexeme ≡ true → items ≡ []
+none-left : (maybe_lexeme : Option Lexeme) (items : List Answer) → EndNow maybe_lexeme items
+    → is_over maybe_lexeme ≡ true → items ≡ []
 unfolding EndNow
 none-left None items end_now e = end_now
 none-left (Some x) items end_now e = end_now e
 
 -- ---- documents
 
-loop-over : {this_rule : Rule} {state next_state : State} → Runs (While Ready this_rule) state next_state → is_over next_state.current ≡ true
+loop-over : {this_rule : Rule} {state next_state : State} → Runs (While Ready this_rule) state next_state
+    → is_over next_state.current ≡ true
 unfolding holds
 loop-over {next_state = next_state} (done q) = sym (flip false (is_over next_state.current) q)
 loop-over (again q run second_run) = loop-over second_run
 
 wanted-over : {this_rule : Rule} {primitive : Prim} {state next_state : State}
-    → Runs (When Ready (While Ready this_rule) (Seq (Do primitive) (While Ready this_rule))) state next_state → is_over next_state.current ≡ true
+    → Runs (When Ready (While Ready this_rule) (Seq (Do primitive) (While Ready this_rule))) state next_state
+    → is_over next_state.current ≡ true
 wanted-over (yes q run) = loop-over run
 wanted-over (no q (seq run second_run)) = loop-over second_run
 
-pub document-over : {state next_state : State} → Runs (Call rule.Document) state next_state → is_over next_state.current ≡ true
+pub document-over : {state next_state : State} → Runs (Call rule.Document) state next_state
+    → is_over next_state.current ≡ true
 unfolding body
 document-over (call run) = wanted-over run
 
 -- all that is answered to a document is read
-pub document-read : {state : State} (items : List Answer) (limit : ℕ) → AreAnswers items → Runs (Call rule.Document) (begun items limit kind.DOCUMENT) state
+pub document-read : {state : State} (items : List Answer) (limit : ℕ) → AreAnswers items
+    → Runs (Call rule.Document) (begun items limit kind.DOCUMENT) state
     → state.items ≡ []
 document-read {state = state} items limit are run = none-left state.current state.items
     (ends run (read-ends items (fresh items limit kind.DOCUMENT) refl are)).now (document-over run)
 
 -- the leaves of a document's tree are one for one the items that were answered
-pub document-leaves : {state : State} (items : List Answer) (limit : ℕ) → AreAnswers items → Runs (Call rule.Document) (begun items limit kind.DOCUMENT) state
+pub document-leaves : {state : State} (items : List Answer) (limit : ℕ) → AreAnswers items
+    → Runs (Call rule.Document) (begun items limit kind.DOCUMENT) state
     → OneLeafAnItem items (leaves (finished state))
 document-leaves {state = state} items limit are run =
     let s = begun items limit kind.DOCUMENT in
     let shown = (found (reading items (fresh items limit kind.DOCUMENT))).shown in
-    let (f, a, e, h, g, w) = walked_whole leaf_check Held sound items limit kind.DOCUMENT anything always run document_passes.leaves
+    let (f, a, e, h, g, w) =
+    walked_whole leaf_check Held sound items limit kind.DOCUMENT anything always run document_passes.leaves
     (record { shown = shown; seen = seen-any s shown; fits = no_more }) in
     let last = document-read items limit are run in
     let order : flat (append f (set_aside state.pending)) ++ now_of state.current
     ≡ sources items = ap (λ (v : List Source). flat (append f (set_aside state.pending)) ++ v)
-    (sym (ap (λ (xs : List Answer). now_of state.current ++ sources xs) last ∙ append-nil (now_of state.current))) ∙ w.order in
-    let each = each-item items state.current (document-over run) (fit-append f (set_aside state.pending) h.fits (fit-aside state.pending)) order in
+    (sym (ap (λ (xs : List Answer). now_of state.current ++ sources xs) last ∙ append-nil (now_of state.current)))
+    ∙ w.order in
+    let each = each-item items state.current (document-over run)
+    (fit-append f (set_aside state.pending) h.fits (fit-aside state.pending)) order in
     subst (λ (ls : List PendingToken). OneLeafAnItem items ls) (ap leaves w.tree
     ∙ sym (finished-leaves state (root-kept items limit kind.DOCUMENT refl run))) each
 
@@ -318,26 +358,32 @@ joined (pending_token ∷ ls) = pending_token.text ++ joined ls
 
 pub joined-append : (ls ms : List PendingToken) → joined (ls ++ ms) ≡ joined ls ++ joined ms
 joined-append [] ms = refl
-joined-append (pending_token ∷ ls) ms = ap (λ t. pending_token.text ++ t) (joined-append ls ms) ∙ sym (append_assoc pending_token.text (joined ls) (joined ms))
+joined-append (pending_token ∷ ls) ms =
+    ap (λ t. pending_token.text ++ t) (joined-append ls ms)
+    ∙ sym (append_assoc pending_token.text (joined ls) (joined ms))
 
 pub text-leaves : (forest : Forest) → text forest ≡ joined (leaves forest)
 text-leaves none = refl
 text-leaves (leaf this_kind s rest) = ap (λ t. s ++ t) (text-leaves rest)
-text-leaves (node this_kind kids rest) = ap₂ (λ (a b : Text). a ++ b) (text-leaves kids) (text-leaves rest) ∙ sym (joined-append (leaves kids) (leaves rest))
+text-leaves (node this_kind kids rest) =
+    ap₂ (λ (a b : Text). a ++ b) (text-leaves kids) (text-leaves rest) ∙ sym (joined-append (leaves kids) (leaves rest))
 
 end-text : (item : Item) → item.kind ≡ Some token_kind.Eof → IsItemText item.kind item.text → item.text ≡ []
 end-text item e is_item_text = subst (λ found. IsItemText found item.text) e is_item_text
 
-joined-answers : {xs : List Answer} {ls : List PendingToken} → OneLeafAnItem xs ls → AreAnswers xs → joined ls ≡ answers_text xs
+joined-answers : {xs : List Answer} {ls : List PendingToken} → OneLeafAnItem xs ls → AreAnswers xs
+    → joined ls ≡ answers_text xs
 joined-answers nothing are = refl
 joined-answers (one {item = item} {answers = xs} {l = l} {ls = ls} e fit one_leaf_an_item) are =
     ap₂ (λ (a b : Text). a ++ b) e (joined-answers one_leaf_an_item are.2)
 joined-answers (the_end {item = item} {answers = xs} {ls = ls} e one_leaf_an_item) are =
     joined-answers one_leaf_an_item are.2 ∙ sym (ap (λ t. t ++ answers_text xs) (end-text item e are.0))
-joined-answers (the_limit {answers = xs} one_leaf_an_item) are = joined-answers one_leaf_an_item (subst AreAnswers (sym are) tt)
+joined-answers (the_limit {answers = xs} one_leaf_an_item) are =
+    joined-answers one_leaf_an_item (subst AreAnswers (sym are) tt)
 
 -- where each item is a leaf, the text is the items'
-pub leaves-text : (forest : Forest) {xs : List Answer} → OneLeafAnItem xs (leaves forest) → AreAnswers xs → text forest ≡ answers_text xs
+pub leaves-text : (forest : Forest) {xs : List Answer} → OneLeafAnItem xs (leaves forest) → AreAnswers xs
+    → text forest ≡ answers_text xs
 leaves-text forest one_leaf_an_item are = text-leaves forest ∙ joined-answers one_leaf_an_item are
 
 -- ---- the first of the items
@@ -350,7 +396,8 @@ pub record FirstLeaves (xs : List Answer) (ls : List PendingToken) : Type 0 wher
   pub leaves : OneLeafAnItem front ls
   pub text : joined ls ≡ answers_text front
 
-pub first-leaves : (xs : List Answer) {these_sources : List Source} (more_sources : List Source) {ls : List PendingToken} → LeavesOf these_sources ls
+pub first-leaves : (xs : List Answer) {these_sources : List Source} (more_sources : List Source)
+    {ls : List PendingToken} → LeavesOf these_sources ls
     → these_sources ++ more_sources ≡ sources xs → FirstLeaves xs ls
 first-leaves xs more_sources no_more e = record { front = []; back = xs; split = refl; leaves = nothing; text = refl }
 first-leaves [] more_sources (one_more leaf_of leaves_of) e = absurd cc
@@ -375,18 +422,22 @@ first-leaves (gives item ∷ xs) more_sources (one_more {pending_token = l} {ls 
     }
 
 -- the others are made of the answers that are left
-pub first-leaves-left : (xs : List Answer) {these_sources : List Source} (more_sources : List Source) {ls : List PendingToken}
+pub first-leaves-left : (xs : List Answer) {these_sources : List Source} (more_sources : List Source)
+    {ls : List PendingToken}
     (leaves_of : LeavesOf these_sources ls) (e : these_sources ++ more_sources ≡ sources xs)
     → sources (first-leaves xs more_sources leaves_of e).back ≡ more_sources
 unfolding first-leaves
 first-leaves-left xs more_sources no_more e = sym e
 first-leaves-left [] more_sources (one_more leaf_of leaves_of) e = absurd cc
-first-leaves-left (limit_at index ∷ xs) more_sources (one_more leaf_of leaves_of) e = first-leaves-left xs more_sources (one_more leaf_of leaves_of) e
-first-leaves-left (gives item ∷ xs) more_sources (one_more leaf_of leaves_of) e = first-leaves-left xs more_sources leaves_of (tail-same e)
+first-leaves-left (limit_at index ∷ xs) more_sources (one_more leaf_of leaves_of) e =
+    first-leaves-left xs more_sources (one_more leaf_of leaves_of) e
+first-leaves-left (gives item ∷ xs) more_sources (one_more leaf_of leaves_of) e =
+    first-leaves-left xs more_sources leaves_of (tail-same e)
 
 -- what the leaves of a root that was not left are made of
 pub root-part : {this_rule : Rule} {state : State} (items : List Answer) (limit : ℕ) (this_kind : SyntaxKind)
-    → walk leaf_check rules_deep this_rule anything always ≡ true → Runs this_rule (flush (begun items limit this_kind)) state
+    → walk leaf_check rules_deep this_rule anything always ≡ true
+    → Runs this_rule (flush (begun items limit this_kind)) state
     → (these_trees : TreesWithSources) × FirstPart items state these_trees × Fit these_trees
 unfolding flush
 root-part {state = state} items limit this_kind c run =
@@ -401,7 +452,8 @@ root-part {state = state} items limit this_kind c run =
 
 -- they are one for one the first items
 pub root-leaves : {this_rule : Rule} {state : State} (items : List Answer) (limit : ℕ) (this_kind : SyntaxKind)
-    → walk leaf_check rules_deep this_rule anything always ≡ true → Runs this_rule (flush (begun items limit this_kind)) state
+    → walk leaf_check rules_deep this_rule anything always ≡ true
+    → Runs this_rule (flush (begun items limit this_kind)) state
     → FirstLeaves items (leaves state.tree.here)
 root-leaves {state = state} items limit this_kind c run = let p = root-part items limit this_kind c run in
     subst (λ (x : Forest). FirstLeaves items (leaves x)) p.1.tree (first-leaves items (to_come state) p.2 p.1.order)

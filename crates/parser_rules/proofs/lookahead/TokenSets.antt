@@ -1,6 +1,8 @@
--- What a test says of the classes of the current token and of the next significant one: it passes exactly for the classes of its set.
-use Rattle.std.proofs.Common.{◌≡◌, ℕ, zero, suc, ◌+◌, ◌-◌, ◌^◌, ◌%◌, ◌<◌, ◌||◌, ap₂, max, min, Bool, true, false, not, cond, ◌&&◌, eqb, bit_and, Option, Some}
-use Rattle.std.proofs.Common.{None, refl, sym, ap, ◌∙◌, subst, inl, inr, eqb-true, is_some, arith}
+-- What a test says of the classes of the current token and of the next significant one: it passes exactly for the
+-- classes of its set.
+use Rattle.std.proofs.Common.{◌≡◌, ℕ, zero, suc, ◌+◌, ◌-◌, ◌^◌, ◌%◌, ◌<◌, ◌||◌, ap₂, max, min, Bool, true, false, not}
+use Rattle.std.proofs.Common.{cond, ◌&&◌, eqb, bit_and, Option, Some, None, refl, sym, ap, ◌∙◌, subst, inl, inr}
+use Rattle.std.proofs.Common.{eqb-true, is_some, arith}
 use Rattle.std.proofs.lemmas.Bool.{eqb-false}
 use Rattle.std.specs.Int.{bit_at}
 use Rattle.std.specs.Int.Bits.{bit_xor, bit_or}
@@ -80,10 +82,12 @@ name-class : (text : Text) → within (class (IDENT, text)) name_classes ≡ tru
 unfolding class
 name-class text = word-name words text words-checked
 
-at-name : (token_kind : TokenKind) (text : Text) → same_kind token.Name token_kind ≡ within (class (leaf_number token.Name, text)) (kind_set token_kind)
+at-name : (token_kind : TokenKind) (text : Text)
+    → same_kind token.Name token_kind ≡ within (class (leaf_number token.Name, text)) (kind_set token_kind)
 unfolding same_kind within
 at-name token.Name text = sym (name-class text)
-at-name token_kind text = sym (holds-disjoint (class (IDENT, text)) name_classes (kind_set token_kind) refl (name-class text))
+at-name token_kind text =
+    sym (holds-disjoint (class (IDENT, text)) name_classes (kind_set token_kind) refl (name-class text))
 
 at-kind : (token_kind other_kind : TokenKind) (text : Text) → is_end token_kind ≡ false → ignored token_kind ≡ None
     → same_kind token_kind other_kind ≡ within (class (leaf_number token_kind, text)) (kind_set other_kind)
@@ -109,7 +113,8 @@ in-both a x y h =
     (rw f refl, rw g refl)
 
 no-name : (a x : ℕ) → within a name_classes ≡ false → within a (bit_and x name_classes) ≡ false
-no-name a x n = elim (either (within a (bit_and x name_classes))) [ inl p ↦ false-true n (in-both a x name_classes p).1 | inr p ↦ p ]
+no-name a x n = elim (either (within a (bit_and x name_classes)))
+    [ inl p ↦ false-true n (in-both a x name_classes p).1 | inr p ↦ p ]
 
 own-class : (n : ℕ) → within n (2 ^ n) ≡ true
 unfolding within
@@ -118,14 +123,16 @@ own-class n = rw (bit_at-pow_same n) refl
 -- a name's class is in a keyword's set exactly where it is the keyword
 word-set : (a n : ℕ) → within a name_classes ≡ true → eqb a n ≡ within a (bit_and (2 ^ n) name_classes)
 word-set a n h = elim (either (eqb a n)) [
-  | inl p ↦ p ∙ sym (holds-and a (2 ^ n) name_classes (subst (λ (k : ℕ). within a (2 ^ k) ≡ true) (eqb-true a n p) (own-class a)) h)
+  | inl p ↦ p ∙ sym (holds-and a (2 ^ n) name_classes
+      (subst (λ (k : ℕ). within a (2 ^ k) ≡ true) (eqb-true a n p) (own-class a)) h)
   | inr p ↦ elim (either (within a (bit_and (2 ^ n) name_classes))) [
     | inl q ↦ absurd (eqb-false a n p (holds-one a n (in-both a (2 ^ n) name_classes q).0))
     | inr q ↦ p ∙ sym q
   ]
 ]
 
-at-word : (token_kind : TokenKind) (kind : SyntaxKind) (text : Text) → is_end token_kind ≡ false → ignored token_kind ≡ None
+at-word : (token_kind : TokenKind) (kind : SyntaxKind) (text : Text) → is_end token_kind ≡ false
+    → ignored token_kind ≡ None
     → same_kind token_kind token.Name && eqb (word_class words text) (number kind)
     ≡ within (class (leaf_number token_kind, text)) (bit_and (2 ^ number kind) name_classes)
 unfolding same_kind within class
@@ -136,7 +143,8 @@ at-word token.Comma k text e i = absurd cc
 at-word token.Eof k text e i = absurd cc
 at-word token_kind kind text e i = sym (no-name (leaf_number token_kind) (2 ^ number kind) refl)
 
-end-word : (kind : SyntaxKind) (text : Text) → same_kind token.Eof token.Name && eqb (word_class words text) (number kind)
+end-word : (kind : SyntaxKind) (text : Text)
+    → same_kind token.Eof token.Name && eqb (word_class words text) (number kind)
     ≡ within 0 (bit_and (2 ^ number kind) name_classes)
 unfolding same_kind within
 end-word kind text = sym (no-name 0 (2 ^ number kind) refl)
@@ -145,7 +153,8 @@ end-word kind text = sym (no-name 0 (2 ^ number kind) refl)
 pub not-zero : (this_token : Token) → within (class this_token) ready ≡ true
 unfolding class within
 not-zero this_token = elim (either (eqb this_token.0 IDENT)) [
-  | inl p ↦ rw p (holds-subset (word_class words this_token.1) name_classes ready refl (word-name words this_token.1 words-checked))
+  | inl p ↦ rw p (holds-subset (word_class words this_token.1) name_classes ready refl
+      (word-name words this_token.1 words-checked))
   | inr p ↦ elim (either (within this_token.0 token_kinds)) [
     | inl q ↦ rw (p, q) (holds-subset this_token.0 token_kinds ready refl q)
     | inr q ↦ rw (p, q) three
@@ -191,21 +200,26 @@ edges = record {
 }
 
 -- the end, or any other token
-at-token : (A : TokenKind → ℕ → Type 0) (token_kind : TokenKind) (text : Text) → ignored token_kind ≡ None → A token.Eof 0
-    → (is_end token_kind ≡ false → A token_kind (class (leaf_number token_kind, text))) → A token_kind (lexeme_class token_kind text)
+at-token : (A : TokenKind → ℕ → Type 0) (token_kind : TokenKind) (text : Text)
+    → ignored token_kind ≡ None → A token.Eof 0
+    → (is_end token_kind ≡ false → A token_kind (class (leaf_number token_kind, text)))
+    → A token_kind (lexeme_class token_kind text)
 at-token A token.Eof text i e h = e
 at-token A token_kind text i e h = h refl
 
-pub at-set : (token_kind : TokenKind) (found : Option Lexeme) → Shown found → is_at token_kind found ≡ within (class_of found) (kind_set token_kind)
+pub at-set : (token_kind : TokenKind) (found : Option Lexeme) → Shown found
+    → is_at token_kind found ≡ within (class_of found) (kind_set token_kind)
 at-set token_kind None shown = at-none token_kind
-at-set token_kind (Some t) shown = at-token (λ j c. same_kind j token_kind ≡ within c (kind_set token_kind)) t.kind t.text shown (at-end token_kind)
+at-set token_kind (Some t) shown =
+    at-token (λ j c. same_kind j token_kind ≡ within c (kind_set token_kind)) t.kind t.text shown (at-end token_kind)
     (λ e. at-kind t.kind token_kind t.text e shown)
 
 name-none : within absent name_classes ≡ false
 unfolding within
 name-none = refl
 
-pub word-is : (kind : SyntaxKind) (found : Option Lexeme) → Shown found → is_word kind found ≡ within (class_of found) (word_set kind)
+pub word-is : (kind : SyntaxKind) (found : Option Lexeme) → Shown found
+    → is_word kind found ≡ within (class_of found) (word_set kind)
 word-is kind None shown = sym (no-name absent (2 ^ number kind) name-none)
 word-is kind (Some t) shown = at-token (λ j c. same_kind j token.Name && eqb (word_class words t.text) (number kind)
     ≡ within c (word_set kind)) t.kind t.text shown (end-word kind t.text) (λ e. at-word t.kind kind t.text e shown)
@@ -223,10 +237,12 @@ in-either a x y = rw (bit_at_or x y a) (one-of (bit_at x a) (bit_at y a) (bit_at
     one-of (suc zero) (suc (suc n)) l h = absurd (omega (arith, h))
     one-of (suc (suc m)) n l h = absurd (omega (arith, l))
 
-pub fits-set : (token_test : TokenTest) (found : Option Lexeme) → Shown found → fits token_test found ≡ within (class_of found) (set_of token_test)
+pub fits-set : (token_test : TokenTest) (found : Option Lexeme) → Shown found
+    → fits token_test found ≡ within (class_of found) (set_of token_test)
 fits-set (Kind token_kind) found shown = at-set token_kind found shown
 fits-set (Keyword kind) found shown = word-is kind found shown
-fits-set (Or token_test other_test) found shown = ap₂ (λ (a b : Bool). a || b) (fits-set token_test found shown) (fits-set other_test found shown)
+fits-set (Or token_test other_test) found shown =
+    ap₂ (λ (a b : Bool). a || b) (fits-set token_test found shown) (fits-set other_test found shown)
     ∙ in-either (class_of found) (set_of token_test) (set_of other_test)
 
 pub ready-is : (found : Option Lexeme) → Shown found → not (is_over found) ≡ within (class_of found) ready
@@ -237,20 +253,29 @@ ready-is (Some t) shown = at-token (λ j c. not (is_end j) ≡ within c ready) t
 pub present-is : (found : Option Lexeme) → Shown found → is_some found ≡ within (class_of found) present
 present-is None shown = sym edges.none_present
 present-is (Some t) shown = at-token (λ j c. true ≡ within c present) t.kind t.text shown (sym edges.end_present)
-    (λ e. sym (holds-subset (class (leaf_number t.kind, t.text)) ready present refl (not-zero (leaf_number t.kind, t.text))))
+    (λ e. sym (holds-subset (class (leaf_number t.kind, t.text)) ready present refl
+    (not-zero (leaf_number t.kind, t.text))))
 
 pub of-any : (found : Option Lexeme) → Shown found → within (class_of found) any ≡ true
 of-any None shown = edges.none_any
-of-any (Some t) shown = at-token (λ j c. within c any ≡ true) t.kind t.text shown edges.end_any (λ e. class-any (leaf_number t.kind, t.text))
+of-any (Some t) shown =
+    at-token (λ j c. within c any ≡ true) t.kind t.text shown edges.end_any
+    (λ e. class-any (leaf_number t.kind, t.text))
 
 -- ---- sets of the next two tokens
 
 -- sets that hold the classes of the current token and of the one after it
 abbrev pub Seen : ℕ → ℕ → State → Type 0
-Seen x y state = record { near : within (class_of state.current) x ≡ true; far : within (class_of (second state.items)) y ≡ true }
+Seen x y state = record {
+  near : within (class_of state.current) x ≡ true;
+  far : within (class_of (second state.items)) y ≡ true;
+}
 
 pub seen-any : (state : State) → Shown state.current → Seen any any state
-seen-any state shown = record { near = of-any state.current shown; far = of-any (second state.items) (second-shown state.items) }
+seen-any state shown = record {
+  near = of-any state.current shown;
+  far = of-any (second state.items) (second-shown state.items);
+}
 
 pub seen-more : (x y u v : ℕ) (state : State) → subset x u and subset y v ≡ true → Seen x y state → Seen u v state
 seen-more x y u v state empty seen = record {
@@ -258,7 +283,8 @@ seen-more x y u v state empty seen = record {
   far = holds-subset (class_of (second state.items)) y v (and-r _ _ empty) seen.far;
 }
 
-pub seen-same : (x y : ℕ) (state after : State) → after.current ≡ state.current → after.items ≡ state.items → Seen x y state → Seen x y after
+pub seen-same : (x y : ℕ) (state after : State) → after.current ≡ state.current → after.items ≡ state.items
+    → Seen x y state → Seen x y after
 seen-same x y state after c i seen = record {
   near = subst (λ o. within (class_of o) x ≡ true) (sym c) seen.near;
   far = subst (λ xs. within (class_of (second xs)) y ≡ true) (sym i) seen.far;
@@ -269,10 +295,12 @@ abbrev pub part : {R : Type 0} → R → ℕ → (ℕ → R) → R
 part empty z f = cond (eqb z 0) empty (f z)
 
 abbrev pub by_near : {R : Type 0} → (R → R → R) → R → ℕ → ℕ → ℕ → (ℕ → ℕ → R) → (ℕ → ℕ → R) → R
-by_near combine empty set near far f g = combine (part empty (bit_and near set) (λ z. f z far)) (part empty (bit_xor near (bit_and near set)) (λ z. g z far))
+by_near combine empty set near far f g =
+    combine (part empty (bit_and near set) (λ z. f z far)) (part empty (bit_xor near (bit_and near set)) (λ z. g z far))
 
 abbrev pub by_far : {R : Type 0} → (R → R → R) → R → ℕ → ℕ → ℕ → (ℕ → ℕ → R) → (ℕ → ℕ → R) → R
-by_far combine empty set near far f g = combine (part empty (bit_and far set) (λ z. f near z)) (part empty (bit_xor far (bit_and far set)) (λ z. g near z))
+by_far combine empty set near far f g =
+    combine (part empty (bit_and far set) (λ z. f near z)) (part empty (bit_xor far (bit_and far set)) (λ z. g near z))
 
 -- a class in a set and not in a second is in the first without what they share
 pub holds-minus : (a x m : ℕ) → within a x ≡ true → within a m ≡ false → within a (bit_xor x (bit_and x m)) ≡ true
@@ -284,37 +312,54 @@ holds-minus a x m h g =
     let f : bit_at m a ≡ 0 = omega (arith, lm, n) in
     let i : bit_at (bit_and x m) a ≡ min (bit_at x a) (bit_at m a) = bit_at_and x m a in
     let k : bit_at (bit_and x m) a ≡ 0 = omega arith in
-    let j : bit_at (bit_xor x (bit_and x m)) a ≡ (bit_at x a + bit_at (bit_and x m) a) % 2 = bit_at_xor x (bit_and x m) a in
+    let j : bit_at (bit_xor x (bit_and x m)) a ≡ (bit_at x a + bit_at (bit_and x m) a) % 2 =
+    bit_at_xor x (bit_and x m) a in
     let l : bit_at (bit_xor x (bit_and x m)) a ≡ 1 = rw (e, k) at j in
     rw l refl
 
 pub holds-none : {A : Type 0} (a : ℕ) → within a 0 ≡ true → A
 unfolding within
-holds-none a h = let z : bit_at 0 a ≡ 0 = bit_at-zero a in let e : bit_at 0 a ≡ 1 = eqb-true _ _ h in absurd (omega (arith, z, e))
+holds-none a h = let z : bit_at 0 a ≡ 0 = bit_at-zero a in let e : bit_at 0 a ≡ 1 = eqb-true _ _ h in
+    absurd (omega (arith, z, e))
 
 pub part-live : (a z : ℕ) (f : ℕ → Bool) → part true z f ≡ true → within a z ≡ true → f z ≡ true
-part-live a z f h i = elim (either (eqb z 0)) [ inl p ↦ holds-none a (subst (λ n. within a n ≡ true) (eqb-true _ _ p) i) | inr p ↦ (rw p at h) ]
+part-live a z f h i = elim (either (eqb z 0))
+    [ inl p ↦ holds-none a (subst (λ n. within a n ≡ true) (eqb-true _ _ p) i) | inr p ↦ (rw p at h) ]
 
 abbrev pub Branch : (ℕ → ℕ → Bool) → State → Type 0
 Branch f state = (u : ℕ) × (v : ℕ) × (f u v ≡ true) × Seen u v state
 
-pub near-at : (b : Bool) (set x y : ℕ) (f g : ℕ → ℕ → Bool) (state : State) → b ≡ within (class_of state.current) set
+pub near-at : (b : Bool) (set x y : ℕ) (f g : ℕ → ℕ → Bool) (state : State)
+    → b ≡ within (class_of state.current) set
     → by_near (λ a b. a and b) true set x y f g ≡ true → Seen x y state → Branch (cond b f g) state
-near-at true set x y f g state empty h seen = let z = holds-and (class_of state.current) x set seen.near (sym empty) in
-    (bit_and x set, y, part-live (class_of state.current) (bit_and x set) (λ z. f z y) (and-l _ _ h) z, record { near = z; far = seen.far })
-near-at false set x y f g state empty h seen = let z = holds-minus (class_of state.current) x set seen.near (sym empty) in (
-  bit_xor x (bit_and x set),
-  y,
-  part-live (class_of state.current) (bit_xor x (bit_and x set)) (λ z. g z y) (and-r _ _ h) z,
-  record { near = z; far = seen.far },
-)
+near-at true set x y f g state empty h seen =
+    let z = holds-and (class_of state.current) x set seen.near (sym empty) in (
+      bit_and x set,
+      y,
+      part-live (class_of state.current) (bit_and x set) (λ z. f z y) (and-l _ _ h) z,
+      record { near = z; far = seen.far },
+    )
+near-at false set x y f g state empty h seen =
+    let z = holds-minus (class_of state.current) x set seen.near (sym empty) in (
+      bit_xor x (bit_and x set),
+      y,
+      part-live (class_of state.current) (bit_xor x (bit_and x set)) (λ z. g z y) (and-r _ _ h) z,
+      record { near = z; far = seen.far },
+    )
 
-pub far-at : (b : Bool) (set x y : ℕ) (f g : ℕ → ℕ → Bool) (state : State) → b ≡ within (class_of (second state.items)) set
+pub far-at : (b : Bool) (set x y : ℕ) (f g : ℕ → ℕ → Bool) (state : State)
+    → b ≡ within (class_of (second state.items)) set
     → by_far (λ a b. a and b) true set x y f g ≡ true → Seen x y state → Branch (cond b f g) state
-far-at true set x y f g state empty h seen = let c = class_of (second state.items) in let z = holds-and c y set seen.far (sym empty) in
+far-at true set x y f g state empty h seen = let c = class_of (second state.items) in let z =
+    holds-and c y set seen.far (sym empty) in
     (x, bit_and y set, part-live c (bit_and y set) (λ z. f x z) (and-l _ _ h) z, record { near = seen.near; far = z })
-far-at false set x y f g state empty h seen = let c = class_of (second state.items) in let z = holds-minus c y set seen.far (sym empty) in
-    (x, bit_xor y (bit_and y set), part-live c (bit_xor y (bit_and y set)) (λ z. g x z) (and-r _ _ h) z, record { near = seen.near; far = z })
+far-at false set x y f g state empty h seen = let c = class_of (second state.items) in let z =
+    holds-minus c y set seen.far (sym empty) in (
+      x,
+      bit_xor y (bit_and y set),
+      part-live c (bit_xor y (bit_and y set)) (λ z. g x z) (and-r _ _ h) z,
+      record { near = seen.near; far = z },
+    )
 
 pub flip : (b v : Bool) → b ≡ not v → not b ≡ v
 flip true true e = sym e

@@ -1,12 +1,14 @@
 -- There are no more levels than tokens, since each is entered after a token that was taken inside the level around it.
-use Rattle.std.proofs.Common.{◌≡◌, ℕ, ◌+◌, ◌<◌, ◌≤◌, Bool, true, false, cond, List, length, Some, None, refl, ap, inl, inr, eqb-true, leb-true, arith}
+use Rattle.std.proofs.Common.{◌≡◌, ℕ, ◌+◌, ◌<◌, ◌≤◌, Bool, true, false, cond, List, length, Some, None, refl, ap, inl}
+use Rattle.std.proofs.Common.{inr, eqb-true, leb-true, arith}
 use Rattle.std.specs.Prelude.{is_some}
 use Rattle.lexical_grammar.specs.Answers.{Answer}
 use Rattle.document_grammar.specs.declared.kind.SyntaxKind.{SyntaxKind}
 use Rattle.document_grammar.specs.declared.kind.SyntaxKind.TheVariants as kind
 use Rattle.document_grammar.specs.Booleans.{◌or◌}
 use Rattle.document_grammar.proofs.Booleans.{either, false-true, and-l, and-r, or-c, implies}
-use Rattle.parser_rules.specs.State.{State, Lexeme, flush, opened, closed, wrapped_from, moved, enter, leave, begun, fresh}
+use Rattle.parser_rules.specs.State.{State, Lexeme, flush, opened, closed, wrapped_from, moved, enter, leave, begun}
+use Rattle.parser_rules.specs.State.{fresh}
 use Rattle.parser_rules.specs.Nodes.{Document}
 use Rattle.parser_rules.specs.RuleLanguage.{Rule, Call}
 use Rattle.parser_rules.specs.Runs.{Runs}
@@ -22,7 +24,8 @@ use Rattle.parser_rules.proofs.nesting.TokenCheck.{Taken, untaken, take, forget,
 use Rattle.parser_rules.proofs.NodeChecks.{node-passes, document_passes}
 
 module _ (n : ℕ) where
-  -- The levels that are entered, the tokens left to read, and one to spare are no more than n, nor is the highest nesting.
+  -- The levels that are entered, the tokens left to read, and one to spare are no more than n, nor is the highest
+  -- nesting.
   record Held (second_taken : Taken) (before state : State) (trees : TreesWithSources) : Type 0 where
     depth : state.depth ≡ before.depth + second_taken.entered
     fewer : left state ≤ left before
@@ -31,7 +34,8 @@ module _ (n : ℕ) where
     token : second_taken.there ≡ true → is_some state.current ≡ true
 
   -- a token is taken
-  taken : (own : SyntaxKind) (a : Taken) (before state : State) (trees more_trees : TreesWithSources) (lexeme : Lexeme) → state.current ≡ Some lexeme
+  taken : (own : SyntaxKind) (a : Taken) (before state : State) (trees more_trees : TreesWithSources) (lexeme : Lexeme)
+      → state.current ≡ Some lexeme
       → Held a before state trees → Held (take a) before (moved own state (Some lexeme)) more_trees
   unfolding flush left
   taken own a b state trees more_trees lexeme e held =
@@ -57,12 +61,19 @@ module _ (n : ℕ) where
       at-most false n = omega arith
 
   -- where there is none, none was known
-  not-taken : (a : Taken) (before state : State) (trees : TreesWithSources) → state.current ≡ None → Held a before state trees
+  not-taken : (a : Taken) (before state : State) (trees : TreesWithSources) → state.current ≡ None
+      → Held a before state trees
       → Held (take a) before state trees
   not-taken a b state trees e held = elim (either a.there) [
     | inl y ↦ false-true (ap is_some e) (held.token y)
     | inr y ↦ (let p = held.room in let c = ap (λ (b : Bool). cond b 1 a.spare) y in
-        record { depth = held.depth; fewer = held.fewer; room = omega (arith, p, c); high = held.high; token = λ z. false-true refl z })
+        record {
+          depth = held.depth;
+          fewer = held.fewer;
+          room = omega (arith, p, c);
+          high = held.high;
+          token = λ z. false-true refl z;
+        })
   ]
 
   sound : Sound token_check Held
@@ -80,7 +91,8 @@ module _ (n : ℕ) where
     limit = λ a k b s f d c h. (
       a,
       and-r _ _ c,
-      after-too-deep (λ t. Held a b t f) s (λ errors accepts. let o = eqb-true _ _ (and-l _ _ c) in let p = h.room in let i = h.high in
+      after-too-deep (λ t. Held a b t f) s
+          (λ errors accepts. let o = eqb-true _ _ (and-l _ _ c) in let p = h.room in let i = h.high in
           record { depth = h.depth; fewer = h.fewer; room = p; high = omega (arith, o, p, i); token = h.token }),
     );
     passes = λ q a x y b s f e c h. (
@@ -95,14 +107,26 @@ module _ (n : ℕ) where
       },
     );
     fails = λ q a x y b s f e c h. (a, and-r _ _ c, h);
-    turn = λ a b s f h. record { depth = h.depth; fewer = h.fewer; room = h.room; high = h.high; token = λ y. false-true refl y };
+    turn = λ a b s f h. record {
+      depth = h.depth;
+      fewer = h.fewer;
+      room = h.room;
+      high = h.high;
+      token = λ y. false-true refl y;
+    };
     settles = λ a. refl;
     keeps = λ a c b s f e h.
         let o = eqb-true _ _ (and-l _ _ e) in
         let l = leb-true _ _ (and-r _ _ e) in
         let d = h.depth in
         let p = h.room in
-        record { depth = omega (arith, o, d); fewer = h.fewer; room = omega (arith, l, p); high = h.high; token = λ y. false-true refl y };
+        record {
+          depth = omega (arith, o, d);
+          fewer = h.fewer;
+          room = omega (arith, l, p);
+          high = h.high;
+          token = λ y. false-true refl y;
+        };
     opens = λ m a b s f c h. let p = h.room in record {
       depth = omega arith;
       fewer = omega arith;
@@ -128,13 +152,32 @@ module _ (n : ℕ) where
     enters = λ a k b s f w c h.
         let o = eqb-true _ _ (and-l _ _ (and-l _ _ c)) in
         let l = eqb-true _ _ (and-r _ _ (and-l _ _ c)) in
-        let d = h.depth in let p = h.room in let i = h.high in
-        (_, and-r _ _ c, record { depth = omega (arith, o, d); fewer = h.fewer; room = omega (arith, l, p); high = omega (arith, l, p, i); token = h.token });
+        let d = h.depth in let p = h.room in let i = h.high in (
+          _,
+          and-r _ _ c,
+          record {
+            depth = omega (arith, o, d);
+            fewer = h.fewer;
+            room = omega (arith, l, p);
+            high = omega (arith, l, p, i);
+            token = h.token;
+          },
+        );
     leaves = λ a k b s f c h.
         let o = eqb-true _ _ (and-l _ _ c) in
-        let d = h.depth in let p = h.room in
-        (_, and-r _ _ c, record { depth = omega (arith, o, d); fewer = h.fewer; room = omega (arith, o, d, p); high = h.high; token = h.token });
-    types = λ a b s f h. let p = h.room in record { depth = omega arith; fewer = omega arith; room = p; high = h.high; token = h.token };
+        let d = h.depth in let p = h.room in (
+          _,
+          and-r _ _ c,
+          record {
+            depth = omega (arith, o, d);
+            fewer = h.fewer;
+            room = omega (arith, o, d, p);
+            high = h.high;
+            token = h.token;
+          },
+        );
+    types = λ a b s f h. let p = h.room in
+        record { depth = omega arith; fewer = omega arith; room = p; high = h.high; token = h.token };
     plain = λ a e k b s u f g c h i l.
         let n = eqb-true _ _ (and-l _ _ c) in
         let v = i.depth in let w = i.fewer in let x = h.depth in let y = h.fewer in let p = h.room in (
@@ -148,26 +191,36 @@ module _ (n : ℕ) where
             token = λ z. false-true refl z;
           },
         );
-    wraps = λ c k s u g p i l. (c, p, record { depth = i.depth; fewer = i.fewer; room = i.room; high = i.high; token = i.token });
+    wraps = λ c k s u g p i
+        l. (c, p, record { depth = i.depth; fewer = i.fewer; room = i.room; high = i.high; token = i.token });
     nodes = λ m. (node-passes m).tokens;
   }
 
 -- no deeper than there are answers
-pub levels-within : (items : List Answer) (limit : ℕ) (state : State) → Runs (Call Document) (begun items limit kind.DOCUMENT) state → state.high ≤ length items
+pub levels-within : (items : List Answer) (limit : ℕ) (state : State)
+    → Runs (Call Document) (begun items limit kind.DOCUMENT) state → state.high ≤ length items
 levels-within items limit state run =
     let after : State = fresh items limit kind.DOCUMENT in
     let u = read-untouched items after in
     let l = read-left (reading items after) refl in
     let d = u.depth in
     let h = u.high in
-    let (f, a, e, i, g, w) = walked_whole token_check (Held (length items)) (sound (length items)) items limit kind.DOCUMENT
+    let (f, a, e, i, g, w) =
+    walked_whole token_check (Held (length items)) (sound (length items)) items limit kind.DOCUMENT
     (untaken false) always run document_passes.tokens
-    (record { depth = omega arith; fewer = omega arith; room = omega (arith, l, d); high = omega (arith, h); token = λ y. false-true refl y }) in
+    (record {
+      depth = omega arith;
+      fewer = omega arith;
+      room = omega (arith, l, d);
+      high = omega (arith, h);
+      token = λ y. false-true refl y;
+    }) in
     i.high
 
 -- a root of another kind may have one level that no token begins
 pub root-levels-within : {rule : Rule} (items : List Answer) (limit : ℕ) (this_kind : SyntaxKind) (state : State)
-    → walk token_check rules_deep rule (record (untaken false) { spare = 1 }) always ≡ true → Runs rule (flush (begun items limit this_kind)) state
+    → walk token_check rules_deep rule (record (untaken false) { spare = 1 }) always ≡ true
+    → Runs rule (flush (begun items limit this_kind)) state
     → state.high ≤ length items + 1
 unfolding flush left
 root-levels-within items limit this_kind state check run =
@@ -176,7 +229,14 @@ root-levels-within items limit this_kind state check run =
     let l = read-left (reading items after) refl in
     let d = u.depth in
     let h = u.high in
-    let (f, a, e, i, g) = walked_root token_check (Held (length items + 1)) (sound (length items + 1)) items limit this_kind
+    let (f, a, e, i, g) = walked_root token_check (Held (length items + 1)) (sound (length items + 1)) items
+    limit this_kind
     (record (untaken false) { spare = 1 }) always run check
-    (record { depth = omega arith; fewer = omega arith; room = omega (arith, l, d); high = omega (arith, h); token = λ y. false-true refl y }) in
+    (record {
+      depth = omega arith;
+      fewer = omega arith;
+      room = omega (arith, l, d);
+      high = omega (arith, h);
+      token = λ y. false-true refl y;
+    }) in
     i.high

@@ -1,12 +1,12 @@
--- The computed check that a rule enters a level only after a token that it took inside the level around it: so there are no more levels
--- than there are tokens.
+-- The computed check that a rule enters a level only after a token that it took inside the level around it: so there
+-- are no more levels than there are tokens.
 use Rattle.std.proofs.Common.{ℕ, Bool, false, cond, eqb, leb, not}
 use Rattle.document_grammar.specs.Booleans.{◌and◌, ◌or◌}
 use Rattle.parser_rules.proofs.runs.Walk.{Domain, steady}
 use Rattle.parser_rules.proofs.reports.LimitCheck.{tells_inner, begins_level}
 
--- How many levels were entered in the open node; 1 where a token was taken since the last of them was entered; and whether the current token
--- is known to be there.
+-- How many levels were entered in the open node; 1 where a token was taken since the last of them was entered; and
+-- whether the current token is known to be there.
 pub record Taken : Type 0 where
   pub entered : ℕ
   pub spare : ℕ

@@ -1,5 +1,5 @@
--- The computed checks of a rule that hold whatever is reported: which tokens become ERROR leaves, which symbols are in a node, and that no
--- token becomes an ignored leaf.
+-- The computed checks of a rule that hold whatever is reported: which tokens become ERROR leaves, which symbols are in
+-- a node, and that no token becomes an ignored leaf.
 use Rattle.std.proofs.Common.{ℕ, ◌∷◌, Bool, true, false, cond, eqb, ltb, not}
 use Rattle.lexical_grammar.specs.declared.TokenKind.TheVariants as token
 use Rattle.document_grammar.specs.declared.kind.SyntaxKind.{SyntaxKind}
@@ -54,7 +54,8 @@ room_of this_kind no_bracket = is_list this_kind
 room_of this_kind one_token = not (is_list this_kind)
 room_of this_kind no_token = not (is_list this_kind)
 
--- Of the current token: a report was made at it, the token limit cuts the text off after it, it is no `]`. And the room that is left.
+-- Of the current token: a report was made at it, the token limit cuts the text off after it, it is no `]`. And the room
+-- that is left.
 pub record Popping : Type 0 where
   pub told : Bool
   pub cut : Bool
@@ -71,8 +72,8 @@ pop popping no_bracket rest = popping.spared and rest (unknown no_bracket)
 pop popping one_token rest = cond popping.cut (rest (unknown one_token)) (rest (unknown no_token))
 pop popping no_token rest = popping.cut and rest (unknown no_token)
 
--- A token that becomes an ERROR leaf has a report, and it is the only one of its node, but for those of the root, and of a LIST_VALUE, which
--- are no `]`.
+-- A token that becomes an ERROR leaf has a report, and it is the only one of its node, but for those of the root, and
+-- of a LIST_VALUE, which are no `]`.
 unfoldable pub pop_check : Domain Popping
 pop_check = record (steady (unknown any_token)) {
   leaf = λ j a k. cond (is_error j) (a.told and pop a a.room k) (k (unknown a.room));

@@ -1,13 +1,14 @@
 -- Where the recursion limit is reported, the highest nesting is one level more than the limit.
-use Rattle.std.proofs.Common.{◌≡◌, ◌+◌, ◌≤◌, ◌||◌, ◌&&◌, if◌then◌else◌, true≢false, ℕ, min, Bool, true, false, List, [], ◌∷◌, ◌++◌, refl, sym, ◌∙◌, ap, arith}
+use Rattle.std.proofs.Common.{◌≡◌, ◌+◌, ◌≤◌, ◌||◌, ◌&&◌, if◌then◌else◌, true≢false, ℕ, min, Bool, true, false, List, []}
+use Rattle.std.proofs.Common.{◌∷◌, ◌++◌, refl, sym, ◌∙◌, ap, arith}
 use Rattle.std.specs.List.{list_any}
 use Rattle.std.proofs.lemmas.List.Folds.{list_any-append}
 use Rattle.lexical_grammar.specs.Answers.{Answer, is_end, usize_max}
 use Rattle.document_grammar.specs.declared.kind.SyntaxKind.{SyntaxKind}
 use Rattle.document_grammar.specs.Builds.{add_leaf}
 use Rattle.parser_rules.specs.Messages.{is_limit}
-use Rattle.parser_rules.specs.State.{State, Lexeme, Report, at_end, at_text, found_at, bad_report, token_limit_report, flush, closed, wrapped_from}
-use Rattle.parser_rules.specs.State.{fault_report, enter, leave, begun, fresh}
+use Rattle.parser_rules.specs.State.{State, Lexeme, Report, at_end, at_text, found_at, bad_report, token_limit_report}
+use Rattle.parser_rules.specs.State.{flush, closed, wrapped_from, fault_report, enter, leave, begun, fresh}
 use Rattle.parser_rules.specs.Reports.{is_recursion_limit}
 use Rattle.parser_rules.specs.RuleLanguage.{Rule}
 use Rattle.parser_rules.specs.Runs.{Runs}
@@ -20,10 +21,12 @@ abbrev pub IsLimited : State → Type 0
 IsLimited state = list_any is_recursion_limit state.errors ≡ true
 
 -- another report does not change that
-other-report : (state : State) (report : Report) → is_recursion_limit report ≡ false → list_any is_recursion_limit (state.errors ++ report ∷ []) ≡ true
+other-report : (state : State) (report : Report) → is_recursion_limit report ≡ false
+    → list_any is_recursion_limit (state.errors ++ report ∷ []) ≡ true
     → IsLimited state
 other-report state report e h = omit (list_any is_recursion_limit state.errors)
-    (sym (list_any-append is_recursion_limit state.errors (report ∷ []) ∙ ap (λ b. list_any is_recursion_limit state.errors || (b || false)) e) ∙ h)
+    (sym (list_any-append is_recursion_limit state.errors (report ∷ [])
+    ∙ ap (λ b. list_any is_recursion_limit state.errors || (b || false)) e) ∙ h)
   where
     omit : (b : Bool) → b || false ≡ true → b ≡ true
     omit true e = refl
@@ -31,7 +34,8 @@ other-report state report e h = omit (list_any is_recursion_limit state.errors)
 
 -- what is found at a token is no limit
 pub found-other : (lexeme : Lexeme) → is_limit (found_at lexeme) ≡ false
-found-other lexeme = elim (is_end lexeme.kind) as (λ b. is_limit (if b then at_end else at_text lexeme.text) ≡ false) [ true ↦ refl | false ↦ refl ]
+found-other lexeme = elim (is_end lexeme.kind) as (λ b. is_limit (if b then at_end else at_text lexeme.text) ≡ false)
+    [ true ↦ refl | false ↦ refl ]
 
 read-limited : {xs : List Answer} {state after : State} → Reading xs state after → IsLimited after → IsLimited state
 read-limited stops is_limited = is_limited
@@ -53,7 +57,8 @@ limits-along = record {
   next = λ s t u h k e. k (h e);
   flushes = λ s h. h;
   moves = λ leaf x s e w h i.
-      let t : State = record s { tree = add_leaf leaf x.text s.tree } in let u = read-untouched s.items t in let l = u.limit in let g = u.high in
+      let t : State = record s { tree = add_leaf leaf x.text s.tree } in let u = read-untouched s.items t in let l =
+      u.limit in let g = u.high in
       let p = h (read-limited (reading s.items t) i) in omega (arith, l, g, p);
   reports = λ m x s e a h i. h (other-report s (fault_report m x) (ap (λ (b : Bool). b && true) (found-other x)) i);
   limits = λ x s e a d h i. d;
@@ -65,11 +70,14 @@ limits-along = record {
 
 -- the limit is one below the highest nesting, where it is reported
 pub asked-since : (items : List Answer) (limit : ℕ) (kind : SyntaxKind) (state : State) → state.limit ≡ limit
-    → (LimitIsPast (begun items limit kind) → LimitIsPast state) → list_any is_recursion_limit state.errors ≡ true → min (limit + 1) usize_max ≤ state.high
+    → (LimitIsPast (begun items limit kind) → LimitIsPast state) → list_any is_recursion_limit state.errors ≡ true
+    → min (limit + 1) usize_max ≤ state.high
 asked-since items limit kind state l told h =
     let p = told (λ i. absurd (true≢false (sym (read-limited (reading items (fresh items limit kind)) i)))) h in
     omega (arith, l, p)
 
-pub asked-past : {rule : Rule} {state : State} (items : List Answer) (limit : ℕ) (kind : SyntaxKind) → Runs rule (begun items limit kind) state
+pub asked-past : {rule : Rule} {state : State} (items : List Answer) (limit : ℕ) (kind : SyntaxKind)
+    → Runs rule (begun items limit kind) state
     → list_any is_recursion_limit state.errors ≡ true → min (limit + 1) usize_max ≤ state.high
-asked-past {state = state} items limit kind run = asked-since items limit kind state (begun-nesting items limit kind run).1 (along limits-along run)
+asked-past {state = state} items limit kind run =
+    asked-since items limit kind state (begun-nesting items limit kind run).1 (along limits-along run)

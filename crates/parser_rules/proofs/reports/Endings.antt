@@ -1,5 +1,6 @@
 -- The answers of a limited reader of a cut end.
-use Rattle.std.proofs.Common.{◌≡◌, ℕ, zero, suc, ◌+◌, Bool, false, List, [], ◌∷◌, Option, Some, None, length, refl, sym, subst}
+use Rattle.std.proofs.Common.{◌≡◌, ℕ, zero, suc, ◌+◌, Bool, false, List, [], ◌∷◌, Option, Some, None, length, refl, sym}
+use Rattle.std.proofs.Common.{subst}
 use Rattle.lexical_grammar.specs.declared.TokenKind.{TokenKind}
 use Rattle.lexical_grammar.specs.declared.TokenKind.TheVariants as token
 use Rattle.lexical_grammar.specs.Cut.{Item, IsItem, CutFrom, texts}
@@ -15,8 +16,10 @@ no-end (Some _) text after is_item = refl
 pub ends-well : (max_items offset : ℕ) (items : List Item) → CutFrom offset items → EndsWell (limited max_items items)
 ends-well max_items offset [] cut_from = absurd cut_from
 ends-well zero offset (item ∷ []) cut_from = refl
-ends-well (suc k) offset (item ∷ []) cut_from = subst (λ (i : Item). EndsWell (gives i ∷ limited k [])) (sym cut_from) (limited-end k)
+ends-well (suc k) offset (item ∷ []) cut_from =
+    subst (λ (i : Item). EndsWell (gives i ∷ limited k [])) (sym cut_from) (limited-end k)
 ends-well zero offset (item ∷ next ∷ items) cut_from = refl
 ends-well (suc k) offset (item ∷ next ∷ items) cut_from =
     subst (λ (b : Bool). choose b (limited k (next ∷ items) ≡ []) (EndsWell (limited k (next ∷ items))))
-    (sym (no-end item.kind item.text (texts (next ∷ items)) cut_from.1)) (ends-well k (offset + length item.text) (next ∷ items) cut_from.2)
+    (sym (no-end item.kind item.text (texts (next ∷ items)) cut_from.1))
+    (ends-well k (offset + length item.text) (next ∷ items) cut_from.2)

@@ -1,4 +1,5 @@
--- The computed check that a rule enters a level only where a token is certain: so the recursion limit's report is made, and not dropped.
+-- The computed check that a rule enters a level only where a token is certain: so the recursion limit's report is made,
+-- and not dropped.
 use Rattle.std.proofs.Common.{Bool, true, false, cond, not, Option, None, Some}
 use Rattle.std.specs.Prelude.{is_some}
 use Rattle.lexical_grammar.specs.Answers.{is_end}
@@ -8,7 +9,8 @@ use Rattle.parser_rules.specs.Nodes.{Node, QueryShorthand, SelectionSet, ListTyp
 use Rattle.parser_rules.specs.RuleLanguage.{TokenTest, Kind, Keyword, Or, Test, Here, Ready, Both}
 use Rattle.parser_rules.proofs.runs.Walk.{Domain, steady}
 
--- what is known of the current token while the grammar's reports are taken: nothing; that there is one; that it is not the end
+-- what is known of the current token while the grammar's reports are taken: nothing; that there is one; that it is not
+-- the end
 pub data Current : Type 0 where
   unknown : Current
   present : Current

@@ -1,6 +1,6 @@
 -- A state without a new report: what is left to read, and that reading on keeps it so or reports.
-use Rattle.std.proofs.Common.{◌≡◌, ℕ, Bool, true, false, not, if◌then◌else◌, List, [], ◌∷◌, ◌++◌, Option, Some, None, refl, sym, ap, ap₂, ◌∙◌, subst, ◌⊎◌, inl}
-use Rattle.std.proofs.Common.{inr, append_assoc}
+use Rattle.std.proofs.Common.{◌≡◌, ℕ, Bool, true, false, not, if◌then◌else◌, List, [], ◌∷◌, ◌++◌, Option, Some, None}
+use Rattle.std.proofs.Common.{refl, sym, ap, ap₂, ◌∙◌, subst, ◌⊎◌, inl, inr, append_assoc}
 use Rattle.std.specs.Prelude.{⊤}
 use Rattle.lexical_grammar.specs.declared.TokenKind.{TokenKind}
 use Rattle.lexical_grammar.specs.declared.TokenKind.TheVariants as token
@@ -11,9 +11,10 @@ use Rattle.document_grammar.specs.Tree.{Token}
 use Rattle.document_grammar.specs.Sentence.{token_of, leaf_number}
 use Rattle.document_grammar.proofs.Booleans.{either, false-true, and-i}
 use Rattle.document_grammar.specs.Booleans.{◌and◌}
-use Rattle.parser_rules.specs.State.{State, Text, Lexeme, Report, bad_report, token_limit_report, ignored, wait, bad, met}
-use Rattle.parser_rules.proofs.runs.Reading.{Reading, stops, cuts, bad_text, waits, shows, reading, reading-none, item-is, kinds-more, ignored-kinds}
-use Rattle.parser_rules.proofs.runs.Reading.{ignored-leaf}
+use Rattle.parser_rules.specs.State.{State, Text, Lexeme, Report, bad_report, token_limit_report, ignored, wait, bad}
+use Rattle.parser_rules.specs.State.{met}
+use Rattle.parser_rules.proofs.runs.Reading.{Reading, stops, cuts, bad_text, waits, shows, reading, reading-none}
+use Rattle.parser_rules.proofs.runs.Reading.{item-is, kinds-more, ignored-kinds, ignored-leaf}
 use Rattle.document_grammar.specs.Builds.{add_leaf}
 use Rattle.parser_rules.proofs.runs.Steps.{Holds_along, Keeps_reading, along-reading}
 use Rattle.parser_rules.proofs.runs.Frame.{untouched}
@@ -23,7 +24,8 @@ use Rattle.parser_rules.proofs.soundness.Settled.{Settled}
 
 -- the significant tokens of a kind and a text, of an answer, of the current token: one or none
 abbrev pub kind_tokens : TokenKind → Text → List Token
-kind_tokens token_kind text = if is_significant_kind token_kind then token_of (record { kind = token_kind; text = text }) ∷ [] else []
+kind_tokens token_kind text =
+    if is_significant_kind token_kind then token_of (record { kind = token_kind; text = text }) ∷ [] else []
 
 abbrev pub item_tokens : Option TokenKind → Text → List Token
 item_tokens None text = []
@@ -65,7 +67,8 @@ abbrev pub all_tokens : List Answer → Bool
 all_tokens [] = true
 all_tokens (answer ∷ answers) = is_token answer and all_tokens answers
 
-pub all_tokens-append : (xs ys : List Answer) → all_tokens xs ≡ true → all_tokens ys ≡ true → all_tokens (xs ++ ys) ≡ true
+pub all_tokens-append : (xs ys : List Answer) → all_tokens xs ≡ true → all_tokens ys ≡ true
+    → all_tokens (xs ++ ys) ≡ true
 unfolding ◌and◌
 all_tokens-append [] ys h g = g
 all_tokens-append (answer ∷ xs) ys h g = elim (either (is_token answer)) [
@@ -88,13 +91,16 @@ grows-on state after later grows second_grows = record {
 }
 
 reading-grows : {xs : List Answer} {state after : State} → Reading xs state after → Grows state after
-reading-grows {after = after} this_reading = record { reports = read-reports this_reading; stays = λ m. subst (Settled m) (sym (untouched this_reading).tree) }
+reading-grows {after = after} this_reading =
+    record { reports = read-reports this_reading; stays = λ m. subst (Settled m) (sym (untouched this_reading).tree) }
 
 -- ignored tokens are no tokens of the grammar
-pub ignored-tokens : (token_kind : TokenKind) (leaf : SyntaxKind) (text : Text) → ignored token_kind ≡ Some leaf → kind_tokens token_kind text ≡ []
+pub ignored-tokens : (token_kind : TokenKind) (leaf : SyntaxKind) (text : Text) → ignored token_kind ≡ Some leaf
+    → kind_tokens token_kind text ≡ []
 ignored-tokens k leaf text = ignored-kinds (λ k own. kind_tokens k text ≡ []) refl refl refl k leaf
 
-pub ignored-end : (token_kind : TokenKind) (leaf : SyntaxKind) → ignored token_kind ≡ Some leaf → is_end token_kind ≡ false
+pub ignored-end : (token_kind : TokenKind) (leaf : SyntaxKind) → ignored token_kind ≡ Some leaf
+    → is_end token_kind ≡ false
 ignored-end = ignored-kinds (λ k own. is_end k ≡ false) refl refl refl
 
 -- ---- the current token
@@ -104,7 +110,8 @@ pub end-kind : (token_kind : TokenKind) → is_end token_kind ≡ true → token
 end-kind token.Eof e = refl
 end-kind _ e = absurd cc
 
-pub shown-kind : (token_kind : TokenKind) → ignored token_kind ≡ None → is_significant_kind token_kind ≡ not (is_end token_kind)
+pub shown-kind : (token_kind : TokenKind) → ignored token_kind ≡ None
+    → is_significant_kind token_kind ≡ not (is_end token_kind)
 shown-kind token.Whitespace i = absurd cc
 shown-kind token.Comment i = absurd cc
 shown-kind token.Comma i = absurd cc
@@ -113,7 +120,8 @@ shown-kind _ i = refl
 
 pub significant : (token_kind : TokenKind) (text : Text) → is_end token_kind ≡ false → ignored token_kind ≡ None
     → kind_tokens token_kind text ≡ (leaf_number token_kind, text) ∷ []
-significant token_kind text e i = ap (λ (b : Bool). if b then token_of (record { kind = token_kind; text = text }) ∷ [] else [])
+significant token_kind text e i =
+    ap (λ (b : Bool). if b then token_of (record { kind = token_kind; text = text }) ∷ [] else [])
     (shown-kind token_kind i ∙ ap not e)
 
 -- the current token is the end, and nothing is left; or it is the first that is left
@@ -125,15 +133,25 @@ pub record AtEnd (lexeme : Lexeme) (items : List Answer) : Type 0 where
 pub record AtToken (lexeme : Lexeme) (items : List Answer) : Type 0 where
   pub is_end : is_end lexeme.kind ≡ false
   pub shown : ignored lexeme.kind ≡ None
-  pub first : current_tokens (Some lexeme) ++ answers_tokens items ≡ (leaf_number lexeme.kind, lexeme.text) ∷ answers_tokens items
+  pub first : current_tokens (Some lexeme)
+      ++ answers_tokens items ≡ (leaf_number lexeme.kind, lexeme.text) ∷ answers_tokens items
 
-pub end-or-token : (lexeme : Lexeme) (items : List Answer) → Now (Some lexeme) items → AtEnd lexeme items ⊎ AtToken lexeme items
+pub end-or-token : (lexeme : Lexeme) (items : List Answer) → Now (Some lexeme) items
+    → AtEnd lexeme items ⊎ AtToken lexeme items
 end-or-token lexeme items now = elim (either (is_end lexeme.kind)) [
   | inl e ↦ (
       let k = end-kind lexeme.kind e in
       let none : items ≡ [] = subst (λ (b : Bool). choose b (items ≡ []) (EndsWell items)) e now.1 in
-      inl (record { kind = k; none = none; nothing = ap₂ (λ (j : TokenKind) (xs : List Answer). kind_tokens j lexeme.text ++ answers_tokens xs) k none }))
-  | inr e ↦ inr (record { is_end = e; shown = now.0; first = ap (λ (v : List Token). v ++ answers_tokens items) (significant lexeme.kind lexeme.text e now.0) })
+      inl (record {
+        kind = k;
+        none = none;
+        nothing = ap₂ (λ (j : TokenKind) (xs : List Answer). kind_tokens j lexeme.text ++ answers_tokens xs) k none;
+      }))
+  | inr e ↦ inr (record {
+    is_end = e;
+    shown = now.0;
+    first = ap (λ (v : List Token). v ++ answers_tokens items) (significant lexeme.kind lexeme.text e now.0);
+  })
 ]
 
 -- What holds at each state of a run: the current token is shown, and the answers after it end.
@@ -141,7 +159,8 @@ abbrev pub NowOrNone : Option Lexeme → List Answer → Type 0
 NowOrNone None items = ⊤
 NowOrNone (Some t) items = Now (Some t) items
 
-pub reading-now : {xs : List Answer} {state after : State} → Reading xs state after → EndsWell xs → NowOrNone after.current after.items
+pub reading-now : {xs : List Answer} {state after : State} → Reading xs state after → EndsWell xs
+    → NowOrNone after.current after.items
 reading-now stops ends_well = absurd ends_well
 reading-now {after = after} (cuts this_reading) ends_well = subst (λ (o : Option Lexeme). NowOrNone o after.items)
     (sym (reading-none this_reading ends_well)) tt
@@ -150,14 +169,16 @@ reading-now (waits {this_token_kind = this_token_kind} {own = own} i j this_read
     reading-now this_reading (rw (i, ignored-end this_token_kind own j) at ends_well)
 reading-now (shows i j) ends_well = (j, rw i at ends_well)
 
-now-after : {xs : List Answer} {state after : State} (lexeme : Lexeme) → Reading xs state after → Now (Some lexeme) xs → NowOrNone after.current after.items
+now-after : {xs : List Answer} {state after : State} (lexeme : Lexeme) → Reading xs state after → Now (Some lexeme) xs
+    → NowOrNone after.current after.items
 now-after {after = after} lexeme this_reading now = elim (either (is_end lexeme.kind)) [
   | inl e ↦ subst (λ (o : Option Lexeme). NowOrNone o after.items) (sym (reading-none this_reading (rw e at now.1))) tt
   | inr e ↦ reading-now this_reading (rw e at now.1)
 ]
 
 pub now-along : Holds_along (Keeps_reading NowOrNone)
-now-along = along-reading NowOrNone (λ leaf x s e h. now-after x (reading s.items (record s { tree = add_leaf leaf x.text s.tree }))
+now-along = along-reading NowOrNone
+    (λ leaf x s e h. now-after x (reading s.items (record s { tree = add_leaf leaf x.text s.tree }))
     (subst (λ (o : Option Lexeme). NowOrNone o s.items) e h))
 
 -- the answer that gave the current token
@@ -189,8 +210,8 @@ module _ (answers : List Answer) where
   Held (Some t) items = Passed (given t ∷ items)
 
 module _ (answers : List Answer) (Right : Report → ℕ → Type 0) where
-  -- There are reports, and the first of them is right. So many tokens were taken before it, and the nodes that ended before the last of
-  -- them fit.
+  -- There are reports, and the first of them is right. So many tokens were taken before it, and the nodes that ended
+  -- before the last of them fit.
   pub record FirstReportIsRight (st : State) : Type 0 where
     pub report : Report
     pub more : List Report
@@ -223,11 +244,14 @@ module _ (answers : List Answer) (Right : Report → ℕ → Type 0) where
 
   -- a report of an answer that is no token would be right
   abbrev pub WouldBeRight : ℕ → List Token → Type 0
-  WouldBeRight m tokens = (answer : Answer) (ys : List Answer) → Passed answers (answer ∷ ys) → is_token answer ≡ false → answers_tokens ys ≡ tokens
+  WouldBeRight m tokens =
+      (answer : Answer) (ys : List Answer) → Passed answers (answer ∷ ys) → is_token answer ≡ false
+      → answers_tokens ys ≡ tokens
       → Right (report_of answer) m
 
   -- the first report
-  pub first-right : (m : ℕ) (this_report : Report) (state after : State) → Quiet state → after.errors ≡ state.errors ++ this_report ∷ [] → Right this_report m
+  pub first-right : (m : ℕ) (this_report : Report) (state after : State) → Quiet state
+      → after.errors ≡ state.errors ++ this_report ∷ [] → Right this_report m
       → Settled m after.tree → FirstReportIsRight after
   first-right m this_report state after quiet e i f = record {
     report = this_report;
@@ -238,35 +262,46 @@ module _ (answers : List Answer) (Right : Report → ℕ → Type 0) where
     settled = f;
   }
 
-  pub read-on : {xs : List Answer} {state after : State} → Reading xs state after → (m : ℕ) → Quiet state → EndsWell xs → Passed answers xs
-      → WouldBeRight m (answers_tokens xs) → Settled m state.tree → FirstReportIsRight after ⊎ (NothingReported after × (rest after ≡ answers_tokens xs))
+  pub read-on : {xs : List Answer} {state after : State} → Reading xs state after → (m : ℕ) → Quiet state
+      → EndsWell xs → Passed answers xs
+      → WouldBeRight m (answers_tokens xs) → Settled m state.tree
+      → FirstReportIsRight after ⊎ (NothingReported after × (rest after ≡ answers_tokens xs))
   read-on stops m q ends_well passed would_be_right settled = absurd ends_well
-  read-on {state = state} {after = after} (cuts {index = index} {xs = xs} this_reading) m q ends_well passed would_be_right settled =
+  read-on {state = state} {after = after} (cuts {index = index} {xs = xs} this_reading) m q ends_well passed
+      would_be_right settled =
       let later : State = met index (record state { items = xs }) in
-      inl (first-right-on later after (reading-grows this_reading) (first-right m (token_limit_report index) state later q refl
+      inl (first-right-on later after (reading-grows this_reading)
+      (first-right m (token_limit_report index) state later q refl
       (would_be_right (limit_at index) xs passed refl refl) settled))
-  read-on {state = state} {after = after} (bad_text {item = item} {xs = xs} i this_reading) m q ends_well passed would_be_right settled =
+  read-on {state = state} {after = after} (bad_text {item = item} {xs = xs} i this_reading) m q ends_well passed
+      would_be_right settled =
       let later : State = bad item.text item.index (record state { items = xs }) in
-      inl (first-right-on later after (reading-grows this_reading) (first-right m (bad_report item.text item.index) state later q refl
+      inl (first-right-on later after (reading-grows this_reading)
+      (first-right m (bad_report item.text item.index) state later q refl
       (would_be_right (gives item) xs passed (rw i refl) (rw i refl)) settled))
-  read-on {state = state} (waits {item = item} {this_token_kind = this_token_kind} {own = own} {xs = xs} i j this_reading) m q ends_well passed would_be_right
+  read-on {state = state}
+      (waits {item = item} {this_token_kind = this_token_kind} {own = own} {xs = xs} i j this_reading) m q
+      ends_well passed would_be_right
       settled =
-      let same : answers_tokens (gives item ∷ xs) ≡ answers_tokens xs = rw (i, ignored-tokens this_token_kind own item.text j) refl in
+      let same : answers_tokens (gives item ∷ xs) ≡ answers_tokens xs =
+      rw (i, ignored-tokens this_token_kind own item.text j) refl in
       let quiet : Quiet (wait own item.text (record state { items = xs })) = record {
         clean = q.clean;
         accepts = q.accepts;
         waits = kinds-more _ _ (record { kind = own; text = item.text }) q.waits (ignored-leaf this_token_kind own j);
       } in
-      elim (read-on this_reading m quiet (rw (i, ignored-end this_token_kind own j) at ends_well) (passed-one answers (gives item) xs (rw i refl) passed)
+      elim (read-on this_reading m quiet (rw (i, ignored-end this_token_kind own j) at ends_well)
+      (passed-one answers (gives item) xs (rw i refl) passed)
       (subst (WouldBeRight m) same would_be_right) settled) [
         | inl o ↦ inl o
         | inr o ↦ inr (o.0, o.1 ∙ sym same)
       ]
-  read-on (shows {item = item} {this_token_kind = this_token_kind} {xs = xs} i j) m q ends_well passed would_be_right settled = inr (
-    record {
-      quiet = record { clean = q.clean; accepts = q.accepts; waits = q.waits };
-      now = (j, rw i at ends_well);
-      held = subst (λ (x : Item). Passed answers (gives x ∷ xs)) (sym (item-is item this_token_kind i)) passed;
-    },
-    rw i refl,
-  )
+  read-on (shows {item = item} {this_token_kind = this_token_kind} {xs = xs} i j) m q ends_well passed
+      would_be_right settled = inr (
+        record {
+          quiet = record { clean = q.clean; accepts = q.accepts; waits = q.waits };
+          now = (j, rw i at ends_well);
+          held = subst (λ (x : Item). Passed answers (gives x ∷ xs)) (sym (item-is item this_token_kind i)) passed;
+        },
+        rw i refl,
+      )

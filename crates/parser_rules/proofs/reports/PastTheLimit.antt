@@ -1,6 +1,6 @@
 -- Where the highest nesting is more than the recursion limit, a limit is reported.
-use Rattle.std.proofs.Common.{◌≡◌, ℕ, ◌≤◌, ◌<◌, Bool, true, false, ◌||◌, not, cond, if◌then◌else◌, List, [], ◌∷◌, ◌++◌, Option, Some, None, refl, sym, ap, ◌∙◌}
-use Rattle.std.proofs.Common.{subst, true≢false, inl, inr, arith}
+use Rattle.std.proofs.Common.{◌≡◌, ℕ, ◌≤◌, ◌<◌, Bool, true, false, ◌||◌, not, cond, if◌then◌else◌, List, [], ◌∷◌, ◌++◌}
+use Rattle.std.proofs.Common.{Option, Some, None, refl, sym, ap, ◌∙◌, subst, true≢false, inl, inr, arith}
 use Rattle.std.specs.Prelude.{is_some}
 use Rattle.std.proofs.lemmas.Bool.{leb-false, and_parts}
 use Rattle.lexical_grammar.specs.declared.TokenKind.{TokenKind}
@@ -11,33 +11,39 @@ use Rattle.document_grammar.specs.declared.kind.SyntaxKind.TheVariants as kind
 use Rattle.document_grammar.specs.Booleans.{◌or◌}
 use Rattle.document_grammar.proofs.Booleans.{either, false-true, and-l, and-r, or-c, not-c, not-some, implies}
 use Rattle.parser_rules.specs.declared.message.Message.{Message}
-use Rattle.parser_rules.specs.State.{State, Lexeme, Report, recursion_limit_report, read_on, flush, opened, closed, wrapped_from, moved, note, is_deep, enter}
-use Rattle.parser_rules.specs.State.{leave, deepened, limited_at, too_deep, is_over, same_kind, begun, fresh}
+use Rattle.parser_rules.specs.State.{State, Lexeme, Report, recursion_limit_report, read_on, flush, opened, closed}
+use Rattle.parser_rules.specs.State.{wrapped_from, moved, note, is_deep, enter, leave, deepened, limited_at, too_deep}
+use Rattle.parser_rules.specs.State.{is_over, same_kind, begun, fresh}
 use Rattle.parser_rules.specs.Nodes.{Node, kind_of, Document}
-use Rattle.parser_rules.specs.RuleLanguage.{TokenTest, Kind, Keyword, Or, fits, Test, Here, Ready, Both, holds, Rule, Call}
+use Rattle.parser_rules.specs.RuleLanguage.{TokenTest, Kind, Keyword, Or, fits, Test, Here, Ready, Both, holds, Rule}
+use Rattle.parser_rules.specs.RuleLanguage.{Call}
 use Rattle.parser_rules.specs.Runs.{Runs}
 use Rattle.parser_rules.proofs.runs.Fuel.{rules_deep}
 use Rattle.parser_rules.proofs.runs.Reading.{reading, found}
 use Rattle.parser_rules.proofs.runs.TreesWithSources as trees
-use Rattle.parser_rules.proofs.runs.TreesWithSources.{TreesWithSources, append, Limited, Reports, taken-or-limited, moved_on, Has, reports-then, read-reports}
+use Rattle.parser_rules.proofs.runs.TreesWithSources.{TreesWithSources, append, Limited, Reports, taken-or-limited}
+use Rattle.parser_rules.proofs.runs.TreesWithSources.{moved_on, Has, reports-then, read-reports}
 use Rattle.parser_rules.proofs.runs.Walk.{after_pending, always, Sound, walked_whole, walk, walked_root}
 use Rattle.parser_rules.proofs.runs.Frame.{read-untouched}
 use Rattle.parser_rules.proofs.runs.Reporting.{after-note}
 use Rattle.parser_rules.proofs.reports.NoReport.{choose, EndsWell, NowOrNone, reading-now, now-along}
 use Rattle.parser_rules.proofs.recovery.Popped.{cut-off}
-use Rattle.parser_rules.proofs.reports.LimitCheck.{Current, unknown, present, inner, is_inner, known, fits_inner, tells_inner, after_token, is_known}
-use Rattle.parser_rules.proofs.reports.LimitCheck.{same_inner, begins_level, limit_check}
+use Rattle.parser_rules.proofs.reports.LimitCheck.{Current, unknown, present, inner, is_inner, known, fits_inner}
+use Rattle.parser_rules.proofs.reports.LimitCheck.{tells_inner, after_token, is_known, same_inner, begins_level}
+use Rattle.parser_rules.proofs.reports.LimitCheck.{limit_check}
 use Rattle.parser_rules.proofs.NodeChecks.{node-passes, document_passes}
 
 -- ---- what a test says
 
-not-end : (token_kind other_kind : TokenKind) → true ≡ same_kind token_kind other_kind → not (is_end other_kind) ≡ true → is_end token_kind ≡ false
+not-end : (token_kind other_kind : TokenKind) → true ≡ same_kind token_kind other_kind → not (is_end other_kind) ≡ true
+    → is_end token_kind ≡ false
 unfolding same_kind
 not-end token.Eof token.Eof e h = absurd (true≢false (sym h))
 not-end token.Eof _ e h = absurd cc
 not-end _ other_kind e h = refl
 
-token-inner : (token_test : TokenTest) (maybe_lexeme : Option Lexeme) → fits_inner token_test ≡ true → true ≡ fits token_test maybe_lexeme
+token-inner : (token_test : TokenTest) (maybe_lexeme : Option Lexeme) → fits_inner token_test ≡ true
+    → true ≡ fits token_test maybe_lexeme
     → is_inner maybe_lexeme ≡ true
 unfolding is_inner
 token-inner (Kind token_kind) None h e = absurd (true≢false e)
@@ -46,10 +52,12 @@ token-inner (Keyword this_kind) None h e = absurd (true≢false e)
 token-inner (Keyword this_kind) (Some x) h e = ap not (not-end x.kind token.Name (sym (and_parts _ _ (sym e)).0) refl)
 token-inner (Or token_test other_test) maybe_lexeme h e = elim (either (fits token_test maybe_lexeme)) [
   | inl y ↦ token-inner token_test maybe_lexeme (and-l _ _ h) (sym y)
-  | inr y ↦ token-inner other_test maybe_lexeme (and-r _ _ h) (e ∙ ap (λ (b : Bool). b || fits other_test maybe_lexeme) y)
+  | inr y ↦ token-inner other_test maybe_lexeme (and-r _ _ h)
+      (e ∙ ap (λ (b : Bool). b || fits other_test maybe_lexeme) y)
 ]
 
-pub test-inner : (test : Test) (state : State) → tells_inner test ≡ true → true ≡ holds test state → is_inner state.current ≡ true
+pub test-inner : (test : Test) (state : State) → tells_inner test ≡ true → true ≡ holds test state
+    → is_inner state.current ≡ true
 unfolding holds is_inner
 test-inner (Here token_test) state h e = token-inner token_test state.current h e
 test-inner Ready state h e = elim state.current as (λ o. true ≡ not (is_over o) → is_inner o ≡ true) [
@@ -75,20 +83,26 @@ record Held (current : Current) (before state : State) (these_trees : TreesWithS
   bounded : state.accepts ≡ true → state.high ≤ state.limit
   token : state.accepts ≡ true → known current state.current ≡ true
 
-forget : (current : Current) (before state s : State) (these_trees more_trees : TreesWithSources) → Held current before s these_trees
+forget : (current : Current) (before state s : State) (these_trees more_trees : TreesWithSources)
+    → Held current before s these_trees
     → Held unknown state s more_trees
-forget current before state s these_trees more_trees held = record { stood = held.stood; bounded = held.bounded; token = λ y. refl }
+forget current before state s these_trees more_trees held =
+    record { stood = held.stood; bounded = held.bounded; token = λ y. refl }
 
 -- a token that is not the end is followed by another one, or the token limit is met
-next-present : (lexeme : Lexeme) (state later : State) → NowOrNone (Some lexeme) later.items → is_inner (Some lexeme) ≡ true
+next-present : (lexeme : Lexeme) (state later : State) → NowOrNone (Some lexeme) later.items
+    → is_inner (Some lexeme) ≡ true
     → (read_on later.items later).accepts ≡ true → is_some (read_on later.items later).current ≡ true
 unfolding is_inner
 next-present lexeme state later now_or_none i y =
     let r = reading later.items later in
-    let ends : EndsWell later.items = subst (λ (b : Bool). choose b (later.items ≡ []) (EndsWell later.items)) (not-c _ i) now_or_none.1 in
-    elim (either (is_some (read_on later.items later).current)) [ inl z ↦ z | inr z ↦ absurd (cut-off r ends (sym (found r).next ∙ not-some _ z) y) ]
+    let ends : EndsWell later.items =
+    subst (λ (b : Bool). choose b (later.items ≡ []) (EndsWell later.items)) (not-c _ i) now_or_none.1 in
+    elim (either (is_some (read_on later.items later).current))
+    [ inl z ↦ z | inr z ↦ absurd (cut-off r ends (sym (found r).next ∙ not-some _ z) y) ]
 
-module _ (own : SyntaxKind) (current : Current) (before state : State) (these_trees : TreesWithSources) (lexeme : Lexeme) (e : state.current ≡ Some lexeme)
+module _ (own : SyntaxKind) (current : Current) (before state : State) (these_trees : TreesWithSources)
+    (lexeme : Lexeme) (e : state.current ≡ Some lexeme)
     (held : Held current before state these_trees) where
   abbrev after : State
   after = moved own state (Some lexeme)
@@ -114,59 +128,81 @@ module _ (own : SyntaxKind) (current : Current) (before state : State) (these_tr
   unfolding flush
   moved-held g reports = record {
     stood = now-along.moves own lexeme (flush state) e refl (now-along.flushes state held.stood);
-    bounded = λ y. let i = held.bounded (reports.keeps y) in let j = untouched.0 in let l = untouched.1 in omega (arith, i, j, l);
+    bounded = λ y. let i = held.bounded (reports.keeps y) in let j = untouched.0 in let l = untouched.1 in
+        omega (arith, i, j, l);
     token = λ y. followed current refl y (reports.keeps y);
   }
 
-noted-held : (message : Message) (current : Current) (before state : State) (these_trees : TreesWithSources) → Held current before state these_trees
+noted-held : (message : Message) (current : Current) (before state : State) (these_trees : TreesWithSources)
+    → Held current before state these_trees
     → Held current before (note message state) these_trees
-noted-held message current before state these_trees held = after-note (λ (t : State). Held current before t these_trees) message state
+noted-held message current before state these_trees held =
+    after-note (λ (t : State). Held current before t these_trees) message state
     (λ errors. record { stood = held.stood; bounded = held.bounded; token = held.token })
 
 -- where a token is certain, the limit is reported
-limit-held : (current : Current) (before state : State) (these_trees : TreesWithSources) → is_known current ≡ true → Held current before state these_trees
+limit-held : (current : Current) (before state : State) (these_trees : TreesWithSources) → is_known current ≡ true
+    → Held current before state these_trees
     → Held current before (too_deep state) these_trees
 unfolding too_deep
 limit-held current before state these_trees i held = on state.current refl
   where
-    some : (c : Current) (maybe_lexeme : Option Lexeme) → is_known c ≡ true → known c maybe_lexeme ≡ true → is_some maybe_lexeme ≡ true
+    some : (c : Current) (maybe_lexeme : Option Lexeme) → is_known c ≡ true → known c maybe_lexeme ≡ true
+        → is_some maybe_lexeme ≡ true
     some unknown maybe_lexeme i j = false-true refl i
     some present maybe_lexeme i j = j
     some inner maybe_lexeme i j = inner-present maybe_lexeme j
 
     no-report : state.current ≡ None → state.accepts ≡ true → ⊥
-    no-report e y = false-true refl (subst (λ (maybe_lexeme : Option Lexeme). is_some maybe_lexeme ≡ true) e (some current state.current i (held.token y)))
+    no-report e y = false-true refl
+        (subst (λ (maybe_lexeme : Option Lexeme). is_some maybe_lexeme ≡ true) e
+        (some current state.current i (held.token y)))
 
-    on : (maybe_lexeme : Option Lexeme) → state.current ≡ maybe_lexeme → Held current before (limited_at (deepened state) maybe_lexeme) these_trees
-    on None e = record { stood = held.stood; bounded = λ y. absurd (no-report e y); token = λ y. absurd (no-report e y) }
+    on : (maybe_lexeme : Option Lexeme) → state.current ≡ maybe_lexeme
+        → Held current before (limited_at (deepened state) maybe_lexeme) these_trees
+    on None e = record {
+      stood = held.stood;
+      bounded = λ y. absurd (no-report e y);
+      token = λ y. absurd (no-report e y);
+    }
     on (Some x) e = elim state.accepts as (λ v. Held current before (record
-        (if v then record (deepened state) { errors = state.errors ++ recursion_limit_report x ∷ [] } else deepened state) { accepts = false }) these_trees) [
+        (if v then record (deepened state) { errors = state.errors ++ recursion_limit_report x ∷ [] } else deepened
+        state) { accepts = false }) these_trees) [
           | true ↦ record { stood = held.stood; bounded = λ y. false-true refl y; token = λ y. false-true refl y }
           | false ↦ record { stood = held.stood; bounded = λ y. false-true refl y; token = λ y. false-true refl y }
         ]
 
-passed : (test : Test) (current : Current) (before state : State) (these_trees : TreesWithSources) → true ≡ holds test state
+passed : (test : Test) (current : Current) (before state : State) (these_trees : TreesWithSources)
+    → true ≡ holds test state
     → Held current before state these_trees → Held (cond (tells_inner test) inner current) before state these_trees
 passed test current before state these_trees e held = elim (either (tells_inner test)) [
   | inl y ↦ rw y (record { stood = held.stood; bounded = held.bounded; token = λ z. test-inner test state y e })
   | inr y ↦ rw y held
 ]
 
-no-token : (current : Current) (before state : State) (these_trees : TreesWithSources) → Held current before state these_trees
+no-token : (current : Current) (before state : State) (these_trees : TreesWithSources)
+    → Held current before state these_trees
     → Held (after_token current) before state these_trees
-no-token current before state these_trees held = record { stood = held.stood; bounded = held.bounded; token = λ y. on current (held.token y) }
+no-token current before state these_trees held =
+    record { stood = held.stood; bounded = held.bounded; token = λ y. on current (held.token y) }
   where
     on : (c : Current) → known c state.current ≡ true → known (after_token c) state.current ≡ true
     on unknown i = refl
     on present i = refl
     on inner i = inner-present state.current i
 
-opened-held : (node : Node) (current : Current) (before state : State) (these_trees : TreesWithSources) → not (begins_level node) or same_inner current ≡ true
-    → Held current before state these_trees → Held (cond (begins_level node) inner unknown) (opened (kind_of node) state)
+opened-held : (node : Node) (current : Current) (before state : State) (these_trees : TreesWithSources)
+    → not (begins_level node) or same_inner current ≡ true
+    → Held current before state these_trees
+    → Held (cond (begins_level node) inner unknown) (opened (kind_of node) state)
     (opened (kind_of node) state) trees.none
 unfolding opened flush
 opened-held node current before state these_trees c held = elim (either (begins_level node)) [
-  | inl y ↦ rw y (record { stood = held.stood; bounded = held.bounded; token = λ z. on current (implies _ _ c y) (held.token z) })
+  | inl y ↦ rw y (record {
+    stood = held.stood;
+    bounded = held.bounded;
+    token = λ z. on current (implies _ _ c y) (held.token z);
+  })
   | inr y ↦ rw y (record { stood = held.stood; bounded = held.bounded; token = λ z. refl })
 ]
   where
@@ -193,7 +229,8 @@ sound = record {
   settles = λ a. refl;
   keeps = λ a c b s f e h. forget c b b s f f h;
   opens = λ n a b s f c h. opened-held n a b s f c h;
-  closes = λ j a e k b s u f g c d h i l. (unknown, d, record { stood = i.stood; bounded = i.bounded; token = λ y. refl });
+  closes = λ j a e k b s u f g c d h i
+      l. (unknown, d, record { stood = i.stood; bounded = i.bounded; token = λ y. refl });
   inlines = λ n a b s f c h. false-true refl c;
   inlined = λ n a e b s u f g c h i. false-true refl c;
   enters = λ a k b s f w c h. (
@@ -213,34 +250,46 @@ sound = record {
   nodes = λ n. (node-passes n).limits;
 }
 
--- Where the highest nesting is more than the limit, a limit is reported: the recursion limit, or the token limit before it.
-pub limit-reported : (max_depth : ℕ) (xs : List Answer) (state : State) → EndsWell xs → Runs (Call Document) (begun xs max_depth kind.DOCUMENT) state
+-- Where the highest nesting is more than the limit, a limit is reported: the recursion limit, or the token limit before
+-- it.
+pub limit-reported : (max_depth : ℕ) (xs : List Answer) (state : State) → EndsWell xs
+    → Runs (Call Document) (begun xs max_depth kind.DOCUMENT) state
     → state.limit < state.high → Limited state.errors
 limit-reported max_depth xs state en run more =
     let later : State = fresh xs max_depth kind.DOCUMENT in
     let before : State = begun xs max_depth kind.DOCUMENT in
     let none-asked : before.high ≡ 0 = (read-untouched xs later).high in
-    let (f, a, e, h, g, w) = walked_whole limit_check Held sound xs max_depth kind.DOCUMENT unknown always run document_passes.limits
-    (record { stood = reading-now (reading xs later) en; bounded = λ y. omega (arith, none-asked); token = λ y. refl }) in
-    elim (taken-or-limited xs max_depth kind.DOCUMENT state g.reports) [ inl y ↦ absurd (over (h.bounded y)) | inr l ↦ l ]
+    let (f, a, e, h, g, w) =
+    walked_whole limit_check Held sound xs max_depth kind.DOCUMENT unknown always run document_passes.limits
+    (record {
+      stood = reading-now (reading xs later) en;
+      bounded = λ y. omega (arith, none-asked);
+      token = λ y. refl;
+    }) in
+    elim (taken-or-limited xs max_depth kind.DOCUMENT state g.reports)
+    [ inl y ↦ absurd (over (h.bounded y)) | inr l ↦ l ]
   where
     over : state.high ≤ state.limit → ⊥
     over i = omega (arith, i, more)
 
 -- the first token is there, or the token limit is met before it
-first-known : (max_depth : ℕ) (xs : List Answer) (this_kind : SyntaxKind) → EndsWell xs → (begun xs max_depth this_kind).accepts ≡ true
+first-known : (max_depth : ℕ) (xs : List Answer) (this_kind : SyntaxKind) → EndsWell xs
+    → (begun xs max_depth this_kind).accepts ≡ true
     → known present (begun xs max_depth this_kind).current ≡ true
 first-known max_depth xs this_kind en y =
     let o : State = fresh xs max_depth this_kind in
-    there (begun xs max_depth this_kind).current (λ e. cut-off (reading xs o) en (sym (found (reading xs o)).next ∙ e) y)
+    there (begun xs max_depth this_kind).current
+    (λ e. cut-off (reading xs o) en (sym (found (reading xs o)).next ∙ e) y)
   where
     there : (o : Option Lexeme) → (o ≡ None → ⊥) → is_some o ≡ true
     there None h = absurd (h refl)
     there (Some t) h = refl
 
 -- the same of a root of another kind
-pub root-limited : {rule : Rule} (max_depth : ℕ) (xs : List Answer) (this_kind : SyntaxKind) (state : State) → EndsWell xs
-    → walk limit_check rules_deep rule present always ≡ true → Runs rule (flush (begun xs max_depth this_kind)) state → state.limit < state.high
+pub root-limited : {rule : Rule} (max_depth : ℕ) (xs : List Answer) (this_kind : SyntaxKind) (state : State)
+    → EndsWell xs
+    → walk limit_check rules_deep rule present always ≡ true → Runs rule (flush (begun xs max_depth this_kind)) state
+    → state.limit < state.high
     → Limited state.errors
 unfolding flush
 root-limited max_depth xs this_kind state en check run more =
@@ -248,7 +297,11 @@ root-limited max_depth xs this_kind state en check run more =
     let before : State = begun xs max_depth this_kind in
     let none-asked : before.high ≡ 0 = (read-untouched xs later).high in
     let (f, a, e, h, g) = walked_root limit_check Held sound xs max_depth this_kind present always run check
-    (record { stood = reading-now (reading xs later) en; bounded = λ y. omega (arith, none-asked); token = first-known max_depth xs this_kind en }) in
+    (record {
+      stood = reading-now (reading xs later) en;
+      bounded = λ y. omega (arith, none-asked);
+      token = first-known max_depth xs this_kind en;
+    }) in
     let p = reports-then later before state (read-reports (reading xs later)) g.reports in
     elim (either state.accepts) [
       | inl y ↦ absurd (over (h.bounded y))

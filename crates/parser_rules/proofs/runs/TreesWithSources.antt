@@ -1,6 +1,6 @@
 -- Trees that know which token each leaf is, and what a run adds: its trees, what they are made of, and its reports.
-use Rattle.std.proofs.Common.{◌≡◌, ℕ, true, false, List, [], ◌∷◌, ◌++◌, Option, Some, None, refl, sym, ap, ap₂, ◌∙◌, subst, append_assoc, append-nil, ◌⊎◌, inl}
-use Rattle.std.proofs.Common.{inr}
+use Rattle.std.proofs.Common.{◌≡◌, ℕ, true, false, List, [], ◌∷◌, ◌++◌, Option, Some, None, refl, sym, ap, ap₂, ◌∙◌}
+use Rattle.std.proofs.Common.{subst, append_assoc, append-nil, ◌⊎◌, inl, inr}
 use Rattle.lexical_grammar.specs.declared.TokenKind.{TokenKind}
 use Rattle.lexical_grammar.specs.Cut.{Item}
 use Rattle.lexical_grammar.specs.Answers.{Answer, gives, limit_at}
@@ -11,9 +11,10 @@ use Rattle.document_grammar.specs.Builds.{Building, add_leaf, built_count}
 use Rattle.document_grammar.proofs.Booleans.{false-true, either}
 use Rattle.document_grammar.proofs.Added.{Added, added-none, added-then, added-node, added-wrap}
 use Rattle.parser_rules.specs.declared.message.Message.{Message}
-use Rattle.parser_rules.specs.State.{State, Lexeme, PendingToken, Text, Report, at_limit, bad_report, token_limit_report, recursion_limit_report, fault_report}
-use Rattle.parser_rules.specs.State.{ignored, bad, met, lexeme, read_on, add_all, flush, opened, closed, wrapped_from, note, is_deep, enter, leave, too_deep}
-use Rattle.parser_rules.specs.State.{fresh, begun}
+use Rattle.parser_rules.specs.State.{State, Lexeme, PendingToken, Text, Report, at_limit, bad_report}
+use Rattle.parser_rules.specs.State.{token_limit_report, recursion_limit_report, fault_report, ignored, bad, met}
+use Rattle.parser_rules.specs.State.{lexeme, read_on, add_all, flush, opened, closed, wrapped_from, note, is_deep}
+use Rattle.parser_rules.specs.State.{enter, leave, too_deep, fresh, begun}
 use Rattle.parser_rules.proofs.runs.Reading.{Reading, stops, cuts, bad_text, waits, shows, reading}
 use Rattle.parser_rules.proofs.runs.Steps.{Holds_along, step-along, too_deep-along}
 use Rattle.parser_rules.proofs.runs.Reporting.{after-note, after-too-deep}
@@ -49,10 +50,13 @@ append-none none = refl
 append-none (leaf source this_kind rest) = ap (leaf source this_kind) (append-none rest)
 append-none (node this_kind kids rest) = ap (node this_kind kids) (append-none rest)
 
-pub erase-append : (trees more_trees : TreesWithSources) → erase (append trees more_trees) ≡ built.join (erase trees) (erase more_trees)
+pub erase-append : (trees more_trees : TreesWithSources)
+    → erase (append trees more_trees) ≡ built.join (erase trees) (erase more_trees)
 erase-append none more_trees = refl
-erase-append (leaf source this_kind rest) more_trees = ap (built.leaf this_kind (text_of source)) (erase-append rest more_trees)
-erase-append (node this_kind kids rest) more_trees = ap (built.node this_kind (erase kids)) (erase-append rest more_trees)
+erase-append (leaf source this_kind rest) more_trees =
+    ap (built.leaf this_kind (text_of source)) (erase-append rest more_trees)
+erase-append (node this_kind kids rest) more_trees =
+    ap (built.node this_kind (erase kids)) (erase-append rest more_trees)
 
 -- what the leaves are, in order
 abbrev pub flat : TreesWithSources → List Source
@@ -63,7 +67,8 @@ flat (node this_kind kids rest) = flat kids ++ flat rest
 pub flat-append : (trees more_trees : TreesWithSources) → flat (append trees more_trees) ≡ flat trees ++ flat more_trees
 flat-append none more_trees = refl
 flat-append (leaf source this_kind rest) more_trees = ap (λ (l : List Source). source ∷ l) (flat-append rest more_trees)
-flat-append (node this_kind kids rest) more_trees = ap (λ (l : List Source). flat kids ++ l) (flat-append rest more_trees)
+flat-append (node this_kind kids rest) more_trees =
+    ap (λ (l : List Source). flat kids ++ l) (flat-append rest more_trees)
     ∙ sym (append_assoc (flat kids) (flat rest) (flat more_trees))
 
 -- what waits, as leaves
@@ -90,15 +95,18 @@ source_at item None = aside (record { kind = kind.ERROR; text = item.text })
 source_at item (Some k) = source_of item k (ignored k)
 
 -- what is said of an item and what its leaf is made of, by the item's kind
-pub by-kind : (P : Option TokenKind → Source → Type 0) (item : Item) → P None (aside (record { kind = kind.ERROR; text = item.text }))
+pub by-kind : (P : Option TokenKind → Source → Type 0) (item : Item)
+    → P None (aside (record { kind = kind.ERROR; text = item.text }))
     → ((token_kind : TokenKind) → ignored token_kind ≡ None → P (Some token_kind) (token (lexeme token_kind item)))
-    → ((token_kind : TokenKind) (own : SyntaxKind) → ignored token_kind ≡ Some own → P (Some token_kind) (aside (record { kind = own; text = item.text })))
+    → ((token_kind : TokenKind) (own : SyntaxKind) → ignored token_kind ≡ Some own
+    → P (Some token_kind) (aside (record { kind = own; text = item.text })))
     → P item.kind (source_at item item.kind)
 by-kind P item of_bad of_token of_ignored = at item.kind
   where
     at : (found : Option TokenKind) → P found (source_at item found)
     at None = of_bad
-    at (Some k) = (elim (ignored k) as (λ o. ignored k ≡ o → P (Some k) (source_of item k o)) [ None ↦ of_token k | Some own ↦ of_ignored k own ]) refl
+    at (Some k) = (elim (ignored k) as (λ o. ignored k ≡ o → P (Some k) (source_of item k o))
+        [ None ↦ of_token k | Some own ↦ of_ignored k own ]) refl
 
 -- what the answers are: the significant tokens, and what is between
 abbrev pub sources : List Answer → List Source
@@ -115,18 +123,22 @@ abbrev pub to_come : State → List Source
 to_come state = flat (set_aside state.pending) ++ (now_of state.current ++ sources state.items)
 
 waits-more : (pending : List PendingToken) (pending_token : PendingToken) (these_sources : List Source)
-    → flat (set_aside (pending ++ pending_token ∷ [])) ++ these_sources ≡ flat (set_aside pending) ++ (aside pending_token ∷ these_sources)
+    → flat (set_aside (pending ++ pending_token ∷ [])) ++ these_sources ≡ flat (set_aside pending)
+    ++ (aside pending_token ∷ these_sources)
 waits-more [] pending_token these_sources = refl
-waits-more (q ∷ pending) pending_token these_sources = ap (λ (z : List Source). aside q ∷ z) (waits-more pending pending_token these_sources)
+waits-more (q ∷ pending) pending_token these_sources =
+    ap (λ (z : List Source). aside q ∷ z) (waits-more pending pending_token these_sources)
 
 pub read-to_come : {xs : List Answer} {state after : State} → Reading xs state after → state.items ≡ xs
     → to_come after ≡ flat (set_aside state.pending) ++ sources xs
 read-to_come {state = state} stops e = ap (λ (xs : List Answer). flat (set_aside state.pending) ++ sources xs) e
 read-to_come (cuts this_reading) e = read-to_come this_reading refl
 read-to_come {state = state} (bad_text {item = item} {xs = xs} i this_reading) e =
-    rw i (read-to_come this_reading refl ∙ waits-more state.pending (record { kind = kind.ERROR; text = item.text }) (sources xs))
+    rw i (read-to_come this_reading refl
+    ∙ waits-more state.pending (record { kind = kind.ERROR; text = item.text }) (sources xs))
 read-to_come {state = state} (waits {item = item} {own = own} {xs = xs} i j this_reading) e =
-    rw (i, j) (read-to_come this_reading refl ∙ waits-more state.pending (record { kind = own; text = item.text }) (sources xs))
+    rw (i, j) (read-to_come this_reading refl
+    ∙ waits-more state.pending (record { kind = own; text = item.text }) (sources xs))
 read-to_come (shows i j) e = rw (i, j) refl
 
 -- ---- what a run adds
@@ -167,8 +179,16 @@ Reports state after = record {
   limited : state.accepts ≡ true → after.accepts ≡ false → Limited more;
 }
 
-pub reports-same : (state after : State) → after.errors ≡ state.errors → after.accepts ≡ state.accepts → Reports state after
-reports-same state after e a = record { more = []; errors = e ∙ sym (append-nil state.errors); keeps = λ z. sym a ∙ z; limited = λ z y. false-true y (a ∙ z) }
+pub reports-same : (state after : State) → after.errors ≡ state.errors
+    → after.accepts ≡ state.accepts → Reports state after
+reports-same state after e a =
+    record {
+      more = [];
+      errors = e ∙ sym (append-nil state.errors);
+      keeps = λ z. sym a
+          ∙ z;
+      limited = λ z y. false-true y (a ∙ z);
+    }
 
 pub reports-then : (state after later : State) → Reports state after → Reports after later → Reports state later
 reports-then state after later reports second_reports = record {
@@ -184,10 +204,13 @@ reports-then state after later reports second_reports = record {
 }
 
 -- one report more, of a limit or not
-reports-more : (state after : State) (report : Report) → after.errors ≡ state.errors ++ report ∷ [] → after.accepts ≡ state.accepts → Reports state after
-reports-more state after report e a = record { more = report ∷ []; errors = e; keeps = λ z. sym a ∙ z; limited = λ z y. false-true y (a ∙ z) }
+reports-more : (state after : State) (report : Report) → after.errors ≡ state.errors ++ report ∷ []
+    → after.accepts ≡ state.accepts → Reports state after
+reports-more state after report e a =
+    record { more = report ∷ []; errors = e; keeps = λ z. sym a ∙ z; limited = λ z y. false-true y (a ∙ z) }
 
-reports-limit : (state next_state : State) (report : Report) → report.found ≡ at_limit → next_state.errors ≡ state.errors ++ report ∷ []
+reports-limit : (state next_state : State) (report : Report) → report.found ≡ at_limit
+    → next_state.errors ≡ state.errors ++ report ∷ []
     → next_state.accepts ≡ false → Reports state next_state
 reports-limit state next_state report l e a = record {
   more = report ∷ [];
@@ -198,16 +221,20 @@ reports-limit state next_state report l e a = record {
 
 pub read-reports : {xs : List Answer} {state after : State} → Reading xs state after → Reports state after
 read-reports {state = state} stops = reports-same state state refl refl
-read-reports {state = state} {after = after} (cuts {index = index} {xs = xs} this_reading) = let later : State = met index (record state { items = xs }) in
-    reports-then state later after (reports-limit state later (token_limit_report index) refl refl refl) (read-reports this_reading)
+read-reports {state = state} {after = after} (cuts {index = index} {xs = xs} this_reading) =
+    let later : State = met index (record state { items = xs }) in
+    reports-then state later after (reports-limit state later (token_limit_report index) refl refl refl)
+    (read-reports this_reading)
 read-reports {state = state} {after = after} (bad_text {item = item} {xs = xs} e this_reading) =
     let later : State = bad item.text item.index (record state { items = xs }) in
-    reports-then state later after (reports-more state later (bad_report item.text item.index) refl refl) (read-reports this_reading)
+    reports-then state later after (reports-more state later (bad_report item.text item.index) refl refl)
+    (read-reports this_reading)
 read-reports (waits e i this_reading) = read-reports this_reading
 read-reports {state = state} (shows e i) = reports-same state state refl refl
 
 -- at the end of a run from the beginning on the grammar's reports are taken, or a limit is reported
-pub taken-or-limited : (xs : List Answer) (max_depth : ℕ) (this_kind : SyntaxKind) (state : State) → Reports (begun xs max_depth this_kind) state
+pub taken-or-limited : (xs : List Answer) (max_depth : ℕ) (this_kind : SyntaxKind) (state : State)
+    → Reports (begun xs max_depth this_kind) state
     → (state.accepts ≡ true) ⊎ Limited state.errors
 taken-or-limited xs max_depth this_kind state reports =
     let p = reports-then (fresh xs max_depth this_kind) (begun xs max_depth this_kind) state
@@ -225,8 +252,10 @@ reports-along = record {
   next = reports-then;
   flushes = λ s. reports-same s s refl refl;
   moves = λ leaf x s e w. read-reports (reading s.items (moved_on leaf x s));
-  reports = λ m x s c a. reports-more s (record s { errors = s.errors ++ fault_report m x ∷ [] }) (fault_report m x) refl refl;
-  limits = λ x s c a d. reports-limit s (record s { errors = s.errors ++ recursion_limit_report x ∷ []; accepts = false })
+  reports = λ m x s c a. reports-more s (record s { errors = s.errors ++ fault_report m x ∷ [] })
+      (fault_report m x) refl refl;
+  limits = λ x s c a d. reports-limit s
+      (record s { errors = s.errors ++ recursion_limit_report x ∷ []; accepts = false })
       (recursion_limit_report x) refl refl refl;
   asks = λ s. reports-same s s refl refl;
   nodes = λ k s u h. h;
@@ -246,10 +275,12 @@ Grown state after these_trees = record {
 pub grown-none : (state : State) → Grown state state none
 grown-none state = record { trees = added-none state.tree; order = refl; reports = reports-along.same state }
 
-pub grown-then : (state after later : State) (these_trees more_trees : TreesWithSources) → Grown state after these_trees → Grown after later more_trees
+pub grown-then : (state after later : State) (these_trees more_trees : TreesWithSources) → Grown state after these_trees
+    → Grown after later more_trees
     → Grown state later (append these_trees more_trees)
 grown-then state after later these_trees more_trees grown second_grown = record {
-  trees = subst (λ (x : built.Forest). Added x state.tree later.tree) (sym (erase-append these_trees more_trees)) (added-then grown.trees second_grown.trees);
+  trees = subst (λ (x : built.Forest). Added x state.tree later.tree) (sym (erase-append these_trees more_trees))
+      (added-then grown.trees second_grown.trees);
   order = ap (λ (l : List Source). l ++ to_come later) (flat-append these_trees more_trees)
       ∙ (append_assoc (flat these_trees) (flat more_trees) (to_come later) ∙
       (ap (λ (l : List Source). flat these_trees ++ l) second_grown.order ∙ grown.order));
@@ -259,13 +290,15 @@ grown-then state after later these_trees more_trees grown second_grown = record 
 pub grown-flush : (state : State) → Grown state (flush state) (set_aside state.pending)
 unfolding flush
 grown-flush state = record {
-  trees = subst (λ (x : built.Forest). Added x state.tree (add_all state.pending state.tree)) (sym (erase-aside state.pending))
+  trees = subst (λ (x : built.Forest). Added x state.tree (add_all state.pending state.tree))
+      (sym (erase-aside state.pending))
       (added-all state.pending state.tree);
   order = refl;
   reports = reports-along.flushes state;
 }
 
-pub grown-leaf : (own : SyntaxKind) (this_lexeme : Lexeme) (state : State) → state.current ≡ Some this_lexeme → state.pending ≡ []
+pub grown-leaf : (own : SyntaxKind) (this_lexeme : Lexeme) (state : State)
+    → state.current ≡ Some this_lexeme → state.pending ≡ []
     → Grown state (read_on state.items (moved_on own this_lexeme state)) (leaf (token this_lexeme) own none)
 grown-leaf own this_lexeme state c w =
     let h = reading state.items (moved_on own this_lexeme state) in
@@ -273,7 +306,8 @@ grown-leaf own this_lexeme state c w =
       trees = added-read own this_lexeme.text state;
       order = ap (λ (l : List Source). token this_lexeme ∷ l) (read-to_come h refl)
           ∙ ap (λ (p : List PendingToken). token this_lexeme ∷ (flat (set_aside p) ++ sources state.items)) w
-          ∙ sym (ap₂ (λ (p : List PendingToken) (found : Option Lexeme). flat (set_aside p) ++ (now_of found ++ sources state.items)) w c);
+          ∙ sym (ap₂ (λ (p : List PendingToken) (found : Option Lexeme). flat (set_aside p)
+          ++ (now_of found ++ sources state.items)) w c);
       reports = read-reports h;
     }
 
@@ -293,7 +327,8 @@ grown-deep state d = record {
 }
 
 -- a node around the trees in it, after the waiting leaves
-pub grown-node : (this_kind : SyntaxKind) (state later : State) (these_trees : TreesWithSources) → Grown (opened this_kind state) later these_trees
+pub grown-node : (this_kind : SyntaxKind) (state later : State) (these_trees : TreesWithSources)
+    → Grown (opened this_kind state) later these_trees
     → Grown (flush state) (closed later) (node this_kind these_trees none)
 unfolding opened closed flush
 grown-node this_kind state later these_trees grown = record {
@@ -302,10 +337,12 @@ grown-node this_kind state later these_trees grown = record {
   reports = grown.reports;
 }
 
-pub grown-wrap : (this_kind : SyntaxKind) (state later : State) (these_trees : TreesWithSources) → Grown (flush state) later these_trees
+pub grown-wrap : (this_kind : SyntaxKind) (state later : State) (these_trees : TreesWithSources)
+    → Grown (flush state) later these_trees
     → Grown (opened this_kind state) (wrapped_from (built_count (flush state).tree) this_kind later) these_trees
 unfolding opened wrapped_from flush
-grown-wrap this_kind state later these_trees grown = record { trees = added-wrap this_kind grown.trees; order = grown.order; reports = grown.reports }
+grown-wrap this_kind state later these_trees grown =
+    record { trees = added-wrap this_kind grown.trees; order = grown.order; reports = grown.reports }
 
 -- what was added from the beginning on is the whole tree, of all that was answered
 pub record Whole (xs : List Answer) (state : State) (trees : TreesWithSources) : Type 0 where
@@ -319,7 +356,8 @@ whole xs max_depth this_kind state trees grown =
     let before : State = begun xs max_depth this_kind in
     let g = grown-then before state (flush state) trees (set_aside state.pending) grown (grown-flush state) in
     record {
-      tree = sym (g.trees.here ∙ ap (λ (t : Building). built.join t.here (erase (append trees (set_aside state.pending))))
+      tree = sym (g.trees.here
+          ∙ ap (λ (t : Building). built.join t.here (erase (append trees (set_aside state.pending))))
           (read-untouched xs (fresh xs max_depth this_kind)).tree);
       order = g.order ∙ read-to_come (reading xs (fresh xs max_depth this_kind)) refl;
     }
@@ -332,6 +370,7 @@ pub record FirstPart (xs : List Answer) (state : State) (trees : TreesWithSource
 pub first-part : (xs : List Answer) (max_depth : ℕ) (this_kind : SyntaxKind) (state : State) (trees : TreesWithSources)
     → Grown (begun xs max_depth this_kind) state trees → FirstPart xs state trees
 first-part xs max_depth this_kind state trees grown = record {
-  tree = sym (grown.trees.here ∙ ap (λ (t : Building). built.join t.here (erase trees)) (read-untouched xs (fresh xs max_depth this_kind)).tree);
+  tree = sym (grown.trees.here
+      ∙ ap (λ (t : Building). built.join t.here (erase trees)) (read-untouched xs (fresh xs max_depth this_kind)).tree);
   order = grown.order ∙ read-to_come (reading xs (fresh xs max_depth this_kind)) refl;
 }

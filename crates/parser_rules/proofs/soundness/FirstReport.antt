@@ -1,5 +1,5 @@
--- What is said of the first report: the machine is stuck there, or each tree that goes on nests deeper than the limit, or an answer is no
--- token.
+-- What is said of the first report: the machine is stuck there, or each tree that goes on nests deeper than the limit,
+-- or an answer is no token.
 use Rattle.std.proofs.Common.{◌≡◌, ℕ, ◌+◌, length, ◌<◌, false, List, ◌∷◌, ◌++◌, Some}
 use Rattle.lexical_grammar.specs.Answers.{Answer, is_token}
 use Rattle.document_grammar.specs.Tree.{Token, Tree}
@@ -30,7 +30,8 @@ module _ (sort : Sort) (answers : List Answer) (lim : ℕ) (tokens : List Token)
     pub before : List Token
     pub split : tokens ≡ before ++ rest
     pub comes : Viable rest
-    pub deeper : (tree : Tree) (these_tokens : List Token) → Parse top tree (before ++ these_tokens) → first rest ≡ first these_tokens → lim < nesting_all tree
+    pub deeper : (tree : Tree) (these_tokens : List Token) → Parse top tree (before ++ these_tokens)
+        → first rest ≡ first these_tokens → lim < nesting_all tree
 
   abbrev pub left : Lexeme → List Answer → List Token
   left lexeme items = current_tokens (Some lexeme) ++ answers_tokens items
@@ -41,9 +42,12 @@ module _ (sort : Sort) (answers : List Answer) (lim : ℕ) (tokens : List Token)
 
   -- a report, and how many tokens were taken before it
   pub data RightReport : Report → ℕ → Type 0 where
-    stuck_here : (said : Message) {lexeme : Lexeme} {items : List Answer} {m : ℕ} → Now (Some lexeme) items → Held answers (Some lexeme) items
+    stuck_here : (said : Message) {lexeme : Lexeme} {items : List Answer} {m : ℕ} → Now (Some lexeme) items
+        → Held answers (Some lexeme) items
         → Stuck (left lexeme items) → TokensBefore m (left lexeme items) → RightReport (fault_report said lexeme) m
-    deep_here : {lexeme : Lexeme} {items : List Answer} {m : ℕ} → Now (Some lexeme) items → Held answers (Some lexeme) items → TooMany (left lexeme items)
+    deep_here : {lexeme : Lexeme} {items : List Answer} {m : ℕ} → Now (Some lexeme) items
+        → Held answers (Some lexeme) items → TooMany (left lexeme items)
         → TokensBefore m (left lexeme items) → RightReport (recursion_limit_report lexeme) m
-    no_token : {answer : Answer} {items : List Answer} {m : ℕ} → Passed answers (answer ∷ items) → is_token answer ≡ false → Viable (answers_tokens items)
+    no_token : {answer : Answer} {items : List Answer} {m : ℕ} → Passed answers (answer ∷ items)
+        → is_token answer ≡ false → Viable (answers_tokens items)
         → TokensBefore m (answers_tokens items) → RightReport (report_of answer) m

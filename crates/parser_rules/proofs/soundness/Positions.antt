@@ -1,7 +1,7 @@
--- What a position of the check says of the parser's state: the open nodes of the machine and of the builder, the levels, and what is known of
--- them; and which reports are right there.
-use Rattle.std.proofs.Common.{◌≡◌, ℕ, suc, ◌+◌, ◌-◌, ◌≤◌, ◌<◌, max, true, false, cond, eqb, List, [], ◌∷◌, ◌++◌, length, Option, Some, None, refl, sym, ap, ap₂}
-use Rattle.std.proofs.Common.{◌∙◌, subst, ◌⊎◌, eqb-true, arith}
+-- What a position of the check says of the parser's state: the open nodes of the machine and of the builder, the
+-- levels, and what is known of them; and which reports are right there.
+use Rattle.std.proofs.Common.{◌≡◌, ℕ, suc, ◌+◌, ◌-◌, ◌≤◌, ◌<◌, max, true, false, cond, eqb, List, [], ◌∷◌, ◌++◌, length}
+use Rattle.std.proofs.Common.{Option, Some, None, refl, sym, ap, ap₂, ◌∙◌, subst, ◌⊎◌, eqb-true, arith}
 use Rattle.std.specs.Prelude.{⊤}
 use Rattle.lexical_grammar.specs.Answers.{Answer}
 use Rattle.document_grammar.specs.declared.kind.SyntaxKind.{SyntaxKind}
@@ -22,8 +22,8 @@ use Rattle.document_grammar.specs.Derivation.{Sort}
 use Rattle.grammar_machine.proofs.SentenceTheorems.{start_symbol}
 use Rattle.std.proofs.lemmas.List.{length-append}
 use Rattle.parser_rules.specs.declared.message.Message.{Message}
-use Rattle.parser_rules.specs.State.{State, PendingToken, Lexeme, Report, fault_report, recursion_limit_report, note, flush, opened, closed, wrapped_from}
-use Rattle.parser_rules.specs.State.{is_deep, leave, too_deep}
+use Rattle.parser_rules.specs.State.{State, PendingToken, Lexeme, Report, fault_report, recursion_limit_report, note}
+use Rattle.parser_rules.specs.State.{flush, opened, closed, wrapped_from, is_deep, leave, too_deep}
 use Rattle.parser_rules.specs.RuleLanguage.{Prim, Rule}
 use Rattle.parser_rules.specs.Runs.{Runs}
 use Rattle.parser_rules.proofs.runs.Steps.{along}
@@ -31,17 +31,19 @@ use Rattle.parser_rules.proofs.runs.Reporting.{note-is, too_deep-is}
 use Rattle.parser_rules.proofs.runs.Frame.{adds, added-all}
 use Rattle.parser_rules.proofs.runs.TreesWithSources.{reports-along, reports-same}
 use Rattle.parser_rules.proofs.soundness.WithoutIgnored.{all_ignored, stack}
-use Rattle.parser_rules.proofs.reports.NoReport.{Now, rest, answers_tokens, current_tokens, Grows, Stays, Held, FirstReportIsRight, first-right-on, first-right}
-use Rattle.parser_rules.proofs.reports.NoReport.{NothingReported}
+use Rattle.parser_rules.proofs.reports.NoReport.{Now, rest, answers_tokens, current_tokens, Grows, Stays, Held}
+use Rattle.parser_rules.proofs.reports.NoReport.{FirstReportIsRight, first-right-on, first-right, NothingReported}
 use Rattle.parser_rules.proofs.soundness.FirstReport.{Stuck, TooMany, TokensBefore, RightReport, stuck_here, deep_here}
-use Rattle.parser_rules.proofs.lookahead.Split.{Level, NotEntered, Entered, Left, Certainty, Nothing, OpenWhateverFollows, AtLimit, Position, in_row}
-use Rattle.parser_rules.proofs.lookahead.Split.{machine_is_stuck, with_limit_known}
+use Rattle.parser_rules.proofs.lookahead.Split.{Level, NotEntered, Entered, Left, Certainty, Nothing}
+use Rattle.parser_rules.proofs.lookahead.Split.{OpenWhateverFollows, AtLimit, Position, in_row, machine_is_stuck}
+use Rattle.parser_rules.proofs.lookahead.Split.{with_limit_known}
 use Rattle.parser_rules.proofs.runs.Reading.{Shown}
 use Rattle.parser_rules.proofs.lookahead.TokenSets.{Seen, seen-same}
 use Rattle.parser_rules.proofs.soundness.MachineStack.{image}
-use Rattle.parser_rules.proofs.soundness.Settled.{Settled, Fitting, fitting-image, settled-at, settled-added, settled-start, settled-finish, settled-wrap}
-use Rattle.parser_rules.proofs.soundness.TableCheck.{Then, level_entered, counts_itself, only_root, level_due, open_whatever_follows, limit_forgotten}
-use Rattle.parser_rules.proofs.soundness.TableCheck.{levels_agree}
+use Rattle.parser_rules.proofs.soundness.Settled.{Settled, Fitting, fitting-image, settled-at, settled-added}
+use Rattle.parser_rules.proofs.soundness.Settled.{settled-start, settled-finish, settled-wrap}
+use Rattle.parser_rules.proofs.soundness.TableCheck.{Then, level_entered, counts_itself, only_root, level_due}
+use Rattle.parser_rules.proofs.soundness.TableCheck.{open_whatever_follows, limit_forgotten, levels_agree}
 
 -- ---- levels, on plain numbers
 
@@ -54,7 +56,8 @@ due-le symbol Left = omega arith
 
 -- ---- steps that read nothing
 
--- The same tokens are left, the reports are the same, what waits is still ignored, and what was settled of the tree still is.
+-- The same tokens are left, the reports are the same, what waits is still ignored, and what was settled of the tree
+-- still is.
 pub record ReadsNothing (st last : State) : Type 0 where
   pub current : last.current ≡ st.current
   pub items : last.items ≡ st.items
@@ -71,8 +74,10 @@ pub record OnlyBuilds (st last : State) : Type 0 where
   pub limit : last.limit ≡ st.limit
 
 -- what waits and the tree are all that changes
-pub rebuilt : (st : State) (parts : List PendingToken) (building : Building) → (all_ignored st.pending ≡ true → all_ignored parts ≡ true)
-    → ((m : ℕ) → Settled m st.tree → Settled m building) → OnlyBuilds st (record st { pending = parts; tree = building })
+pub rebuilt : (st : State) (parts : List PendingToken) (building : Building)
+    → (all_ignored st.pending ≡ true → all_ignored parts ≡ true)
+    → ((m : ℕ) → Settled m st.tree → Settled m building)
+    → OnlyBuilds st (record st { pending = parts; tree = building })
 rebuilt st parts building w f = record {
   reads_nothing = record { current = refl; items = refl; errors = refl; accepts = refl; waits = w; stays = f };
   depth = refl;
@@ -89,7 +94,8 @@ flush-builds st = rebuilt st [] _ (λ z. refl) (λ m z. settled-added m (added-a
 
 pub opened-builds : (kind : SyntaxKind) (st : State) → OnlyBuilds st (opened kind st)
 unfolding opened flush
-opened-builds kind st = rebuilt st [] _ (λ z. refl) (λ m z. settled-start m kind _ (settled-added m (added-all st.pending st.tree) z))
+opened-builds kind st =
+    rebuilt st [] _ (λ z. refl) (λ m z. settled-start m kind _ (settled-added m (added-all st.pending st.tree) z))
 
 pub closed-builds : (st : State) → OnlyBuilds st (closed st)
 unfolding closed
@@ -101,17 +107,28 @@ wrapped-builds index kind st = rebuilt st st.pending _ (λ z. z) (λ m z. settle
 
 -- the depth and the greatest depth are all that changes
 pub renested : (st : State) (d h : ℕ) → ReadsNothing st (record st { depth = d; high = h })
-renested st d h = record { current = refl; items = refl; errors = refl; accepts = refl; waits = λ z. z; stays = λ m z. z }
+renested st d h = record {
+  current = refl;
+  items = refl;
+  errors = refl;
+  accepts = refl;
+  waits = λ z. z;
+  stays = λ m z. z;
+}
 
 pub leave-unread : {later last : State} → last ≡ leave later → ReadsNothing later last
 unfolding leave
-leave-unread {later = later} e = subst (λ (z : State). ReadsNothing later z) (sym e) (renested later (later.depth - 1) later.high)
+leave-unread {later = later} e =
+    subst (λ (z : State). ReadsNothing later z) (sym e) (renested later (later.depth - 1) later.high)
 
 pub unread-rest : {st last : State} → ReadsNothing st last → rest last ≡ rest st
-unread-rest reads_nothing = ap₂ (λ (o : Option Lexeme) (xs : List Answer). current_tokens o ++ answers_tokens xs) reads_nothing.current reads_nothing.items
+unread-rest reads_nothing =
+    ap₂ (λ (o : Option Lexeme) (xs : List Answer). current_tokens o ++ answers_tokens xs)
+    reads_nothing.current reads_nothing.items
 
 pub unread-seen : (now after : ℕ) {st last : State} → ReadsNothing st last → Seen now after st → Seen now after last
-unread-seen now after {st = st} {last = last} reads_nothing seen = seen-same now after st last reads_nothing.current reads_nothing.items seen
+unread-seen now after {st = st} {last = last} reads_nothing seen =
+    seen-same now after st last reads_nothing.current reads_nothing.items seen
 
 pub unread-grows : {st last : State} → ReadsNothing st last → Grows st last
 unread-grows {st = st} {last = last} reads_nothing = record {
@@ -149,7 +166,8 @@ module _ (R : ParserInput) where
     pub limit : bound ≡ lim
 
   -- The depth agrees with the open nodes; the greatest depth covers what they nest.
-  pub record Leveled (symbol state : ℕ) (this_level : Level) (forest : Forest) (fs : List Frame) (depth most bound : ℕ) : Type 0 where
+  pub record Leveled (symbol state : ℕ) (this_level : Level) (forest : Forest) (fs : List Frame)
+      (depth most bound : ℕ) : Type 0 where
     pub level : depth + counts_itself symbol ≡ depth_above fs symbol + level_entered this_level
     pub entered : level_entered this_level ≤ depth
     pub most_open : peak (frame symbol state forest ∷ fs) ≤ max most (depth + level_due symbol this_level)
@@ -157,7 +175,8 @@ module _ (R : ParserInput) where
     pub bounds : Bounded most bound
 
   -- The machine reaches the open nodes before the tokens that are left.
-  pub record MachineIsAt (symbol state : ℕ) (level : Level) (forest : Forest) (fs : List Frame) (st : State) : Type 0 where
+  pub record MachineIsAt (symbol state : ℕ) (level : Level) (forest : Forest) (fs : List Frame)
+      (st : State) : Type 0 where
     pub reach : Reach top w (frame symbol state forest ∷ fs) (rest st)
     pub leveled : Leveled symbol state level forest fs st.depth st.high st.limit
     pub alone : only_root symbol ≡ true → fs ≡ []
@@ -186,7 +205,8 @@ module _ (R : ParserInput) where
 
   -- what a position says of a state: the open nodes and what is known of them, or that the machine is stuck
   abbrev pub PositionHolds : ℕ → Position → List Frame → State → Type 0
-  PositionHolds symbol (in_row state level certainty) fs st = (open_nodes_agree : OpenNodesAgree symbol state level fs st)
+  PositionHolds symbol (in_row state level certainty) fs st =
+      (open_nodes_agree : OpenNodesAgree symbol state level fs st)
       × CertaintyHolds certainty (frame symbol state open_nodes_agree.children ∷ fs) st
   PositionHolds symbol machine_is_stuck fs st = StuckUnreported st
 
@@ -200,36 +220,44 @@ module _ (R : ParserInput) where
   RightlyReported st = FirstReportIsRight answers ReportIsRight st
 
   -- The state fits a position and the sets of the check, and nothing is reported yet.
-  pub record StateFits (symbol : ℕ) (this_position : Position) (now after : ℕ) (fs : List Frame) (st : State) : Type 0 where
+  pub record StateFits (symbol : ℕ) (this_position : Position) (now after : ℕ) (fs : List Frame)
+      (st : State) : Type 0 where
     pub no_report : NoReportYet st
     pub seen : Seen now after st
     pub position : PositionHolds symbol this_position fs st
 
   -- the state fits a position and sets for which the check of the rest holds
   abbrev pub Continues : ℕ → List Frame → Then → State → Type 0
-  Continues symbol fs then next_state = (position : Position) × (u : ℕ) × (v : ℕ) × (then position u v ≡ true) × StateFits symbol position u v fs next_state
+  Continues symbol fs then next_state =
+      (position : Position) × (u : ℕ) × (v : ℕ) × (then position u v ≡ true)
+      × StateFits symbol position u v fs next_state
 
   -- how a run ends that keeps to the table: its first report is right, or it goes on
   abbrev pub RunOutcome : ℕ → List Frame → Then → State → Type 0
   RunOutcome symbol fs then next_state = RightlyReported next_state ⊎ Continues symbol fs then next_state
 
   pub rightly-on : (next_state t : State) → Grows next_state t → RightlyReported next_state → RightlyReported t
-  rightly-on next_state t grows rightly_reported = first-right-on answers ReportIsRight next_state t grows rightly_reported
+  rightly-on next_state t grows rightly_reported =
+      first-right-on answers ReportIsRight next_state t grows rightly_reported
 
-  pub limit-known-holds : (symbol : ℕ) (fs : List Frame) (st : State) (position : Position) → is_deep st ≡ true → PositionHolds symbol position fs st
+  pub limit-known-holds : (symbol : ℕ) (fs : List Frame) (st : State) (position : Position) → is_deep st ≡ true
+      → PositionHolds symbol position fs st
       → PositionHolds symbol (with_limit_known position) fs st
   limit-known-holds symbol fs st (in_row state level Nothing) e position_holds = position_holds
-  limit-known-holds symbol fs st (in_row state level OpenWhateverFollows) e position_holds = (position_holds.0, (position_holds.1, e))
+  limit-known-holds symbol fs st (in_row state level OpenWhateverFollows) e position_holds =
+      (position_holds.0, (position_holds.1, e))
   limit-known-holds symbol fs st (in_row state level AtLimit) e position_holds = position_holds
   limit-known-holds symbol fs st machine_is_stuck e position_holds = position_holds
 
-  pub certainly-open : (certainty : Certainty) (fs : List Frame) (st : State) → open_whatever_follows certainty ≡ true → CertaintyHolds certainty fs st
+  pub certainly-open : (certainty : Certainty) (fs : List Frame) (st : State) → open_whatever_follows certainty ≡ true
+      → CertaintyHolds certainty fs st
       → Firm top w fs (rest st)
   certainly-open Nothing fs st h certainty_holds = false-true refl h
   certainly-open OpenWhateverFollows fs st h certainty_holds = certainty_holds
   certainly-open AtLimit fs st h certainty_holds = certainty_holds.0
 
-  pub certainty-forgotten : (certainty : Certainty) (fs : List Frame) (st last : State) → rest last ≡ rest st → CertaintyHolds certainty fs st
+  pub certainty-forgotten : (certainty : Certainty) (fs : List Frame) (st last : State) → rest last ≡ rest st
+      → CertaintyHolds certainty fs st
       → CertaintyHolds (limit_forgotten certainty) fs last
   certainty-forgotten Nothing fs st last e certainty_holds = tt
   certainty-forgotten OpenWhateverFollows fs st last e certainty_holds = rw e certainty_holds
@@ -250,7 +278,8 @@ module _ (R : ParserInput) where
   }
 
   -- the current token
-  pub current : (st : State) → NoReportYet st → (lexeme : Lexeme) × (st.current ≡ Some lexeme) × Now (Some lexeme) st.items
+  pub current : (st : State) → NoReportYet st
+      → (lexeme : Lexeme) × (st.current ≡ Some lexeme) × Now (Some lexeme) st.items
       × Held answers (Some lexeme) st.items
   current st no_report_yet = (elim st.current as (λ o. Now o st.items → Held answers o st.items
       → (t : Lexeme) × (o ≡ Some t) × Now (Some t) st.items × Held answers (Some t) st.items) [
@@ -264,39 +293,49 @@ module _ (R : ParserInput) where
 
   -- ---- reports
 
-  pub note-rightly : (message : Message) (st : State) → NoReportYet st → Stuck sort answers lim w (rest st) → TokensTaken (rest st) st.tree
+  pub note-rightly : (message : Message) (st : State) → NoReportYet st → Stuck sort answers lim w (rest st)
+      → TokensTaken (rest st) st.tree
       → RightlyReported (note message st)
   note-rightly message st no_report_yet stuck tokens_taken =
       let t = current st no_report_yet in
-      let right : ReportIsRight (fault_report message t.0) tokens_taken.count = stuck_here message t.2 t.3 (rw t.1 at stuck) (rw t.1 at tokens_taken.before) in
+      let right : ReportIsRight (fault_report message t.0) tokens_taken.count =
+      stuck_here message t.2 t.3 (rw t.1 at stuck) (rw t.1 at tokens_taken.before) in
       subst RightlyReported (sym (note-is message st t.0 t.1 no_report_yet.quiet.accepts))
-      (first-right answers ReportIsRight tokens_taken.count (fault_report message t.0) st _ no_report_yet.quiet refl right tokens_taken.settled)
+      (first-right answers ReportIsRight tokens_taken.count (fault_report message t.0) st _ no_report_yet.quiet refl
+      right tokens_taken.settled)
 
-  pub limit-rightly : (st : State) → NoReportYet st → TooMany sort answers lim w (rest st) → TokensTaken (rest st) st.tree → RightlyReported (too_deep st)
+  pub limit-rightly : (st : State) → NoReportYet st → TooMany sort answers lim w (rest st)
+      → TokensTaken (rest st) st.tree → RightlyReported (too_deep st)
   limit-rightly st no_report_yet too_many tokens_taken =
       let t = current st no_report_yet in
       let right = deep_here t.2 t.3 (rw t.1 at too_many) (rw t.1 at tokens_taken.before) in
       subst RightlyReported (sym (too_deep-is st t.0 t.1 no_report_yet.quiet.accepts))
-      (first-right answers ReportIsRight tokens_taken.count (recursion_limit_report t.0) st _ no_report_yet.quiet refl right tokens_taken.settled)
+      (first-right answers ReportIsRight tokens_taken.count (recursion_limit_report t.0) st _ no_report_yet.quiet refl
+      right tokens_taken.settled)
 
   -- ---- what is taken
 
-  pub spent-before : (fs : List Frame) (remaining : List Token) → Reach top w fs remaining → TokensBefore sort answers lim w (length (spent fs)) remaining
+  pub spent-before : (fs : List Frame) (remaining : List Token) → Reach top w fs remaining
+      → TokensBefore sort answers lim w (length (spent fs)) remaining
   spent-before fs remaining reach = sym (ap length (reach-spent reach) ∙ length-append (spent fs) remaining)
 
-  pub fitting : (fs : List Frame) (remaining : List Token) → Reach top w fs remaining → Fitting (length (spent fs)) (image fs)
+  pub fitting : (fs : List Frame) (remaining : List Token) → Reach top w fs remaining
+      → Fitting (length (spent fs)) (image fs)
   fitting fs remaining reach = fitting-image top fs (reach-sound (start-no-leaf top start_begins) reach)
 
-  pub agree-taken : {symbol state : ℕ} {level : Level} {fs : List Frame} {st : State} → OpenNodesAgree symbol state level fs st → TokensTaken (rest st) st.tree
+  pub agree-taken : {symbol state : ℕ} {level : Level} {fs : List Frame} {st : State}
+      → OpenNodesAgree symbol state level fs st → TokensTaken (rest st) st.tree
   agree-taken {symbol = symbol} {state = state} {fs = fs} {st = st} open_nodes_agree =
       let gs : List Frame = frame symbol state open_nodes_agree.children ∷ fs in
       record {
         count = length (spent gs);
         before = spent-before gs (rest st) open_nodes_agree.machine.reach;
-        settled = settled-at (length (spent gs)) st.tree (image gs) open_nodes_agree.built (fitting gs (rest st) open_nodes_agree.machine.reach);
+        settled = settled-at (length (spent gs)) st.tree (image gs) open_nodes_agree.built
+            (fitting gs (rest st) open_nodes_agree.machine.reach);
       }
 
-  pub taken-at : (symbol : ℕ) (position : Position) (fs : List Frame) (st : State) → PositionHolds symbol position fs st → TokensTaken (rest st) st.tree
+  pub taken-at : (symbol : ℕ) (position : Position) (fs : List Frame) (st : State) → PositionHolds symbol position fs st
+      → TokensTaken (rest st) st.tree
   taken-at symbol (in_row state level certainty) fs st position_holds = agree-taken position_holds.0
   taken-at symbol machine_is_stuck fs st position_holds = position_holds.1
 
@@ -312,7 +351,8 @@ module _ (R : ParserInput) where
 
   -- ---- levels
 
-  pub leveled-enter : {symbol state : ℕ} {this_level : Level} {forest : Forest} {fs : List Frame} {d h m : ℕ} → level_entered this_level ≡ 0 → suc d ≤ m
+  pub leveled-enter : {symbol state : ℕ} {this_level : Level} {forest : Forest} {fs : List Frame} {d h m : ℕ}
+      → level_entered this_level ≡ 0 → suc d ≤ m
       → ((tree : Tree) → Made tree → d < nesting_all tree) → Leveled symbol state this_level forest fs d h m
       → Leveled symbol state Entered forest fs (d + 1) (max h (d + 1)) m
   leveled-enter {symbol = symbol} {this_level = this_level} r b n leveled = record {
@@ -327,12 +367,22 @@ module _ (R : ParserInput) where
     };
   }
 
-  pub leveled-leave : {symbol state : ℕ} {forest : Forest} {fs : List Frame} {d h m : ℕ} → Leveled symbol state Entered forest fs d h m
+  pub leveled-leave : {symbol state : ℕ} {forest : Forest} {fs : List Frame} {d h m : ℕ}
+      → Leveled symbol state Entered forest fs d h m
       → Leveled symbol state Left forest fs (d - 1) h m
-  leveled-leave leveled = record { level = omega arith; entered = omega arith; most_open = omega arith; above = omega arith; bounds = leveled.bounds }
+  leveled-leave leveled =
+      record {
+        level = omega arith;
+        entered = omega arith;
+        most_open = omega arith;
+        above = omega arith;
+        bounds = leveled.bounds;
+      }
 
-  pub leveled-leaf : {symbol state : ℕ} {this_level : Level} {forest : Forest} {fs : List Frame} {d h m : ℕ} (child p : ℕ) (text : Text) → is_leaf child ≡ true
-      → Leveled symbol state this_level forest fs d h m → Leveled symbol p this_level (forest +++ (leaf child text ▸ none)) fs d h m
+  pub leveled-leaf : {symbol state : ℕ} {this_level : Level} {forest : Forest} {fs : List Frame} {d h m : ℕ}
+      (child p : ℕ) (text : Text) → is_leaf child ≡ true
+      → Leveled symbol state this_level forest fs d h m
+      → Leveled symbol p this_level (forest +++ (leaf child text ▸ none)) fs d h m
   leveled-leaf {symbol = symbol} {state = state} {forest = forest} {fs = fs} child p text i leveled =
       record {
         level = leveled.level;
@@ -342,8 +392,10 @@ module _ (R : ParserInput) where
         bounds = leveled.bounds;
       }
 
-  pub leveled-begin : {symbol state : ℕ} {this_level : Level} {forest : Forest} {fs : List Frame} {d h m : ℕ} (j : ℕ) → levels_agree symbol this_level j ≡ true
-      → Leveled symbol state this_level forest fs d h m → Leveled j 0 NotEntered none (frame symbol state forest ∷ fs) d h m
+  pub leveled-begin : {symbol state : ℕ} {this_level : Level} {forest : Forest} {fs : List Frame} {d h m : ℕ} (j : ℕ)
+      → levels_agree symbol this_level j ≡ true
+      → Leveled symbol state this_level forest fs d h m
+      → Leveled j 0 NotEntered none (frame symbol state forest ∷ fs) d h m
   unfolding levels_agree
   leveled-begin {symbol = symbol} {state = state} {forest = forest} {fs = fs} j e leveled =
       let a = eqb-true _ _ (and-l _ _ e) in
@@ -356,12 +408,15 @@ module _ (R : ParserInput) where
         bounds = leveled.bounds;
       }
 
-  pub leveled-end : {symbol state j p : ℕ} {this_level other_level : Level} {forest more_trees : Forest} {fs : List Frame} {d h n d' h' n' : ℕ} (o : ℕ)
+  pub leveled-end : {symbol state j p : ℕ} {this_level other_level : Level} {forest more_trees : Forest}
+      {fs : List Frame} {d h n d' h' n' : ℕ} (o : ℕ)
       → levels_agree symbol this_level j ≡ true → level_entered other_level ≡ 0 → level_due j other_level ≡ 0
-      → Leveled symbol state this_level forest fs d h n → Leveled j p other_level more_trees (frame symbol state forest ∷ fs) d' h' n'
+      → Leveled symbol state this_level forest fs d h n
+      → Leveled j p other_level more_trees (frame symbol state forest ∷ fs) d' h' n'
       → Leveled symbol o this_level (forest +++ (node j more_trees ▸ none)) fs d' h' n'
   unfolding levels_agree
-  leveled-end {symbol = symbol} {state = state} {j = j} {p = p} {forest = forest} {more_trees = more_trees} {fs = fs} o e r u leveled second_leveled =
+  leveled-end {symbol = symbol} {state = state} {j = j} {p = p} {forest = forest} {more_trees = more_trees} {fs = fs} o
+      e r u leveled second_leveled =
       let a = eqb-true _ _ (and-l _ _ e) in
       record {
         level = omega (arith, a);
@@ -371,12 +426,15 @@ module _ (R : ParserInput) where
         bounds = second_leveled.bounds;
       }
 
-  pub still-leveled : {symbol state : ℕ} {level : Level} {forest : Forest} {fs : List Frame} {st last : State} → OnlyBuilds st last
-      → Leveled symbol state level forest fs st.depth st.high st.limit → Leveled symbol state level forest fs last.depth last.high last.limit
+  pub still-leveled : {symbol state : ℕ} {level : Level} {forest : Forest} {fs : List Frame} {st last : State}
+      → OnlyBuilds st last
+      → Leveled symbol state level forest fs st.depth st.high st.limit
+      → Leveled symbol state level forest fs last.depth last.high last.limit
   still-leveled only_builds leveled = rw (only_builds.depth, only_builds.high, only_builds.limit) leveled
 
   -- the rule goes on elsewhere
-  pub moved-on : {symbol s' now after : ℕ} {this_position other_position : Position} {fs fs' : List Frame} {st last : State}
+  pub moved-on : {symbol s' now after : ℕ} {this_position other_position : Position}
+      {fs fs' : List Frame} {st last : State}
       → StateFits symbol this_position now after fs st → ReadsNothing st last → PositionHolds s' other_position fs' last
       → StateFits s' other_position now after fs' last
   moved-on {now = now} {after = after} state_fits reads_nothing position_holds =

@@ -1,5 +1,6 @@
 -- A root where it is opened, and where the machine ends it: for each sort of text.
-use Rattle.std.proofs.Common.{◌≡◌, ℕ, ◌≤◌, true, false, eqb, List, [], ◌∷◌, ◌++◌, length, refl, sym, ap, ◌∙◌, subst, ◌⊎◌, inl, inr, arith}
+use Rattle.std.proofs.Common.{◌≡◌, ℕ, ◌≤◌, true, false, eqb, List, [], ◌∷◌, ◌++◌, length, refl, sym, ap, ◌∙◌, subst}
+use Rattle.std.proofs.Common.{◌⊎◌, inl, inr, arith}
 use Rattle.lexical_grammar.specs.Answers.{Answer, is_token}
 use Rattle.document_grammar.proofs.Booleans.{false-true, and-l, and-r}
 use Rattle.document_grammar.specs.declared.kind.SyntaxKind.{SyntaxKind}
@@ -17,12 +18,14 @@ use Rattle.grammar_machine.proofs.Makes.{made, makes-from}
 use Rattle.grammar_machine.proofs.MachineTheorems.{Parse, done}
 use Rattle.grammar_machine.proofs.Patterns.{label}
 use Rattle.grammar_machine.proofs.Run.{next}
-use Rattle.grammar_machine.proofs.SentenceTheorems.{start_symbol, sentence-parse, accepts, sound as ended_sound, sound-all}
+use Rattle.grammar_machine.proofs.SentenceTheorems.{start_symbol, sentence-parse, accepts, sound as ended_sound}
+use Rattle.grammar_machine.proofs.SentenceTheorems.{sound-all}
 use Rattle.grammar_machine.proofs.Sound.{any}
 use Rattle.parser_rules.specs.State.{State, Report, read_on, fresh}
 use Rattle.parser_rules.proofs.runs.Frame.{Untouched, read-untouched}
 use Rattle.parser_rules.proofs.runs.Reading.{reading}
-use Rattle.parser_rules.proofs.reports.NoReport.{answers_tokens, all_tokens, rest, given as given_by, EndsWell, WouldBeRight, read-on}
+use Rattle.parser_rules.proofs.reports.NoReport.{answers_tokens, all_tokens, rest, given as given_by, EndsWell}
+use Rattle.parser_rules.proofs.reports.NoReport.{WouldBeRight, read-on}
 use Rattle.parser_rules.proofs.lookahead.TokenSets.{seen-any}
 use Rattle.parser_rules.proofs.lookahead.Split.{Level, NotEntered, at_root_start}
 use Rattle.parser_rules.proofs.soundness.WithoutIgnored.{stack}
@@ -30,8 +33,8 @@ use Rattle.parser_rules.proofs.soundness.MachineStack.{image, image-node}
 use Rattle.parser_rules.proofs.soundness.Settled.{Settled, settled-at}
 use Rattle.parser_rules.proofs.soundness.TableCheck.{counts_itself, level_due}
 use Rattle.parser_rules.proofs.soundness.FirstReport.{RightReport, stuck_here, deep_here, no_token}
-use Rattle.parser_rules.proofs.soundness.Positions.{ParserInput, top, start_begins, Leveled, MachineIsAt, PositionHolds, StateFits, RightlyReported}
-use Rattle.parser_rules.proofs.soundness.Positions.{ReportIsRight, shown, fitting}
+use Rattle.parser_rules.proofs.soundness.Positions.{ParserInput, top, start_begins, Leveled, MachineIsAt, PositionHolds}
+use Rattle.parser_rules.proofs.soundness.Positions.{StateFits, RightlyReported, ReportIsRight, shown, fitting}
 
 -- all the answers, to a parser with nothing reported
 abbrev pub input_of : Sort → ℕ → List Answer → ParserInput
@@ -49,10 +52,12 @@ pub record Begins (s : ℕ) (building : Building) : Type 0 where
   pub built : stack building ≡ image (frame s 0 none ∷ [])
 
 -- the root is open
-pub symbol-begins : {s : ℕ} {this_kind : SyntaxKind} → IsRootSymbol s this_kind → Begins s (start_node this_kind nothing)
+pub symbol-begins : {s : ℕ} {this_kind : SyntaxKind} → IsRootSymbol s this_kind
+    → Begins s (start_node this_kind nothing)
 symbol-begins {s = s} is_root_symbol = record {
   counted = is_root_symbol.counted;
-  built = ap (λ (j : ℕ). (j, none) ∷ ((0, none) ∷ [])) (sym is_root_symbol.shown) ∙ sym (image-node s 0 none [] is_root_symbol.no_type);
+  built = ap (λ (j : ℕ). (j, none) ∷ ((0, none) ∷ [])) (sym is_root_symbol.shown)
+      ∙ sym (image-node s 0 none [] is_root_symbol.no_type);
 }
 
 -- this is built, and nothing is read
@@ -76,13 +81,15 @@ module _ (sort : Sort) (max_depth : ℕ) (xs : List Answer) where
     }
 
     -- where nothing else is built, and all the tokens are left
-    pub root-opened : (n m : ℕ) (ys : List Answer) (state : State) → Untouched (record (first_state ys max_depth building) { asked = n; budget = m }) state
+    pub root-opened : (n m : ℕ) (ys : List Answer) (state : State)
+        → Untouched (record (first_state ys max_depth building) { asked = n; budget = m }) state
         → rest state ≡ answers_tokens xs → PositionHolds R (top R) at_root_start [] state
     root-opened n m ys state untouched e = (
       record {
         children = none;
         machine = record {
-          reach = subst (λ (z : List Token). Reach (top R) (answers_tokens xs) (frame (top R) 0 none ∷ []) z) (sym e) start;
+          reach = subst (λ (z : List Token). Reach (top R) (answers_tokens xs) (frame (top R) 0 none ∷ []) z)
+              (sym e) start;
           leveled = rw (untouched.depth, untouched.high, untouched.limit) root-level;
           alone = λ e. refl;
         };
@@ -96,7 +103,8 @@ module _ (sort : Sort) (max_depth : ℕ) (xs : List Answer) where
     root-starts e =
         let state : State = first_state xs max_depth building in
         let after : State = read_on xs state in
-        elim (read-on xs (ReportIsRight R) (reading xs state) 0 (record { clean = refl; accepts = refl; waits = refl }) e
+        elim (read-on xs (ReportIsRight R) (reading xs state) 0
+        (record { clean = refl; accepts = refl; waits = refl }) e
         (record { front = []; split = refl; tokens = refl }) blame settled) [
           | inl o' ↦ inl o'
           | inr o' ↦ inr (
@@ -110,7 +118,8 @@ module _ (sort : Sort) (max_depth : ℕ) (xs : List Answer) where
         ]
       where
         settled : Settled 0 building
-        settled = settled-at 0 building (image (frame (top R) 0 none ∷ [])) begins.built (fitting R (frame (top R) 0 none ∷ []) (answers_tokens xs) start)
+        settled = settled-at 0 building (image (frame (top R) 0 none ∷ [])) begins.built
+            (fitting R (frame (top R) 0 none ∷ []) (answers_tokens xs) start)
 
         blame : WouldBeRight xs (ReportIsRight R) 0 (answers_tokens xs)
         blame x ys p n z = no_token p n (
@@ -121,7 +130,8 @@ module _ (sort : Sort) (max_depth : ℕ) (xs : List Answer) where
 
 -- ---- the end
 
--- The root's node is a derivation of the tokens before the rest; it nests within the limit, and as deep as the greatest depth.
+-- The root's node is a derivation of the tokens before the rest; it nests within the limit, and as deep as the greatest
+-- depth.
 pub record IsEnded (R : ParserInput) (forest : Forest) (state : State) : Type 0 where
   pub split : R.words ≡ yields forest ++ rest state
   pub spells : Spells (yields forest) (show (node (top R) forest)) R.sort
@@ -130,7 +140,8 @@ pub record IsEnded (R : ParserInput) (forest : Forest) (state : State) : Type 0 
   -- over a sentence all is taken, and it is the sentence's derivation
   pub all : (tree : Tree) → Spells R.words tree R.sort → (rest state ≡ []) × (show (node (top R) forest) ≡ tree)
 
-pub root-ended : (R : ParserInput) {q : ℕ} {level : Level} {forest : Forest} {state : State} → MachineIsAt R (top R) q level forest [] state
+pub root-ended : (R : ParserInput) {q : ℕ} {level : Level} {forest : Forest} {state : State}
+    → MachineIsAt R (top R) q level forest [] state
     → next (top R) q (rest state) ≡ closes_move → level_due (top R) level ≡ 0 → IsEnded R forest state
 root-ended R {q = q} {level = level} {forest = forest} {state = state} machine_is_at m owes =
     let d = ended_sound R.sort R.words forest (rest state) (q, machine_is_at.reach, m) in
@@ -149,20 +160,26 @@ root-ended R {q = q} {level = level} {forest = forest} {state = state} machine_i
 
 -- ---- acceptance
 
-token-of-all : (front items : List Answer) (answer : Answer) → all_tokens (front ++ answer ∷ items) ≡ true → is_token answer ≡ true
+token-of-all : (front items : List Answer) (answer : Answer) → all_tokens (front ++ answer ∷ items) ≡ true
+    → is_token answer ≡ true
 token-of-all [] items answer h = and-l _ _ h
 token-of-all (other_answer ∷ front) items answer h = token-of-all front items answer (and-r _ _ h)
 
 -- over a sentence within the limits no report is right
-pub never-right : (sort : Sort) (max_depth : ℕ) (xs : List Answer) (report : Report) (m : ℕ) (tree : Tree) → Spells (answers_tokens xs) tree sort
+pub never-right : (sort : Sort) (max_depth : ℕ) (xs : List Answer) (report : Report) (m : ℕ) (tree : Tree)
+    → Spells (answers_tokens xs) tree sort
     → nest tree ≤ max_depth → all_tokens xs ≡ true → RightReport sort xs max_depth (answers_tokens xs) report m → ⊥
-never-right sort max_depth xs report m tree spells n a (stuck_here said {lexeme = lexeme} {items = items} now held stuck tokens_before) =
+never-right sort max_depth xs report m tree spells n a
+    (stuck_here said {lexeme = lexeme} {items = items} now held stuck tokens_before) =
     accepts sort (answers_tokens xs) (answers_tokens (given_by lexeme ∷ items)) tree spells stuck.0
-never-right sort max_depth xs report m tree spells n a (deep_here {lexeme = lexeme} {items = items} now held too_many tokens_before) =
+never-right sort max_depth xs report m tree spells n a
+    (deep_here {lexeme = lexeme} {items = items} now held too_many tokens_before) =
     let u = sentence-parse sort (answers_tokens xs) tree spells in
     let d = too_many.deeper u.0 (answers_tokens (given_by lexeme ∷ items))
     (subst (λ (z : List Token). Parse (start_symbol sort (answers_tokens xs)) u.0 z) too_many.split u.1) refl in
     let nests : nest tree ≡ nesting_all u.0 = ap nest (sym u.2) ∙ nest-show u.0 u.1.0 in
     absurd (omega (arith, d, nests, n))
-never-right sort max_depth xs report m tree spells n a (no_token {answer = answer} {items = items} passed other_one viable tokens_before) =
-    false-true other_one (token-of-all passed.front items answer (subst (λ (z : List Answer). all_tokens z ≡ true) passed.split a))
+never-right sort max_depth xs report m tree spells n a
+    (no_token {answer = answer} {items = items} passed other_one viable tokens_before) =
+    false-true other_one (token-of-all passed.front items answer
+    (subst (λ (z : List Answer). all_tokens z ≡ true) passed.split a))

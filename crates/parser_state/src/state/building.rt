@@ -31,7 +31,8 @@ pub(super) fn push_all<A: Allocator + Copy>(
 ) -> Result<(), AllocError>
     requires { length (built_text builder.old) + pending_length (map pending_of pending.now) < 2 ^ 64 }
     ensures ok { OnOk result (builder.new ≡ state.add_all (map pending_of pending.now) builder.old) }
-    ensures len { length (built_text builder.new) ≤ length (built_text builder.old) + pending_length (map pending_of pending.now) }
+    ensures len { length (built_text builder.new)
+        ≤ length (built_text builder.old) + pending_length (map pending_of pending.now) }
 {
     for token in pending {
         builder.token(token.kind, token.text)?;
@@ -231,8 +232,8 @@ impl<'i, A: Allocator + Copy> ParserState<'i, A> {
         Ok(())
     }
 
-    /// Opens the root around all that is built: a type of the kind, or where `!` comes next a NON_NULL_TYPE around the type, which begins at the
-    /// checkpoint, and the `!`.
+    /// Opens the root around all that is built: a type of the kind, or where `!` comes next a NON_NULL_TYPE around the
+    /// type, which begins at the checkpoint, and the `!`.
     #[tactic(auto, using(parser_rules::specs::Fragments::nullable, parser_rules::specs::Fragments::non_null))]
     pub fn close_type(
         &mut self,

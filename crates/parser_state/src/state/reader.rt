@@ -45,10 +45,12 @@ pub struct Reader<'i> {
     // the count before the first item, which contracts alone see
     start: Steps,
     // what a copy found is the token there
-    ghost known: { shown ahead.is_known (current_of ahead.found) (second (answers_left lexer)) ≡ second (answers_left lexer) } by { Prim.hlevel codes },
-    // What was cut, and twice the items that are left, are no more than twice all items; those that a copy has cut already are cut only once
-    // more.
-    ghost within: { steps.value + 2 * given (answers_left lexer) ≤ start.value + 2 * all_given lexer + spared ahead.is_known (answers_left lexer) },
+    ghost known: { shown ahead.is_known (current_of ahead.found) (second (answers_left lexer))
+        ≡ second (answers_left lexer) } by { Prim.hlevel codes },
+    // What was cut, and twice the items that are left, are no more than twice all items; those that a copy has cut
+    // already are cut only once more.
+    ghost within: { steps.value + 2 * given (answers_left lexer)
+        ≤ start.value + 2 * all_given lexer + spared ahead.is_known (answers_left lexer) },
 }
 
 // The next significant token that the lexer gives.

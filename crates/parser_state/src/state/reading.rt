@@ -95,7 +95,8 @@ impl<'i, A: Allocator + Copy> ParserState<'i, A> {
     // An error of the lexer, and the bad text that it is about.
     fn push_lex_error(&mut self, error: LexError<'i>) -> Result<(), AllocError>
         requires { answer_length (Some (answer_of (Err error))) + length_of self.old < 2 ^ 64 }
-        ensures step { OnOk result (self.new ≡ reading.refused error.entry.is_limit error.entry.text.now error.entry.index self.old) }
+        ensures step { OnOk result
+            (self.new ≡ reading.refused error.entry.is_limit error.entry.text.now error.entry.index self.old) }
         ensures budget { self.new.budget ≡ self.old.budget }
     {
         self.add_error(BorrowedError::Lexer(error))?;
@@ -120,7 +121,8 @@ impl<'i, A: Allocator + Copy> ParserState<'i, A> {
 
     fn set_current(&mut self, token: Option<Token<'i>>)
         requires text { state.IsNow (current_of token) }
-        requires len { current_length (current_of token) + text_length self.old.tree self.old.pending None self.old.items < 2 ^ 64 }
+        requires len { current_length (current_of token)
+            + text_length self.old.tree self.old.pending None self.old.items < 2 ^ 64 }
         ensures step { self.new ≡ record self.old { current = current_of token.entry } }
         ensures budget { self.new.budget ≡ self.old.budget }
     {

@@ -5,7 +5,8 @@ ghost use Rattle.std.specs.Prelude.{◌≡◌, ◌<◌, true, [], ◌∷◌, ◌
 ghost use Rattle.lexical_grammar.specs.declared.TokenKind.TheVariants as token;
 ghost use Rattle.document_grammar.specs.declared.kind.SyntaxKind.TheVariants as kind;
 ghost use Rattle.parser_rules.specs.State as state;
-ghost use Rattle.parser_rules.specs.RuleLanguage.{At, Word, Ready, Note, Bump, Do, When, Skip, want, expect, expect_word, refuse};
+ghost use Rattle.parser_rules.specs.RuleLanguage.{At, Word, Ready, Note, Bump, Do, When, Skip, want, expect};
+ghost use Rattle.parser_rules.specs.RuleLanguage.{expect_word, refuse};
 ghost use Rattle.document_grammar.specs.Choices.{is_keyword};
 ghost use Rattle.document_grammar.specs.Numbers.{number};
 ghost use Rattle.parser_state.specs.View.{report_of};
@@ -22,7 +23,8 @@ impl<'i, A: Allocator + Copy> ParserState<'i, A> {
     // One error more.
     #[cold]
     pub(super) fn add_error(&mut self, error: BorrowedError<'i>) -> Result<(), AllocError>
-        ensures step { OnOk result (self.new ≡ record self.old { errors = self.old.errors ++ report_of error.entry ∷ [] }) }
+        ensures step { OnOk result
+            (self.new ≡ record self.old { errors = self.old.errors ++ report_of error.entry ∷ [] }) }
         ensures budget { self.new.budget ≡ self.old.budget }
     {
         self.errors.push(error)?;

@@ -14,7 +14,8 @@ fn put_token_kinds(found: &mut Answers) {
     found.end_line();
 }
 
-// Each form of escape, and what begins none: a lone surrogate, braces with no digits, a number above those of characters.
+// Each form of escape, and what begins none: a lone surrogate, braces with no digits, a number above those of
+// characters.
 const ESCAPES: [&str; 15] = [
     r"\n",
     "\\\"\"",

@@ -1,4 +1,5 @@
-// The laws: calls that do nothing, each with a theorem as its contract. So no answer shows anything of them; each is called once.
+// The laws: calls that do nothing, each with a theorem as its contract. So no answer shows anything of them; each is
+// called once.
 use apollo_cst_core::reading_back;
 use apollo_lexer::{
     Lexer, answers_are_items, answers_count, answers_fit, answers_join, equal_errors_are_same,

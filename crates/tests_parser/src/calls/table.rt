@@ -55,7 +55,8 @@ fn put_table(found: &mut Answers, table: &RecordTable<Global>) {
     found.end_line();
 }
 
-// A record that starts past 2 ^ 32 makes a table wide, and one whose size takes more than 24 bits narrow, each with the records that it held.
+// A record that starts past 2 ^ 32 makes a table wide, and one whose size takes more than 24 bits narrow, each with the
+// records that it held.
 fn put_tables(alloc: Global, found: &mut Answers) -> Result<(), AllocError> {
     put_table(found, &wide_table(alloc)?.try_clone(alloc)?);
     put_table(found, &narrow_table(alloc)?);

@@ -10,7 +10,8 @@ use apollo_parser::{
 };
 use std::alloc::{AllocError, Global};
 
-// A root that a text is parsed below. The calls have no contracts: the promises of the parser would burden the proofs here.
+// A root that a text is parsed below. The calls have no contracts: the promises of the parser would burden the proofs
+// here.
 trait Parsed: Root {
     fn parse(alloc: Global, parser: Parser<'_>) -> Result<SyntaxTree<Self, Global>, AllocError>;
 

@@ -106,7 +106,8 @@ impl<'r> Record<'r> {
         })
     }
 
-    /// The text. One in pieces has a line each for its front, the piece, what is inside of all pieces, the piece that closes one, and its back.
+    /// The text. One in pieces has a line each for its front, the piece, what is inside of all pieces, the piece that
+    /// closes one, and its back.
     pub fn text(&self, alloc: Global) -> Result<String, AllocError> {
         let Some(count) = self.count else {
             return String::from_str(alloc, self.written);

@@ -6,4 +6,6 @@ use Rattle.apollo_cst_core.specs.Kinds.{is_of_one}
 use Rattle.apollo_cst_core.proofs.kinds.child_of.Given as goal
 
 abbrev pub invariant-loop-child : goal.invariant-loop-child
-invariant-loop-child l = find (is_of_one l.kinds) (rest_nodes l.child-iterator) ≡ find (is_of_one l.kinds) (child_nodes (node_place l.fn.parent))
+invariant-loop-child l =
+    find (is_of_one l.kinds) (rest_nodes l.child-iterator)
+    ≡ find (is_of_one l.kinds) (child_nodes (node_place l.fn.parent))

@@ -14,7 +14,8 @@ use Rattle.apollo_grammar.proofs.grammar.+selection.Goals as goal
 pub field::field-selection_set-requires : goal.field::field-selection_set-requires
 unfolding consuming
 field::field-selection_set-requires g t c =
-    let h = opened-takes kind.FIELD _ c.in_ok-start_node.ensures.step c.in_ok-aliased_name.ensures.runs (here-there (Kind token.Name) _ c.requires) refl in
+    let h = opened-takes kind.FIELD _ c.in_ok-start_node.ensures.step c.in_ok-aliased_name.ensures.runs
+    (here-there (Kind token.Name) _ c.requires) refl in
     let k = fewer c.in_ok-optional_arguments.ensures.runs in
     let l = fewer c.in_ok-optional_directives.ensures.runs in
     λ κs w. (omega (arith, h, k, l, c.decreases), (w, c.if-at.ensures))
@@ -22,7 +23,8 @@ field::field-selection_set-requires g t c =
 pub fragment::inline_fragment-selection_set-requires : goal.fragment::inline_fragment-selection_set-requires
 unfolding consuming
 fragment::inline_fragment-selection_set-requires g t c =
-    let h = opened-takes kind.INLINE_FRAGMENT c.args.p.now refl c.in_ok-start_node_with.ensures.runs (here-there (Kind token.Spread) _ c.requires) refl in
+    let h = opened-takes kind.INLINE_FRAGMENT c.args.p.now refl c.in_ok-start_node_with.ensures.runs
+    (here-there (Kind token.Spread) _ c.requires) refl in
     let k = fewer c.in_ok-optional_type_condition.ensures.runs in
     let l = fewer c.in_ok-optional_directives.ensures.runs in
     λ κs w. (omega (arith, h, k, l, c.decreases), (w, c.if-at.ensures))
@@ -31,7 +33,10 @@ pub selection::selection_set-inside_selection_set-requires : goal.selection::sel
 unfolding left opened flush
 selection::selection_set-inside_selection_set-requires g t c =
     let h = ap left c.in_ok-start_node.ensures.step in
-    λ κs w. (omega (arith, h, c.decreases), (w, still-at kind.SELECTION_SET token.LCurly _ c.requires c.in_ok-start_node.ensures.step))
+    λ κs w. (
+      omega (arith, h, c.decreases),
+      (w, still-at kind.SELECTION_SET token.LCurly _ c.requires c.in_ok-start_node.ensures.step),
+    )
 
 pub selection::inside_selection_set-selections-requires : goal.selection::inside_selection_set-selections-requires
 unfolding consuming
@@ -48,10 +53,12 @@ selection::selections-selection-requires g t c =
 
 pub selection::selections-loop-p-smaller : goal.selection::selections-loop-p-smaller
 unfolding consuming
-selection::selections-loop-p-smaller g t c = taken c.in_ok-selection.ensures.runs (here-there selection_start _ c.loop-p-test.ensures) refl
+selection::selections-loop-p-smaller g t c =
+    taken c.in_ok-selection.ensures.runs (here-there selection_start _ c.loop-p-test.ensures) refl
 
 pub selection::selection-spread-requires : goal.selection::selection-spread-requires
-selection::selection-spread-requires g t c = λ κs w. (omega (arith, c.decreases), (w, other-at token.Name token.Spread _ c.requires c.if-at.ensures))
+selection::selection-spread-requires g t c =
+    λ κs w. (omega (arith, c.decreases), (w, other-at token.Name token.Spread _ c.requires c.if-at.ensures))
 
 pub selection::spread-spread_before-requires : goal.selection::spread-spread_before-requires
 selection::spread-spread_before-requires g t c =
@@ -68,5 +75,6 @@ selection::spread-spread_before-requires g t c =
     )
 
 pub selection::spread-returns : goal.selection::spread-returns
-selection::spread-returns g t c = subst (λ (s : State). Parses (Call Spread) c.spread_before.result s c.spread_before.new.p) c.peek-next.ensures.same
+selection::spread-returns g t c =
+    subst (λ (s : State). Parses (Call Spread) c.spread_before.result s c.spread_before.new.p) c.peek-next.ensures.same
     c.spread_before.ensures

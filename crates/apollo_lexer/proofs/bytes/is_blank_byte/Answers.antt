@@ -5,4 +5,5 @@ use Rattle.apollo_lexer.proofs.bytes.is_blank_byte.Goals as goal
 
 -- the table says it of each byte
 pub returns : goal.returns
-returns c = get_or-map-range_with_len (λ b. is_white_space b || is_line_terminator b) 0 256 c.args.b c.args.b false c.ranges.b.fits (omega arith)
+returns c = get_or-map-range_with_len (λ b. is_white_space b || is_line_terminator b) 0 256 c.args.b c.args.b false
+    c.ranges.b.fits (omega arith)

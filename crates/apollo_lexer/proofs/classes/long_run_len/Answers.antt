@@ -12,5 +12,6 @@ loop-n-preserved g c =
 
 pub returns-then-k-lt-LANES-clause-value : goal.returns-then-k-lt-LANES-clause-value
 returns-then-k-lt-LANES-clause-value g c =
-    sixteen-end g.C.ByteClass.class c.args.bytes.now c.loop-n.n c.lanes-k.result (omega arith) c.loop-n.invariant.so_far c.lanes-k.ensures
+    sixteen-end g.C.ByteClass.class c.args.bytes.now c.loop-n.n c.lanes-k.result (omega arith)
+    c.loop-n.invariant.so_far c.lanes-k.ensures
     (omega arith)

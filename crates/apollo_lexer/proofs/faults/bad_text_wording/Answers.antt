@@ -15,5 +15,6 @@ range_from-next-requires c = λ some.
 pub returns : goal.returns
 returns c =
     c.wording_of.ensures c.args.text.now c.range_from-next.result.now
-    ∙ message-made c.args.text.now c.as_bytes-bytes.result.now c.range_from-next.result.now c.number_len-state.result.1 c.fault.result
+    ∙ message-made c.args.text.now c.as_bytes-bytes.result.now c.range_from-next.result.now
+    c.number_len-state.result.1 c.fault.result
     c.as_bytes-bytes.ensures.value c.number_len-state.ensures.len c.fault.ensures c.range_from-next.ensures.value

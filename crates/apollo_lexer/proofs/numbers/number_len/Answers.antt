@@ -7,5 +7,6 @@ use Rattle.apollo_lexer.proofs.numbers.number_len.Goals as goal
 
 pub loop-n-preserved : goal.loop-n-preserved
 loop-n-preserved c =
-    reads-more c.args.bytes.now c.loop-n.state c.step-next.result c.loop-n.n c.loop-n.invariant c.loop-n-test.true c.step-next.ensures
+    reads-more c.args.bytes.now c.loop-n.state c.step-next.result c.loop-n.n c.loop-n.invariant
+    c.loop-n-test.true c.step-next.ensures
     (λ e. let is : false ≡ true = sym c.if-eq.false ∙ c.eq.ensures ∙ ap (λ s. sameb the_type s Dead) e in (cc))

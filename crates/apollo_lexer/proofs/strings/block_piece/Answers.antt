@@ -6,7 +6,8 @@ pub returns-in-None : goal.returns-in-None
 returns-in-None c = block-piece-none c.args.rest.now c.in-None.ensures
 
 pub returns-then-starts_with : goal.returns-then-starts_with
-returns-then-starts_with c = block-last c.args.rest.now c.in-Some.i c.in-Some.ensures (sym c.starts_with.ensures.value ∙ c.if-starts_with.true)
+returns-then-starts_with c =
+    block-last c.args.rest.now c.in-Some.i c.in-Some.ensures (sym c.starts_with.ensures.value ∙ c.if-starts_with.true)
 
 pub returns-then-starts_with-2 : goal.returns-then-starts_with-2
 returns-then-starts_with-2 c = block-inner c.args.rest.now c.in-Some.i c.in-Some.ensures

@@ -7,11 +7,13 @@ use Rattle.apollo_tree.proofs.compact.write_all.Goals as goal
 
 pub compact-requires : goal.compact-requires
 compact-requires g c =
-    next-fits g.R.Packed.plain c.args.records.now c.loop-index.index c.index-records-index.result c.index-records-index.is (omega arith) c.requires
+    next-fits g.R.Packed.plain c.args.records.now c.loop-index.index c.index-records-index.result
+    c.index-records-index.is (omega arith) c.requires
 
 pub loop-index-preserved : goal.loop-index-preserved
 loop-index-preserved g c =
-    next-compact g.R.Packed.plain c.args.records.now c.loop-index.index c.index-records-index.result c.index-records-index.is (omega arith)
+    next-compact g.R.Packed.plain c.args.records.now c.loop-index.index c.index-records-index.result
+    c.index-records-index.is (omega arith)
     c.args.rows.now c.loop-index.rows c.compact.result c.loop-index.invariant c.compact.ensures (omega arith)
 
 pub returns : goal.returns

@@ -5,4 +5,5 @@ use Rattle.apollo_tree.proofs.compact.write_all.Given as goal
 
 -- the records that were passed are written
 abbrev pub invariant-loop-index : goal.invariant-loop-index
-invariant-loop-index g l = l.rows ≡ filled l.initial.rows (take l.index (map compact_record (map g.R.Packed.plain l.records)))
+invariant-loop-index g l =
+    l.rows ≡ filled l.initial.rows (take l.index (map compact_record (map g.R.Packed.plain l.records)))

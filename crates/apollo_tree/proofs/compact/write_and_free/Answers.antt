@@ -13,14 +13,16 @@ write_all-requires-2 g c =
     let half : ℕ = c.len-half.result / 2 in
     subst (λ ps. All IsSmall (map plain ps)) (sym (take_rest all half))
     (subst (All IsSmall) (drop-map plain half all)
-    (All-drop IsSmall half (map plain all) (subst (λ ps. All IsSmall (map plain ps)) (sym c.deref.ensures.value) c.requires)))
+    (All-drop IsSmall half (map plain all)
+    (subst (λ ps. All IsSmall (map plain ps)) (sym c.deref.ensures.value) c.requires)))
 
 pub write_all-requires-3 : goal.write_all-requires-3
 write_all-requires-3 g c =
     let plain = g.R.Packed.plain in
     let all = c.args.records.items in
     let half : ℕ = c.len-half.result / 2 in
-    let kept : c.as_slice-2.result.now ≡ take half all = cc (c.as_slice-2.ensures.value, c.shrink_to_fit.ensures.items, c.truncate.ensures.items) in
+    let kept : c.as_slice-2.result.now ≡ take half all =
+    cc (c.as_slice-2.ensures.value, c.shrink_to_fit.ensures.items, c.truncate.ensures.items) in
     subst (λ ps. All IsSmall (map plain ps)) (sym kept)
     (subst (All IsSmall) (take-map plain half all) (All-take IsSmall half (map plain all) c.requires))
 
@@ -29,7 +31,8 @@ returns g c =
     let plain = g.R.Packed.plain in
     let all = c.args.records.items in
     let half : ℕ = c.len-half.result / 2 in
-    let kept : c.as_slice-2.result.now ≡ take half all = cc (c.as_slice-2.ensures.value, c.shrink_to_fit.ensures.items, c.truncate.ensures.items) in
+    let kept : c.as_slice-2.result.now ≡ take half all =
+    cc (c.as_slice-2.ensures.value, c.shrink_to_fit.ensures.items, c.truncate.ensures.items) in
     let two = in-two plain all c.args.rows.now half c.min.result c.min.ensures in
     cc (
       c.write_all-3.ensures,

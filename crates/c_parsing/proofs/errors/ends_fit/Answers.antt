@@ -13,4 +13,5 @@ loop-error-preserved g c =
     (subst EndFits c.error-item.is (c.end_fits.ensures fits))
 
 pub returns : goal.returns
-returns g c = λ _. subst (All EndFits) (take_all c.loop-error.error-index c.args.errors.now (omega arith)) c.loop-error.invariant
+returns g c = λ _. subst (All EndFits) (take_all c.loop-error.error-index c.args.errors.now (omega arith))
+    c.loop-error.invariant

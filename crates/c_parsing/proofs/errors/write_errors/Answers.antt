@@ -15,7 +15,8 @@ overflow_add-message g c =
     omega (
       arith,
       c.requires.bytes,
-      next-fits c.args.errors.now c.loop-index.index c.loop-index.message c.index-errors-index.result c.message.result.now
+      next-fits c.args.errors.now c.loop-index.index c.loop-index.message
+          c.index-errors-index.result c.message.result.now
           c.index-errors-index.is c.message.ensures c.loop-index.invariant.offset here,
     )
 
@@ -24,12 +25,15 @@ loop-index-preserved g c =
     let here : c.loop-index.index < length c.args.errors.now = omega arith in
     let room : c.loop-index.index < length c.args.rows.now = omega arith in
     record {
-      offset = next-offset c.args.errors.now c.loop-index.index c.loop-index.message c.index-errors-index.result c.message.result.now c.index-errors-index.is
+      offset = next-offset c.args.errors.now c.loop-index.index c.loop-index.message c.index-errors-index.result
+          c.message.result.now c.index-errors-index.is
           c.message.ensures c.loop-index.invariant.offset here;
-      rows = next-row c.args.rows.now c.loop-index.rows c.args.errors.now c.loop-index.index c.loop-index.message c.index-errors-index.result c.row_of.result
+      rows = next-row c.args.rows.now c.loop-index.rows c.args.errors.now c.loop-index.index c.loop-index.message
+          c.index-errors-index.result c.row_of.result
           c.loop-index.invariant.rows c.index-errors-index.is c.row_of.ensures c.loop-index.invariant.offset room here;
     }
 
 pub returns : goal.returns
-returns g c = c.loop-index.invariant.rows ∙ filled-as-far c.args.rows.now (error_rows 0 c.args.errors.now) c.loop-index.index
+returns g c = c.loop-index.invariant.rows
+    ∙ filled-as-far c.args.rows.now (error_rows 0 c.args.errors.now) c.loop-index.index
     (omega (arith, length-error_rows 0 c.args.errors.now))

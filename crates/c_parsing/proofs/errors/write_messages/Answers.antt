@@ -10,7 +10,8 @@ overflow_add-at g c =
     omega (
       arith,
       c.requires,
-      next-fits c.args.errors.now c.loop-error.error-index c.loop-error.at c.error-item.result c.as_bytes-message.result.now c.error-item.is
+      next-fits c.args.errors.now c.loop-error.error-index c.loop-error.at c.error-item.result
+          c.as_bytes-message.result.now c.error-item.is
           (c.as_bytes-message.ensures.value ∙ c.message.ensures) c.loop-error.invariant.offset here,
     )
 
@@ -19,10 +20,12 @@ loop-error-preserved g c =
     let here : c.loop-error.error-index < length c.args.errors.now = omega arith in
     let words = c.as_bytes-message.ensures.value ∙ c.message.ensures in
     record {
-      offset = next-offset c.args.errors.now c.loop-error.error-index c.loop-error.at c.error-item.result c.as_bytes-message.result.now c.error-item.is words
+      offset = next-offset c.args.errors.now c.loop-error.error-index c.loop-error.at c.error-item.result
+          c.as_bytes-message.result.now c.error-item.is words
           c.loop-error.invariant.offset here;
       written = c.append.ensures c.args.buffer.now (messages (take c.loop-error.error-index c.args.errors.now))
           (sym c.loop-error.invariant.offset) c.loop-error.invariant.written
-          ∙ ap (λ (all : List ℕ). filled c.args.buffer.now all) (next-messages c.args.errors.now c.loop-error.error-index c.error-item.result
+          ∙ ap (λ (all : List ℕ). filled c.args.buffer.now all)
+          (next-messages c.args.errors.now c.loop-error.error-index c.error-item.result
           c.as_bytes-message.result.now c.error-item.is words here);
     }

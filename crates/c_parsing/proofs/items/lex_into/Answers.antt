@@ -11,7 +11,8 @@ write_items-requires g c =
 
 pub returns : goal.returns
 returns g c =
-    let room : ItemBuffers = record { items = c.args.items.now; errors = c.args.errors.now; messages = c.args.messages.now } in
+    let room : ItemBuffers =
+    record { items = c.args.items.now; errors = c.args.errors.now; messages = c.args.messages.now } in
     let answers = answers_left c.with_limit-lexer.result in
     let found = c.as_slice-found.result.now in
     let same : found ≡ c.in-Ok-write_items.made.items = c.as_slice-found.ensures.value in
@@ -21,6 +22,8 @@ returns g c =
       answers_are = rw (c.new.ensures.items, c.in-Ok.ensures.text) at c.with_limit-lexer.ensures.answers;
       errors_are = rw same c.in-Ok-write_items.ensures.errors;
     } in
-    items-written c.args.source.now c.args.token_limit room answers found c.write_items.new.rows c.write_found.new.rows c.write_found.new.buffer
-    c.in-Ok-write_items.count c.in-Some.message_bytes is c.in-Ok-write_items.ensures.rows c.write_found.ensures.rows c.write_found.ensures.messages
+    items-written c.args.source.now c.args.token_limit room answers found c.write_items.new.rows c.write_found.new.rows
+    c.write_found.new.buffer
+    c.in-Ok-write_items.count c.in-Some.message_bytes is c.in-Ok-write_items.ensures.rows c.write_found.ensures.rows
+    c.write_found.ensures.messages
     c.in-Ok-write_items.ensures.count c.in-Some.ensures.bytes

@@ -29,7 +29,8 @@ overflow_add-count g c =
     )
 
 pub loop-item-init : goal.loop-item-init
-loop-item-init g c = begun _ _ _ _ _ (ap answers_left c.into_iter-item-iterator.ensures.into_iter_gives) refl c.new-errors.ensures.items c.requires
+loop-item-init g c = begun _ _ _ _ _ (ap answers_left c.into_iter-item-iterator.ensures.into_iter_gives) refl
+    c.new-errors.ensures.items c.requires
 
 pub loop-item-preserved : goal.loop-item-preserved
 loop-item-preserved g c =
@@ -47,7 +48,8 @@ loop-item-preserved g c =
           rw (w.errors-is, w.in_ok-push.ensures.items)
           (passed-error _ _ _ _ _ _ _ _ (answer_of c.in-Some.item) w.in_ok-to_error.field-0 p comes written
           (rw w.in-Err.is (no-token e.is_limit e.text.now e.index)) (rw w.in-Err.is made))
-      | in_default w ↦ rw w.errors-is (passed-token _ _ _ _ _ _ _ _ (answer_of c.in-Some.item) p comes written (rw w.in_default.is refl))
+      | in_default w ↦ rw w.errors-is
+          (passed-token _ _ _ _ _ _ _ _ (answer_of c.in-Some.item) p comes written (rw w.in_default.is refl))
     ]
 
 pub returns : goal.returns
@@ -57,5 +59,6 @@ returns g c =
     record {
       rows = p.rows_are ∙ ap (λ (answers : List Answer). filled c.args.rows.now (map item_row answers)) all;
       count = p.counted ∙ ap length all;
-      errors = subst (λ (answers : List Answer). AreLexErrors (errors_of answers) c.loop-item.errors.items) all p.errors_are;
+      errors = subst (λ (answers : List Answer). AreLexErrors (errors_of answers) c.loop-item.errors.items)
+          all p.errors_are;
     }

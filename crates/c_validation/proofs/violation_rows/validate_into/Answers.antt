@@ -12,8 +12,10 @@ returns-in_default c = no-validation _ _ _ _ _ _ c.refused-in_default.result c.r
 
 pub returns : goal.returns
 returns c =
-    of-report _ _ _ _ c.in-Ok.tree c.in-Ok-find_violations.report (record { violations = c.args.violations.now; messages = c.args.messages.now })
-    c.write.new.buffer c.write-2.new.buffer (length c.as_slice-rows.result.now) (length c.as_slice-said.result.now) c.in-Ok.ensures.document
+    of-report _ _ _ _ c.in-Ok.tree c.in-Ok-find_violations.report
+    (record { violations = c.args.violations.now; messages = c.args.messages.now })
+    c.write.new.buffer c.write-2.new.buffer (length c.as_slice-rows.result.now) (length c.as_slice-said.result.now)
+    c.in-Ok.ensures.document
     (rw c.root.ensures.place at c.in-Ok-find_violations.ensures)
     (c.write.ensures ∙ ap (λ xs. filled c.args.violations.now xs) c.as_slice-rows.ensures.value)
     (c.write-2.ensures ∙ ap (λ xs. filled c.args.messages.now xs) c.as_slice-said.ensures.value)

@@ -9,6 +9,7 @@ loop-index-preserved g c =
     let i = c.loop-index.index in
     let count = c.in_ok-taken.taken in (
       stays-within words i count c.loop-index-test.true c.in_ok-taken.ensures.within,
-      goes-on (given_from (as_rows c.args.rows.now) c.args.takes_files) words i count _ _ _ _ c.loop-index-test.true c.in_ok-taken.ensures.taken
+      goes-on (given_from (as_rows c.args.rows.now) c.args.takes_files) words i count _ _ _ _ c.loop-index-test.true
+          c.in_ok-taken.ensures.taken
           c.loop-index.invariant.1,
     )

@@ -13,14 +13,20 @@ loop-root-init g c =
     let d = map (λ v. v.items) c.args.definitions.now in
     let n = length-map c.args.definitions.now (λ v. v.items) in
     record {
-      idle = idle_first d (record { marks = c.in-Ok.marks; waiting = c.new.result; current = record { definition = 0; next = 0; figures = figures_of [] } })
-          (c.in-Ok.ensures.items_if_clones_equal (λ y e. e) ∙ sym (ap (λ k. replicate k Untouched) n)) c.new.ensures.items;
+      idle = idle_first d (record {
+        marks = c.in-Ok.marks;
+        waiting = c.new.result;
+        current = record { definition = 0; next = 0; figures = figures_of [] };
+      })
+          (c.in-Ok.ensures.items_if_clones_equal (λ y e. e) ∙ sym (ap (λ k. replicate k Untouched) n))
+          c.new.ensures.items;
       measured = subst (λ fs. AreMeasured d [] fs) (sym c.new-figures.ensures.items) none;
     }
 
 pub returns-in-Err-clause-fault : goal.returns-in-Err-clause-fault
 returns-in-Err-clause-fault g c =
-    one_of (map (λ v. v.items) c.args.definitions.now) c.args.roots.now c.loop-root.root-index c.in-Err.fault (omega arith) c.in-Err.ensures.fault
+    one_of (map (λ v. v.items) c.args.definitions.now) c.args.roots.now c.loop-root.root-index c.in-Err.fault
+    (omega arith) c.in-Err.ensures.fault
 
 pub loop-root-preserved : goal.loop-root-preserved
 loop-root-preserved g c =
@@ -34,10 +40,12 @@ loop-root-preserved g c =
       all_at (length c.args.definitions.now) rs i
           (omega arith) c.requires,
     )) c.in-Ok-measure.ensures.figures in
-    let pushed : c.push.new.self.items ≡ c.loop-root.figures.items ++ c.in-Ok-measure.measured ∷ [] = grind (arith, common_steps) in
+    let pushed : c.push.new.self.items ≡ c.loop-root.figures.items ++ c.in-Ok-measure.measured ∷ [] =
+    grind (arith, common_steps) in
     record {
       idle = c.in-Ok-measure.ensures.idle;
       measured = subst (λ fs. AreMeasured d (take (i + 1) rs) fs) (sym pushed)
-          (subst (λ ys. AreMeasured d ys (c.loop-root.figures.items ++ c.in-Ok-measure.measured ∷ [])) (sym (take_more rs i 0 (omega arith)))
+          (subst (λ ys. AreMeasured d ys (c.loop-root.figures.items ++ c.in-Ok-measure.measured ∷ []))
+          (sym (take_more rs i 0 (omega arith)))
           (measured-append (get_or rs i 0) c.in-Ok-measure.measured c.loop-root.invariant.measured m));
     }

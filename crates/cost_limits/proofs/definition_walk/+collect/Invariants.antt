@@ -12,5 +12,6 @@ decreases-collect g l = length (order (node_place l.node.now).whole) - (node_pla
 abbrev pub invariant-loop-child : goal.invariant-loop-child
 invariant-loop-child g l =
     IsLeft (node_place l.node) (number_of l.fragments) l.enclosing
-    (l.initial.found.items ++ items_below (node_place l.node).whole (number_of l.fragments) l.enclosing (suc (node_place l.node).index) []
+    (l.initial.found.items ++ items_below (node_place l.node).whole (number_of l.fragments) l.enclosing
+    (suc (node_place l.node).index) []
     (tree_kids (tree_at (node_place l.node)))) l.found.items l.names (rest_nodes l.child-iterator)

@@ -15,7 +15,8 @@ returns-in-Some-clause-exceeded c =
       inside = omega (arith, c.loop-measured-test.true, length-map c.args.operations.now as_measure);
       before = c.loop-measured.invariant;
       measure = as_measure m;
-      measure_is = get_or-map as_measure c.args.operations.now n m (as_measure m) c.loop-measured-test.true ∙ ap as_measure (sym c.measured-item.is);
+      measure_is = get_or-map as_measure c.args.operations.now n m (as_measure m) c.loop-measured-test.true
+          ∙ ap as_measure (sym c.measured-item.is);
       operation_is = refl;
       limit_is = sym c.first_exceeded.ensures ∙ c.in-Some.is;
       found_is = c.limited_by-in-Some.ensures;
@@ -27,14 +28,17 @@ loop-measured-preserved c =
     let n = c.loop-measured.measured-index in
     let m = c.measured-item.result in
     let same : get_or (map as_measure c.args.operations.now) n (as_measure m) ≡ as_measure m =
-    get_or-map as_measure c.args.operations.now n m (as_measure m) c.loop-measured-test.true ∙ ap as_measure (sym c.measured-item.is) in
+    get_or-map as_measure c.args.operations.now n m (as_measure m) c.loop-measured-test.true
+    ∙ ap as_measure (sym c.measured-item.is) in
     All-more (IsWithin c.args.limits.now) (map as_measure c.args.operations.now) n (as_measure m)
     (omega (arith, c.loop-measured-test.true, length-map c.args.operations.now as_measure)) c.loop-measured.invariant
-    (subst (IsWithin c.args.limits.now) (sym same) (is_within c.args.limits.now (as_measure m) (sym c.first_exceeded.ensures ∙ c.in_default.is)))
+    (subst (IsWithin c.args.limits.now) (sym same)
+    (is_within c.args.limits.now (as_measure m) (sym c.first_exceeded.ensures ∙ c.in_default.is)))
 
 pub returns-clause-within : goal.returns-clause-within
 returns-clause-within c =
     let ms = map as_measure c.args.operations.now in
     let all : take c.loop-measured.measured-index ms ≡ ms =
-    take_all c.loop-measured.measured-index ms (omega (arith, c.loop-measured-test.false, length-map c.args.operations.now as_measure)) in
+    take_all c.loop-measured.measured-index ms
+    (omega (arith, c.loop-measured-test.false, length-map c.args.operations.now as_measure)) in
     subst (All (IsWithin c.args.limits.now)) all c.loop-measured.invariant

@@ -7,15 +7,18 @@ pub returns-in_err-name-clause-none : goal.returns-in_err-name-clause-none
 returns-in_err-name-clause-none g c =
     let vs = c.args.definitions.now in
     let k = c.args.number in
-    if_none c.from_residual.result _ (no_name c.args.fragments.now (fragment_names (map as_defined vs)) c.requires.numbers k
+    if_none c.from_residual.result _
+    (no_name c.args.fragments.now (fragment_names (map as_defined vs)) c.requires.numbers k
     (omega (arith, c.requires.inside, count_names vs))
-    (name_at vs k c.index-definitions-number.result c.requires.inside c.index-definitions-number.is ∙ sym c.in_err-name.ensures))
+    (name_at vs k c.index-definitions-number.result c.requires.inside c.index-definitions-number.is
+    ∙ sym c.in_err-name.ensures))
 
 pub returns-in_err-first-clause-none : goal.returns-in_err-first-clause-none
 returns-in_err-first-clause-none g c =
     let vs = c.args.definitions.now in
     let k = c.args.number in
-    if_none c.from_residual-in_err-first.result _ (not_entered c.args.fragments.now (fragment_names (map as_defined vs)) c.requires.numbers k
+    if_none c.from_residual-in_err-first.result _
+    (not_entered c.args.fragments.now (fragment_names (map as_defined vs)) c.requires.numbers k
     (omega (arith, c.requires.inside, count_names vs)) _ c.in_ok-name.name.now
     (name_at vs k c.index-definitions-number.result c.requires.inside c.index-definitions-number.is)
     (sym c.in_ok-name.ensures) (sym c.in_err-first.ensures.value))

@@ -11,13 +11,17 @@ loop-number-preserved g c =
     let i = c.loop-number.invariant in
     elim c.match-definition.branch [
       | in-Operation+in_ok-push+in_ok-push-2 w ↦
-          let l = one_more vs n v c.loop-number-test.true c.index-definitions-number.is c.loop-number.operations.items c.match-definition.operations.items
+          let l = one_more vs n v c.loop-number-test.true c.index-definitions-number.is c.loop-number.operations.items
+          c.match-definition.operations.items
           c.loop-number.numbers.items c.match-definition.numbers.items w.in-Operation.is i.operations_are i.numbers_are
-          (ap (λ v. v.items) w.operations-is ∙ w.in_ok-push.ensures.items) (ap (λ v. v.items) w.numbers-is ∙ w.in_ok-push-2.ensures.items) in
+          (ap (λ v. v.items) w.operations-is ∙ w.in_ok-push.ensures.items)
+          (ap (λ v. v.items) w.numbers-is ∙ w.in_ok-push-2.ensures.items) in
           record { operations_are = l.operations_are; numbers_are = l.numbers_are }
       | in_default w ↦
-          let l = none_more vs n v c.loop-number-test.true c.index-definitions-number.is c.loop-number.operations.items c.match-definition.operations.items
-          c.loop-number.numbers.items c.match-definition.numbers.items w.in_default.not-Operation i.operations_are i.numbers_are
+          let l = none_more vs n v c.loop-number-test.true c.index-definitions-number.is c.loop-number.operations.items
+          c.match-definition.operations.items
+          c.loop-number.numbers.items c.match-definition.numbers.items w.in_default.not-Operation
+          i.operations_are i.numbers_are
           (ap (λ v. v.items) w.operations-is) (ap (λ v. v.items) w.numbers-is) in
           record { operations_are = l.operations_are; numbers_are = l.numbers_are }
     ]

@@ -6,6 +6,7 @@ use Rattle.cost_limits.proofs.measures.operations.Given as goal
 
 abbrev pub invariant-loop-number : goal.invariant-loop-number
 invariant-loop-number g l = record {
-  operations_are : map as_defined l.operations.items ≡ filter is_operation (map as_defined (take l.number l.definitions));
+  operations_are : map as_defined l.operations.items
+      ≡ filter is_operation (map as_defined (take l.number l.definitions));
   numbers_are : l.numbers.items ≡ operations 0 (map as_defined (take l.number l.definitions));
 }

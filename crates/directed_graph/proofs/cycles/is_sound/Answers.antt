@@ -10,7 +10,8 @@ returns-then-goes_out c = λ is.
     let end : length items ≤ c.loop-to.to-index = omega arith in
     let out : GoesOut c.args.graph.now parts c.args.vertex = c.goes_out.ensures c.if-goes_out.true in
     record {
-      order = in_row (Follows parts (part_of parts c.args.vertex)) c.args.graph.now c.args.vertex items _ c.row-to-items.ensures end c.loop-to.invariant;
+      order = in_row (Follows parts (part_of parts c.args.vertex)) c.args.graph.now c.args.vertex items _
+          c.row-to-items.ensures end c.loop-to.invariant;
       out = out;
       into = c.comes_in.ensures is;
     }

@@ -15,7 +15,12 @@ loop-vertex-preserved c =
     let vertex = get_or c.args.row.now c.loop-vertex.vertex-index 0 in
     elim c.if-not-index.branch [
       | then-not-index+in_ok-push w ↦
-          rw (take_more c.args.row.now c.loop-vertex.vertex-index 0 there, w.marks-is, w.found-is, w.in_ok-push.ensures.items)
+          rw (
+            take_more c.args.row.now c.loop-vertex.vertex-index 0 there,
+            w.marks-is,
+            w.found-is,
+            w.in_ok-push.ensures.items,
+          )
           (marks_new _ _ _ _ _ _ inside (read_false marks vertex _ c.index.ensures w.if-not-index.true) inv)
       | else-not-index w ↦
           rw (take_more c.args.row.now c.loop-vertex.vertex-index 0 there, w.marks-is, w.found-is)

@@ -3,4 +3,5 @@ use Rattle.directed_graph.specs.Marks.{MarksAll}
 use Rattle.directed_graph.proofs.search.mark_all.Given as goal
 
 abbrev pub invariant-loop-vertex : goal.invariant-loop-vertex
-invariant-loop-vertex l = MarksAll (take l.vertex-index l.row) l.initial.marks.items l.marks.items l.initial.found.items l.found.items
+invariant-loop-vertex l =
+    MarksAll (take l.vertex-index l.row) l.initial.marks.items l.marks.items l.initial.found.items l.found.items

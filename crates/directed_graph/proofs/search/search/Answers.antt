@@ -1,10 +1,12 @@
 use Rattle.std.proofs.Common.{arith, length, ◌≡◌, ◌<◌, rules}
-use Rattle.directed_graph.proofs.SearchLemmas.{found_ends, found_inside, search_begins, search_ends, next_inside, row_within, goes_on}
+use Rattle.directed_graph.proofs.SearchLemmas.{found_ends, found_inside, search_begins, search_ends, next_inside}
+use Rattle.directed_graph.proofs.SearchLemmas.{row_within, goes_on}
 use Rattle.directed_graph.proofs.search.search.Goals as goal
 
 pub loop-next-init : goal.loop-next-init
 loop-next-init c =
-    search_begins _ _ _ _ _ c.requires.starts c.requires.as_many c.requires.unmarked _ c.new-found.ensures.items c.in_ok-mark_all.ensures
+    search_begins _ _ _ _ _ c.requires.starts c.requires.as_many c.requires.unmarked _ c.new-found.ensures.items
+    c.in_ok-mark_all.ensures
 
 pub row-requires : goal.row-requires
 row-requires c =
@@ -19,7 +21,8 @@ mark_all-requires-in-loop-next c =
 pub loop-next-preserved : goal.loop-next-preserved
 loop-next-preserved c =
     let below : c.loop-next.next < length c.loop-next.found.items = search rules in
-    goes_on _ _ _ _ _ _ _ _ _ c.requires.graph below c.index-vertex.ensures c.row.ensures c.loop-next.invariant c.in_ok-mark_all-2.ensures
+    goes_on _ _ _ _ _ _ _ _ _ c.requires.graph below c.index-vertex.ensures c.row.ensures c.loop-next.invariant
+    c.in_ok-mark_all-2.ensures
 
 pub returns-clause-marked : goal.returns-clause-marked
 returns-clause-marked c =

@@ -7,4 +7,5 @@ use Rattle.document_checks.proofs.operations.chosen.Given as goal
 
 abbrev pub invariant-loop-measured : goal.invariant-loop-measured
 invariant-loop-measured l =
-    map as_measure l.found.items ≡ filter (is_chosen (option_map (λ n. n.now) l.operation)) (map as_measure (take l.measured-index l.operations))
+    map as_measure l.found.items
+    ≡ filter (is_chosen (option_map (λ n. n.now) l.operation)) (map as_measure (take l.measured-index l.operations))

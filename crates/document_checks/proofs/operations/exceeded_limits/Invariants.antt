@@ -6,4 +6,5 @@ use Rattle.document_checks.proofs.operations.exceeded_limits.Given as goal
 
 -- there is no finding yet exactly if the operations so far are within the limits
 abbrev pub invariant-loop-measured : goal.invariant-loop-measured
-invariant-loop-measured l = (vec_len l.findings ≡ 0) ↔ All (IsWithin l.most) (map as_measure (take l.measured-index l.operations))
+invariant-loop-measured l =
+    (vec_len l.findings ≡ 0) ↔ All (IsWithin l.most) (map as_measure (take l.measured-index l.operations))

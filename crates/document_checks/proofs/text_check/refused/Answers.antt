@@ -16,7 +16,9 @@ returns-clause-found c =
     let all : take c.loop-error.error-index items ≡ c.in_ok-first.first.errors.items =
     take_all c.loop-error.error-index items c.loop-error-test.false ∙ c.deref-error-items.ensures.value in
     let some : 1 ≤ c.max.result = grind (arith, nat_tests, c.max.ensures) in
-    first_found source (node_place c.args.document.now) (map error_of c.args.errors.now) (map error_of c.in_ok-first.first.errors.items) c.max.result
-    c.in_ok-first.first.more (map (λ (finding : Finding). finding.start) c.failed.result.findings.items) some c.in_ok-first.ensures
+    first_found source (node_place c.args.document.now) (map error_of c.args.errors.now)
+    (map error_of c.in_ok-first.first.errors.items) c.max.result
+    c.in_ok-first.first.more (map (λ (finding : Finding). finding.start) c.failed.result.findings.items)
+    some c.in_ok-first.ensures
     (ap (map (λ (finding : Finding). finding.start)) c.failed.ensures.findings ∙ c.loop-error.invariant
     ∙ ap (λ xs. map (shown_at source) (map error_of xs)) all)

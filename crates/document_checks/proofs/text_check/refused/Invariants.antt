@@ -6,4 +6,5 @@ use Rattle.document_checks.proofs.text_check.refused.Given as goal
 -- the findings so far are where the errors so far are shown
 abbrev pub invariant-loop-error : goal.invariant-loop-error
 invariant-loop-error l =
-    map (λ finding. finding.start) l.findings.items ≡ map (shown_at l.source) (map error_of (take l.error-index l.error-items))
+    map (λ finding. finding.start) l.findings.items
+    ≡ map (shown_at l.source) (map error_of (take l.error-index l.error-items))

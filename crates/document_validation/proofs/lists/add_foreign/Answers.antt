@@ -8,7 +8,8 @@ use Rattle.document_validation.proofs.WalkLemmas.{walk_begins, walk_ends, walk_g
 use Rattle.document_validation.proofs.lists.add_foreign.Goals as goal
 
 pub loop-node-init : goal.loop-node-init
-loop-node-init c = walk_begins IsForeign IsExecutable _ _ _ (ap rest_nodes c.into_iter-node-iterator.ensures.into_iter_gives ∙ c.children-node-items.ensures)
+loop-node-init c = walk_begins IsForeign IsExecutable _ _ _
+    (ap rest_nodes c.into_iter-node-iterator.ensures.into_iter_gives ∙ c.children-node-items.ensures)
 
 pub loop-node-preserved : goal.loop-node-preserved
 loop-node-preserved c = walk_goes_on IsForeign IsExecutable _ _ _ _ _ c.loop-node.violations _

@@ -7,4 +7,6 @@ use Rattle.document_validation.proofs.WalkLemmas.{Walked}
 use Rattle.document_validation.proofs.lists.add_foreign.Given as goal
 
 abbrev pub invariant-loop-node : goal.invariant-loop-node
-invariant-loop-node l = Walked IsForeign IsExecutable (rest_nodes l.node-iterator) (child_nodes (node_place l.document)) l.initial.violations l.violations
+invariant-loop-node l =
+    Walked IsForeign IsExecutable (rest_nodes l.node-iterator) (child_nodes (node_place l.document))
+    l.initial.violations l.violations

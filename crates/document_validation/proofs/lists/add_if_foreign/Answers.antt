@@ -12,5 +12,6 @@ pub returns-in_ok-add : goal.returns-in_ok-add
 returns-in_ok-add c =
     let p = node_place c.args.node.now in
     let other : is_executable p ≡ false = sym c.is_executable.ensures ∙ c.if-not-is_executable.true in
-    adds_same (λ b. b ≡ breach ExecutableDefinitions p None) (IsForeign p) ⊥ (IsExecutable p) _ _ (λ b is. (other, is)) (λ b so. so.1) (λ none. absurd none)
+    adds_same (λ b. b ≡ breach ExecutableDefinitions p None) (IsForeign p) ⊥ (IsExecutable p) _ _ (λ b is. (other, is))
+    (λ b so. so.1) (λ none. absurd none)
     c.in_ok-add.ensures

@@ -17,4 +17,5 @@ loop-node-preserved c = walk_goes_on (RepeatsIn c.args.kind) (UniqueIn c.args.ki
     c.loop-node.invariant c.in_ok-add_list.ensures
 
 pub returns : goal.returns
-returns c = walk_ends (RepeatsIn c.args.kind) (UniqueIn c.args.kind) _ _ _ _ c.in-None.ensures.steps.0 c.loop-node.invariant
+returns c = walk_ends (RepeatsIn c.args.kind) (UniqueIn c.args.kind) _ _ _ _
+    c.in-None.ensures.steps.0 c.loop-node.invariant

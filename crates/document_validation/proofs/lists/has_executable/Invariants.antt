@@ -7,4 +7,5 @@ use Rattle.document_validation.specs.Lists.{is_executable}
 use Rattle.document_validation.proofs.lists.has_executable.Given as goal
 
 abbrev pub invariant-loop-node : goal.invariant-loop-node
-invariant-loop-node l = list_any is_executable (rest_nodes l.node-iterator) ≡ list_any is_executable (child_nodes (node_place l.document))
+invariant-loop-node l =
+    list_any is_executable (rest_nodes l.node-iterator) ≡ list_any is_executable (child_nodes (node_place l.document))

@@ -7,4 +7,5 @@ use Rattle.document_validation.specs.Lists.{item_of, items_of}
 use Rattle.document_validation.proofs.lists.items_of.Given as goal
 
 abbrev pub invariant-loop-child : goal.invariant-loop-child
-invariant-loop-child l = map as_named l.items.items ++ filter_map item_of (rest_nodes l.child-iterator) ≡ items_of (node_place l.node)
+invariant-loop-child l =
+    map as_named l.items.items ++ filter_map item_of (rest_nodes l.child-iterator) ≡ items_of (node_place l.node)

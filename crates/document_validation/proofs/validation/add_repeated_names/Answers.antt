@@ -7,7 +7,8 @@ use Rattle.document_validation.proofs.validation.add_repeated_names.Goals as goa
 pub add_repeats-requires : goal.add_repeats-requires
 add_repeats-requires c =
     let (document, are) = c.requires in
-    let read = ap (map as_named) c.deref.ensures.value ∙ c.in_ok-named.ensures ∙ ap (named_definitions c.args.kind) are in
+    let read = ap (map as_named) c.deref.ensures.value ∙ c.in_ok-named.ensures
+    ∙ ap (named_definitions c.args.kind) are in
     rw read (named_apart c.args.kind document)
 
 pub returns : goal.returns

@@ -21,7 +21,8 @@ pub returns-in-Executable-clause-valid : goal.returns-in-Executable-clause-valid
 returns-in-Executable-clause-valid c =
     let d = node_place c.args.document.now in
     let is : Executable ≡ document_kind d = sym c.in-Executable.is ∙ c.document_kind.ensures in
-    let P : DocumentKind → Type 0 = λ kind. IfOk c.validate_executable.result (λ found. 0 < c.args.most → (found.items ≡ []) ↔ IsValidAs kind d) in
+    let P : DocumentKind → Type 0 =
+    λ kind. IfOk c.validate_executable.result (λ found. 0 < c.args.most → (found.items ≡ []) ↔ IsValidAs kind d) in
     subst P is c.validate_executable.ensures.valid
 
 pub returns-in-TypeSystem-clause-exact : goal.returns-in-TypeSystem-clause-exact
@@ -36,5 +37,6 @@ pub returns-in-TypeSystem-clause-valid : goal.returns-in-TypeSystem-clause-valid
 returns-in-TypeSystem-clause-valid c =
     let d = node_place c.args.document.now in
     let is : TypeSystem ≡ document_kind d = sym c.in-TypeSystem.is ∙ c.document_kind.ensures in
-    let P : DocumentKind → Type 0 = λ kind. IfOk c.validate_type_system.result (λ found. 0 < c.args.most → (found.items ≡ []) ↔ IsValidAs kind d) in
+    let P : DocumentKind → Type 0 =
+    λ kind. IfOk c.validate_type_system.result (λ found. 0 < c.args.most → (found.items ≡ []) ↔ IsValidAs kind d) in
     subst P is c.validate_type_system.ensures.valid

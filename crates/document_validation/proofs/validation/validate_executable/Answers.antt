@@ -13,26 +13,31 @@ pub add_all-requires-clause-parts : goal.add_all-requires-clause-parts
 add_all-requires-clause-parts c =
     let d = node_place c.args.document.now in
     let ds = c.in_ok-definitions.definitions.items in
-    let read = ap (map as_parts) c.deref-4.ensures.value ∙ c.in_ok-parts.ensures ∙ ap (map (λ e. parts_of (as_defined e))) c.deref-2.ensures.value in
+    let read = ap (map as_parts) c.deref-4.ensures.value ∙ c.in_ok-parts.ensures
+    ∙ ap (map (λ e. parts_of (as_defined e))) c.deref-2.ensures.value in
     parts_are d ds (map as_parts c.deref-4.result.now) c.in_ok-definitions.ensures read
 
 pub add_all-requires-clause-fragments : goal.add_all-requires-clause-fragments
 add_all-requires-clause-fragments c =
     let ds = c.in_ok-definitions.definitions.items in
-    let read = ap (map as_parts) c.deref-4.ensures.value ∙ c.in_ok-parts.ensures ∙ ap (map (λ e. parts_of (as_defined e))) c.deref-2.ensures.value in
+    let read = ap (map as_parts) c.deref-4.ensures.value ∙ c.in_ok-parts.ensures
+    ∙ ap (map (λ e. parts_of (as_defined e))) c.deref-2.ensures.value in
     let same : definitions (map as_parts c.deref-4.result.now) ≡ map as_defined c.deref.result.now =
     definitions_are ds (map as_parts c.deref-4.result.now) read ∙ ap (map as_defined) (sym c.deref.ensures.value) in
-    let P : List Defined → Type 0 = λ definitions. AreFirstNumbers c.in_ok-fragments.fragments (fragment_names definitions) in
+    let P : List Defined → Type 0 =
+    λ definitions. AreFirstNumbers c.in_ok-fragments.fragments (fragment_names definitions) in
     subst P (sym same) c.in_ok-fragments.ensures
 
 pub returns-clause-exact : goal.returns-clause-exact
 returns-clause-exact c =
     let d = node_place c.args.document.now in
-    exact (Breaks d) (IsValid d) c.args.most c.new-violations.result c.add_all.new.violations _ c.new-violations.ensures.none c.new-violations.ensures.most
+    exact (Breaks d) (IsValid d) c.args.most c.new-violations.result c.add_all.new.violations _
+    c.new-violations.ensures.none c.new-violations.ensures.most
     c.in_ok-add_all.ensures c.into_text_order.ensures.same c.into_text_order.ensures.in_order
 
 pub returns-clause-valid : goal.returns-clause-valid
 returns-clause-valid c =
     let d = node_place c.args.document.now in
-    valid_if_none (Breaks d) (IsValid d) (valid_keeps d) c.args.most c.new-violations.result c.add_all.new.violations _ c.new-violations.ensures.none
+    valid_if_none (Breaks d) (IsValid d) (valid_keeps d) c.args.most c.new-violations.result c.add_all.new.violations _
+    c.new-violations.ensures.none
     c.new-violations.ensures.most c.in_ok-add_all.ensures c.into_text_order.ensures.same

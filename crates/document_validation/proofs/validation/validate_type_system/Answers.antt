@@ -11,15 +11,19 @@ use Rattle.document_validation.proofs.validation.validate_type_system.Goals as g
 pub returns-clause-exact : goal.returns-clause-exact
 returns-clause-exact c =
     let d = node_place c.args.document.now in
-    exact (BreaksTypeSystem d) (EachOf (nodes d) (UniqueIn TypeSystem)) c.args.most c.new-violations.result c.add_lists.new.violations
-    _ c.new-violations.ensures.none c.new-violations.ensures.most c.in_ok-add_lists.ensures c.into_text_order.ensures.same
+    exact (BreaksTypeSystem d) (EachOf (nodes d) (UniqueIn TypeSystem)) c.args.most c.new-violations.result
+    c.add_lists.new.violations
+    _ c.new-violations.ensures.none c.new-violations.ensures.most c.in_ok-add_lists.ensures
+    c.into_text_order.ensures.same
     c.into_text_order.ensures.in_order
 
 pub returns-clause-valid : goal.returns-clause-valid
 returns-clause-valid c =
     let d = node_place c.args.document.now in
-    valid_if_none (BreaksTypeSystem d) (IsValidTypeSystem d) (type_system_keeps d) c.args.most c.new-violations.result c.add_lists.new.violations
+    valid_if_none (BreaksTypeSystem d) (IsValidTypeSystem d) (type_system_keeps d) c.args.most c.new-violations.result
+    c.add_lists.new.violations
     _ c.new-violations.ensures.none c.new-violations.ensures.most
-    (adds_same (BreaksTypeSystem d) (BreaksTypeSystem d) (EachOf (nodes d) (UniqueIn TypeSystem)) (IsValidTypeSystem d) _ _ (λ b so. so) (λ b so. so)
+    (adds_same (BreaksTypeSystem d) (BreaksTypeSystem d) (EachOf (nodes d) (UniqueIn TypeSystem)) (IsValidTypeSystem d)
+    _ _ (λ b so. so) (λ b so. so)
     (is_type_system d) c.in_ok-add_lists.ensures)
     c.into_text_order.ensures.same

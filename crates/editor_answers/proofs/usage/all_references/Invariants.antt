@@ -10,5 +10,8 @@ use Rattle.editor_answers.proofs.usage.all_references.Given as goal
 
 abbrev pub invariant-loop-element : goal.invariant-loop-element
 invariant-loop-element l =
-    map bounds l.found.items ++ map range_at (filter (is_reference l.with_definition l.target.kind l.target.text.now) (rest_descendants l.element-iterator))
-    ≡ map range_at (filter (is_reference l.with_definition l.target.kind l.target.text.now) (at_or_below (node_place l.target.scope)))
+    map bounds l.found.items
+    ++ map range_at (filter (is_reference l.with_definition l.target.kind l.target.text.now)
+    (rest_descendants l.element-iterator))
+    ≡ map range_at (filter (is_reference l.with_definition l.target.kind l.target.text.now)
+    (at_or_below (node_place l.target.scope)))

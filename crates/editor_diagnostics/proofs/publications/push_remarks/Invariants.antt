@@ -6,5 +6,6 @@ use Rattle.editor_diagnostics.proofs.publications.push_remarks.Given as goal
 
 abbrev pub invariant-loop-remark : goal.invariant-loop-remark
 invariant-loop-remark l =
-    flat_map tokens_of l.pieces.items ≡ flat_map tokens_of l.initial.pieces.items ++ flat_map (remark_tokens l.uri l.positions.encoding l.positions.text.now)
+    flat_map tokens_of l.pieces.items ≡ flat_map tokens_of l.initial.pieces.items
+    ++ flat_map (remark_tokens l.uri l.positions.encoding l.positions.text.now)
     (take l.remark-index l.remarks)

@@ -7,7 +7,8 @@ use Rattle.editor_diagnostics.proofs.publications.withdrawal.Goals as goal
 pub end-requires : goal.end-requires
 end-requires c = record {
   members = publish_params c.args.uri.now None [];
-  is = ap (λ (x : List Token). x ++ end_array ∷ end_object ∷ []) c.in_ok-push_front.ensures ∙ sym (params_tokens c.args.uri.now None []);
+  is = ap (λ (x : List Token). x ++ end_array ∷ end_object ∷ []) c.in_ok-push_front.ensures
+      ∙ sym (params_tokens c.args.uri.now None []);
 }
 
 pub returns-clause-withdrawn : goal.returns-clause-withdrawn

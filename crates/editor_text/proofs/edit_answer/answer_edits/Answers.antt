@@ -14,8 +14,10 @@ returns-clause-edits c =
     let edits = c.in_ok-edits.edits.items in
     let value = edits_value (map (text_edit e text) edits) in
     let begun = c.in_ok-answer.ensures.front in
-    let tokens = written _ _ _ _ _ _ begun c.in_ok-answer-2.ensures.pieces c.in_ok-answer-3.ensures.tokens c.in_ok-answer-4.ensures.pieces in
-    let same = ap (λ (x : List Edit). begin_array ∷ (flat_map (edit_tokens e text) x ++ end_array ∷ [])) c.as_slice.ensures.value in (
+    let tokens = written _ _ _ _ _ _ begun c.in_ok-answer-2.ensures.pieces c.in_ok-answer-3.ensures.tokens
+    c.in_ok-answer-4.ensures.pieces in
+    let same = ap (λ (x : List Edit). begin_array ∷ (flat_map (edit_tokens e text) x ++ end_array ∷ []))
+    c.as_slice.ensures.value in (
       value,
       edits_of e text c.args.new.now edits c.in_ok-edits.ensures,
       (c.in_ok-body.ensures.member _ tokens).result value (same ∙ result_tokens e text edits),

@@ -7,5 +7,6 @@ use Rattle.editor_text.proofs.edit_answer.put_edits.Given as goal
 
 abbrev pub invariant-loop-edit : goal.invariant-loop-edit
 invariant-loop-edit l =
-    (l.answer ≡ l.fn.answer ++ flat_map (edit_tokens l.positions.encoding l.positions.text.now) (take l.edit-index l.edits))
+    (l.answer ≡ l.fn.answer
+    ++ flat_map (edit_tokens l.positions.encoding l.positions.text.now) (take l.edit-index l.edits))
     × ((id : Json) → IsBegun id l.fn.answer → IsBegun id l.answer)

@@ -6,4 +6,5 @@ use Rattle.editor_validation.proofs.braces.last_that_explains.Given as goal
 
 abbrev pub invariant-loop-brace : goal.invariant-loop-brace
 invariant-loop-brace l =
-    l.found ≡ option_map (λ (brace : OpenBrace). brace.start) (find (explains l.error) (reverse (take l.brace-index l.braces)))
+    l.found ≡ option_map (λ (brace : OpenBrace). brace.start)
+    (find (explains l.error) (reverse (take l.brace-index l.braces)))

@@ -5,4 +5,5 @@ use Rattle.editor_validation.specs.Remarks.{remark_of}
 use Rattle.editor_validation.proofs.broken_rules.remarks_of.Given as goal
 
 abbrev pub invariant-loop-violation : goal.invariant-loop-violation
-invariant-loop-violation l = map as_remarked l.found.items ≡ map remark_of (map as_breach (take l.violation-index l.violations))
+invariant-loop-violation l =
+    map as_remarked l.found.items ≡ map remark_of (map as_breach (take l.violation-index l.violations))

@@ -21,5 +21,6 @@ returns c =
           ∙ ap (λ (bs : List Breach). map remark_of bs)
           (ap breaches (c.as_slice-2.ensures.value ∙ c.truncate.ensures.items) ∙ sym (take-map as_breach 100 kept)
           ∙ ap (λ (bs : List Breach). take 100 bs)
-          (c.in_ok-kept.ensures ∙ ap (λ (vs : List Violation). filter (λ b. not (is_mended others b)) (breaches vs)) c.as_slice.ensures.value));
+          (c.in_ok-kept.ensures ∙ ap (λ (vs : List Violation). filter (λ b. not (is_mended others b)) (breaches vs))
+          c.as_slice.ensures.value));
     }

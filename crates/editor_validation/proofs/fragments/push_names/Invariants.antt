@@ -5,4 +5,5 @@ use Rattle.editor_validation.proofs.fragments.push_names.Given as goal
 
 abbrev pub invariant-loop-mention : goal.invariant-loop-mention
 invariant-loop-mention l =
-    map string_bytes l.names.items ≡ map string_bytes l.initial.names.items ++ names_of (map as_named (take l.mention-index l.mentions))
+    map string_bytes l.names.items ≡ map string_bytes l.initial.names.items
+    ++ names_of (map as_named (take l.mention-index l.mentions))

@@ -4,4 +4,5 @@ use Rattle.editor_validation.specs.Fragments.{spread_by}
 use Rattle.editor_validation.proofs.fragments.spread_names.Given as goal
 
 abbrev pub invariant-loop-definition : goal.invariant-loop-definition
-invariant-loop-definition l = map string_bytes l.names.items ≡ spread_by (map as_defined (take l.definition-index l.definitions))
+invariant-loop-definition l =
+    map string_bytes l.names.items ≡ spread_by (map as_defined (take l.definition-index l.definitions))

@@ -7,4 +7,5 @@ use Rattle.editor_validation.proofs.other_documents.spread_names.Given as goal
 
 abbrev pub invariant-loop-names : goal.invariant-loop-names
 invariant-loop-names l =
-    (name : Name) → is_some (entry_of l.entries name) ≡ spread (map (λ f. as_fragments f.now) (take l.names-index l.documents)) name
+    (name : Name) → is_some (entry_of l.entries name)
+    ≡ spread (map (λ f. as_fragments f.now) (take l.names-index l.documents)) name

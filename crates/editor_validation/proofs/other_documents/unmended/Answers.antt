@@ -20,12 +20,16 @@ loop-violation-preserved c =
     let violations = c.args.violations.now in
     let inside = c.loop-violation-test.true in
     let mended : c.is_mended.result ≡ is_mended others breach = c.is_mended.ensures
-    ∙ same_mends _ (define others) _ (spread others) c.in_ok-defined.ensures c.in_ok-spread.ensures breach.rule (name_in FRAGMENT_NAME breach.place) in
+    ∙ same_mends _ (define others) _ (spread others) c.in_ok-defined.ensures c.in_ok-spread.ensures breach.rule
+    (name_in FRAGMENT_NAME breach.place) in
     elim c.if-not-is_mended.branch [
       | then-not-is_mended+in_ok-push w ↦
-          let more = kept_more stays as_breach violations n item inside c.violation-item.is (ap not (sym mended ∙ w.if-not-is_mended.true)) in
-          rw (w.kept-is, w.in_ok-push.ensures.items, more, map-append) (ap (λ (bs : List Breach). bs ++ breach ∷ []) c.loop-violation.invariant)
+          let more = kept_more stays as_breach violations n item inside c.violation-item.is
+          (ap not (sym mended ∙ w.if-not-is_mended.true)) in
+          rw (w.kept-is, w.in_ok-push.ensures.items, more, map-append)
+          (ap (λ (bs : List Breach). bs ++ breach ∷ []) c.loop-violation.invariant)
       | else-not-is_mended w ↦
-          let more = left_more stays as_breach violations n item inside c.violation-item.is (ap not (sym mended ∙ w.if-not-is_mended.false)) in
+          let more = left_more stays as_breach violations n item inside c.violation-item.is
+          (ap not (sym mended ∙ w.if-not-is_mended.false)) in
           rw (w.kept-is, more) c.loop-violation.invariant
     ]

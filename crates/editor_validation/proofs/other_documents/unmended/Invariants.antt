@@ -7,4 +7,5 @@ use Rattle.editor_validation.proofs.other_documents.unmended.Given as goal
 
 abbrev pub invariant-loop-violation : goal.invariant-loop-violation
 invariant-loop-violation l = map as_breach l.kept.items
-    ≡ filter (λ b. not (is_mended (map (λ f. as_fragments f.now) l.others) b)) (map as_breach (take l.violation-index l.violations))
+    ≡ filter (λ b. not (is_mended (map (λ f. as_fragments f.now) l.others) b))
+    (map as_breach (take l.violation-index l.violations))

@@ -6,4 +6,6 @@ use Rattle.first_errors.specs.Groups.{definition_starts}
 use Rattle.first_errors.proofs.definition_errors.definition_starts.Given as goal
 
 abbrev pub invariant-loop-node : goal.invariant-loop-node
-invariant-loop-node g l = l.starts.items ++ map (λ node. (range_at node).0) (rest_nodes l.node-iterator) ≡ definition_starts (node_place l.document)
+invariant-loop-node g l =
+    l.starts.items ++ map (λ node. (range_at node).0) (rest_nodes l.node-iterator)
+    ≡ definition_starts (node_place l.document)

@@ -3,5 +3,6 @@ use Rattle.first_errors.specs.Words.{IsReplaced}
 use Rattle.first_errors.proofs.words.replaced.Given as goal
 
 abbrev pub invariant-loop-row : goal.invariant-loop-row
-invariant-loop-row l = (shown : List ℕ) → IsReplaced (λ row. row.0.now) (λ row. row.1.now) (drop l.row-index l.rows) l.message shown
+invariant-loop-row l = (shown : List ℕ)
+    → IsReplaced (λ row. row.0.now) (λ row. row.1.now) (drop l.row-index l.rows) l.message shown
     → IsReplaced (λ row. row.0.now) (λ row. row.1.now) l.rows l.message shown

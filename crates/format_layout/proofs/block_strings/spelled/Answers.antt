@@ -14,7 +14,8 @@ pub returns-clause-same : goal.returns-clause-same
 returns-clause-same g c =
     let is : c.in_ok-is_block_of.field-0 ≡ true = cc in
     let words = c.as_str-words.ensures.value in
-    let value = subst (IsStringValue c.as_str-words.result.now) c.as_str-else-eq.ensures.value (c.in_ok-is_block_of.ensures.value is) in
+    let value = subst (IsStringValue c.as_str-words.result.now) c.as_str-else-eq.ensures.value
+    (c.in_ok-is_block_of.ensures.value is) in
     same-block _ _ (string_bytes c.in_ok-value.value) (sym c.begins_block.ensures ∙ c.if-not-begins_block.false)
     (ap (begins triple_quote) (sym words) ∙ c.in_ok-is_block_of.ensures.block is) c.in_ok-value.ensures
     (subst (λ t. IsStringValue t (string_bytes c.in_ok-value.value)) words value)

@@ -4,7 +4,8 @@ use Rattle.formatter.proofs.FormatterDocumentFormatter.format_or_errors.Goals as
 
 pub format_document-requires : goal.format_document-requires
 format_document-requires g c =
-    sentence-of _ c.args.limits.recursion c.args.limits.tokens (omega arith) (rw c.in-Ok.is at c.in_ok-plan.ensures.document)
+    sentence-of _ c.args.limits.recursion c.args.limits.tokens (omega arith)
+    (rw c.in-Ok.is at c.in_ok-plan.ensures.document)
 
 pub returns-in_ok-text-in-Ok-clause-formatted : goal.returns-in_ok-text-in-Ok-clause-formatted
 returns-in_ok-text-in-Ok-clause-formatted g c =

@@ -6,5 +6,7 @@ use Rattle.formatter.proofs.line_ends.with_line_end.Goals as goal
 
 pub returns-clause-items : goal.returns-clause-items
 returns-clause-items g c = λ words holds.
-    same-count c.args.end (string_bytes c.args.text) (string_bytes c.in_ok-other.other) words (IsUtf8-string_bytes c.args.text)
-    (IsUtf8-string_bytes c.in_ok-other.other) (c.in_ok-other.ensures.lines ∙ ap (with_line_end c.args.end) c.as_str-2.ensures.value) holds
+    same-count c.args.end (string_bytes c.args.text) (string_bytes c.in_ok-other.other) words
+    (IsUtf8-string_bytes c.args.text)
+    (IsUtf8-string_bytes c.in_ok-other.other)
+    (c.in_ok-other.ensures.lines ∙ ap (with_line_end c.args.end) c.as_str-2.ensures.value) holds

@@ -8,20 +8,25 @@ use Rattle.gqlcheck_run.proofs.github.commands.Goals as goal
 
 front : List ℕ → List ℕ → Finding → List ℕ
 front name source finding =
-    error_at name (capped (line_number source (min finding.start (length source)))) (capped (column_number source (min finding.start (length source))))
+    error_at name (capped (line_number source (min finding.start (length source))))
+    (capped (column_number source (min finding.start (length source))))
 
 pub loop-finding-preserved : goal.loop-finding-preserved
 unfolding front
 loop-finding-preserved g c = (
   λ none. absurd (omega (arith, none)),
-  front_more (front c.args.name.now c.args.source.now) c.args.report.now.findings.items c.deref-finding-items.result.now c.loop-finding.finding-index
-      c.finding-item.result c.loop-finding.lines.items c.push_finding.new.lines.items c.deref-finding-items.ensures.value
-      c.loop-finding-test.true c.finding-item.is c.loop-finding.invariant.0 c.loop-finding.invariant.1 c.in_ok-push_finding.ensures,
+  front_more (front c.args.name.now c.args.source.now) c.args.report.now.findings.items c.deref-finding-items.result.now
+      c.loop-finding.finding-index
+      c.finding-item.result c.loop-finding.lines.items c.push_finding.new.lines.items
+      c.deref-finding-items.ensures.value
+      c.loop-finding-test.true c.finding-item.is c.loop-finding.invariant.0 c.loop-finding.invariant.1
+      c.in_ok-push_finding.ensures,
 )
 
 pub returns : goal.returns
 unfolding front
 returns g c =
-    front_kept (front c.args.name.now c.args.source.now) c.args.report.now.findings.items c.deref-finding-items.result.now c.loop-finding.finding-index
+    front_kept (front c.args.name.now c.args.source.now) c.args.report.now.findings.items
+    c.deref-finding-items.result.now c.loop-finding.finding-index
     c.loop-finding.lines.items c.push_more.new.lines.items c.deref-finding-items.ensures.value c.loop-finding-test.false
     c.loop-finding.invariant.1 c.in_ok-push_more.ensures

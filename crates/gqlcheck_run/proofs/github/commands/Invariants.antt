@@ -5,4 +5,5 @@ use Rattle.gqlcheck_run.proofs.github.commands.Given as goal
 
 abbrev pub invariant-loop-finding : goal.invariant-loop-finding
 invariant-loop-finding g l =
-    (l.finding-index ≡ 0 → l.lines.items ≡ []) × BeginsAtFirst Github l.name l.source (take l.finding-index l.report.findings.items) l.lines.items
+    (l.finding-index ≡ 0 → l.lines.items ≡ [])
+    × BeginsAtFirst Github l.name l.source (take l.finding-index l.report.findings.items) l.lines.items

@@ -3,15 +3,21 @@ use Rattle.std.specs.Prelude.{codes}
 use Rattle.gqlcheck_run.specs.GithubCommands.{position, property}
 use Rattle.gqlcheck_run.proofs.github.push_error_at.Goals as goal
 
-thrice : (old front middle last first second third : List ℕ) → first ≡ old ++ front → second ≡ first ++ middle → third ≡ second ++ last
+thrice : (old front middle last first second third : List ℕ) → first ≡ old ++ front → second ≡ first ++ middle
+    → third ≡ second ++ last
     → third ≡ old ++ (front ++ middle ++ last)
 thrice old front middle last first second third a b c =
-    c ∙ ap (λ (t : List ℕ). t ++ last) (b ∙ ap (λ (t : List ℕ). t ++ middle) a) ∙ append_assoc (old ++ front) middle last
+    c ∙ ap (λ (t : List ℕ). t ++ last) (b ∙ ap (λ (t : List ℕ). t ++ middle) a)
+    ∙ append_assoc (old ++ front) middle last
     ∙ append_assoc old front (middle ++ last) ∙ ap (λ (t : List ℕ). old ++ t) (sym (append_assoc front middle last))
 
 pub returns : goal.returns
 returns g c =
-    let last : c.extend_from_slice-2.new.self.items ≡ c.push_property.new.lines.items ++ c.as_bytes.result.now = c.in_ok-extend_from_slice-2.ensures.items in
-    let bytes : c.as_bytes.result.now ≡ position c.args.line c.args.column = c.as_bytes.ensures.value ∙ c.in_ok-position.ensures in
-    thrice c.args.lines.now.items (codes "::error file=") (property c.args.name.now) (position c.args.line c.args.column) _ _ _
-    c.in_ok-extend_from_slice.ensures.items c.in_ok-push_property.ensures (last ∙ ap (λ (t : List ℕ). c.push_property.new.lines.items ++ t) bytes)
+    let last : c.extend_from_slice-2.new.self.items ≡ c.push_property.new.lines.items ++ c.as_bytes.result.now =
+    c.in_ok-extend_from_slice-2.ensures.items in
+    let bytes : c.as_bytes.result.now ≡ position c.args.line c.args.column =
+    c.as_bytes.ensures.value ∙ c.in_ok-position.ensures in
+    thrice c.args.lines.now.items (codes "::error file=") (property c.args.name.now)
+    (position c.args.line c.args.column) _ _ _
+    c.in_ok-extend_from_slice.ensures.items c.in_ok-push_property.ensures
+    (last ∙ ap (λ (t : List ℕ). c.push_property.new.lines.items ++ t) bytes)

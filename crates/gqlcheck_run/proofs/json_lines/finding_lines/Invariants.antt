@@ -5,4 +5,5 @@ use Rattle.gqlcheck_run.proofs.json_lines.finding_lines.Given as goal
 
 abbrev pub invariant-loop-finding : goal.invariant-loop-finding
 invariant-loop-finding g l =
-    (l.finding-index ≡ 0 → l.lines.items ≡ []) × BeginsAtFirst Json l.name l.source (take l.finding-index l.findings) l.lines.items
+    (l.finding-index ≡ 0 → l.lines.items ≡ [])
+    × BeginsAtFirst Json l.name l.source (take l.finding-index l.findings) l.lines.items

@@ -12,14 +12,19 @@ pub loop-finding-preserved : goal.loop-finding-preserved
 unfolding front
 loop-finding-preserved g c = (
   λ none. absurd (omega (arith, none)),
-  front_more (front c.args.name.now c.args.source.now) c.args.report.now.findings.items c.deref-finding-items.result.now c.loop-finding.finding-index
-      c.finding-item.result (string_bytes c.loop-finding.text) (string_bytes c.push_finding.new.text) c.deref-finding-items.ensures.value
-      c.loop-finding-test.true c.finding-item.is c.loop-finding.invariant.0 c.loop-finding.invariant.1 c.in_ok-push_finding.ensures,
+  front_more (front c.args.name.now c.args.source.now) c.args.report.now.findings.items c.deref-finding-items.result.now
+      c.loop-finding.finding-index
+      c.finding-item.result (string_bytes c.loop-finding.text) (string_bytes c.push_finding.new.text)
+      c.deref-finding-items.ensures.value
+      c.loop-finding-test.true c.finding-item.is c.loop-finding.invariant.0 c.loop-finding.invariant.1
+      c.in_ok-push_finding.ensures,
 )
 
 pub returns : goal.returns
 unfolding front
 returns g c =
-    front_kept (front c.args.name.now c.args.source.now) c.args.report.now.findings.items c.deref-finding-items.result.now c.loop-finding.finding-index
-    (string_bytes c.loop-finding.text) (string_bytes c.push_more.new.text) c.deref-finding-items.ensures.value c.loop-finding-test.false
+    front_kept (front c.args.name.now c.args.source.now) c.args.report.now.findings.items
+    c.deref-finding-items.result.now c.loop-finding.finding-index
+    (string_bytes c.loop-finding.text) (string_bytes c.push_more.new.text) c.deref-finding-items.ensures.value
+    c.loop-finding-test.false
     c.loop-finding.invariant.1 c.in_ok-push_more.ensures

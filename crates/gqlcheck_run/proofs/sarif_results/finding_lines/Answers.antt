@@ -12,9 +12,12 @@ loop-finding-preserved g c =
     let old : List ℕ = c.loop-finding.lines.items in
     let new : List ℕ = c.in_ok-lines.lines.items in (
       λ none. absurd (omega (arith, none)),
-      of_first_more (λ (f : Finding) (output : List ℕ). BeginsWithResult uri source (min f.start (length source)) output) c.args.findings.now
-          c.loop-finding.finding-index c.finding-item.result old new c.loop-finding-test.true c.loop-finding.invariant.0 c.loop-finding.invariant.1
+      of_first_more (λ (f : Finding) (output : List ℕ). BeginsWithResult uri source (min f.start (length source))
+          output) c.args.findings.now
+          c.loop-finding.finding-index c.finding-item.result old new c.loop-finding-test.true c.loop-finding.invariant.0
+          c.loop-finding.invariant.1
           (λ f. result_kept uri source (min f.start (length source)) old new c.in_ok-lines.ensures.grows)
-          (λ empty. subst (λ (f : Finding). BeginsWithResult uri source (min f.start (length source)) new) c.finding-item.is
+          (λ empty. subst (λ (f : Finding). BeginsWithResult uri source (min f.start (length source)) new)
+          c.finding-item.is
           (c.in_ok-lines.ensures.first empty)),
     )

@@ -7,5 +7,6 @@ use Rattle.gqlcheck_run.proofs.sarif_results.more_line.Goals as goal
 pub returns : goal.returns
 returns g c = IfOk-weaker c.ended.result _ _ (λ it ended.
     grown_after _ c.args.lines.items (separator true) it.items
-    (c.in_ok-put_words.ensures.adds.before ∙ c.in_ok-put_locations.ensures.1.before ∙ c.in_ok-out.ensures.before ∙ c.in_ok-lines.ensures) ended)
+    (c.in_ok-put_words.ensures.adds.before ∙ c.in_ok-put_locations.ensures.1.before ∙ c.in_ok-out.ensures.before
+    ∙ c.in_ok-lines.ensures) ended)
     c.ended.ensures

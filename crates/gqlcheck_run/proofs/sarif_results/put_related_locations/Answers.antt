@@ -7,7 +7,8 @@ pub returns : goal.returns
 returns g c =
     in_list _ _ _ _ _ c.in_ok-open_list.ensures
     (both _ _ _ (of_member (codes "physicalLocation")
-    (physical_location c.args.uri.now c.args.source.now c.part_between-part.result.start c.in_ok-put_physical_location.ensures.0) _ _
+    (physical_location c.args.uri.now c.args.source.now c.part_between-part.result.start
+    c.in_ok-put_physical_location.ensures.0) _ _
     c.in_ok-put_physical_location.ensures.1) c.in_ok-put_message.ensures) c.in_ok-close_list.ensures
 
 pub returns-in_default : goal.returns-in_default

@@ -19,5 +19,6 @@ returns g c =
       accepts = λ a. accepts a.tree a.sentence a.within;
       counted =
           c.finding_of-finding.ensures
-          ∙ ap finding_of (c.len.ensures.value ∙ sym (length-map (iter_rest c.errors.result) error_of) ∙ ap length c.errors.ensures);
+          ∙ ap finding_of (c.len.ensures.value ∙ sym (length-map (iter_rest c.errors.result) error_of)
+          ∙ ap length c.errors.ensures);
     }

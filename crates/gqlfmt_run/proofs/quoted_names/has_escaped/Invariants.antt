@@ -8,4 +8,5 @@ use Rattle.gqlfmt_run.proofs.quoted_names.has_escaped.Given as goal
 -- none of the characters so far is escaped
 abbrev pub invariant-loop-c : goal.invariant-loop-c
 invariant-loop-c l =
-    IsUtf8 (chars_rest l.c-iterator) × (list_any is_escaped (chars (chars_rest l.c-iterator)) ≡ list_any is_escaped (chars l.fn.name))
+    IsUtf8 (chars_rest l.c-iterator)
+    × (list_any is_escaped (chars (chars_rest l.c-iterator)) ≡ list_any is_escaped (chars l.fn.name))

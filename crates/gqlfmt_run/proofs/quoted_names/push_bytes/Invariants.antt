@@ -5,4 +5,5 @@ use Rattle.gqlfmt_run.specs.Quoting.{octal}
 use Rattle.gqlfmt_run.proofs.quoted_names.push_bytes.Given as goal
 
 abbrev pub invariant-loop-byte : goal.invariant-loop-byte
-invariant-loop-byte g l = string_bytes l.text ≡ string_bytes l.fn.text ++ flat_map octal (take l.byte-index (encode_utf8 l.fn.c))
+invariant-loop-byte g l =
+    string_bytes l.text ≡ string_bytes l.fn.text ++ flat_map octal (take l.byte-index (encode_utf8 l.fn.c))

@@ -10,4 +10,5 @@ use Rattle.gqlfmt_run.proofs.quoted_names.push_chars.Given as goal
 abbrev pub invariant-loop-c : goal.invariant-loop-c
 invariant-loop-c g l =
     IsUtf8 (chars_rest l.c-iterator)
-    × (string_bytes l.text ++ flat_map quoted_char (chars (chars_rest l.c-iterator)) ≡ string_bytes l.fn.text ++ flat_map quoted_char (chars l.fn.name))
+    × (string_bytes l.text ++ flat_map quoted_char (chars (chars_rest l.c-iterator)) ≡ string_bytes l.fn.text
+    ++ flat_map quoted_char (chars l.fn.name))

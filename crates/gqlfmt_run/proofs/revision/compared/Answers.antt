@@ -12,7 +12,8 @@ returns-then-stays_within-clause-document g c = λ formatted few short ends.
           formatted = formatted;
           again = subst (λ (t : List ℕ). format.IsDocument t limits.recursion limits.tokens) same
               (c.stays_within.ensures.yes c.if-stays_within.true c.args.source.now limits.recursion
-              (subst (λ (t : List ℕ). format.IsFormatted c.args.source.now limits.recursion limits.tokens t) (sym same) formatted));
+              (subst (λ (t : List ℕ). format.IsFormatted c.args.source.now limits.recursion limits.tokens t)
+              (sym same) formatted));
         });
         short = short;
         ends = ends;

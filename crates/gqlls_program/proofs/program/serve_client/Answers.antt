@@ -10,9 +10,12 @@ use Rattle.gqlls_program.specs.State.{folder_dialogue_of}
 use Rattle.gqlls_program.specs.declared.folder.FolderServer.{FolderServer}
 use Rattle.gqlls_program.proofs.program.serve_client.Goals as goal
 
-opens : {F : Type 0} (limits : Limits) (files : F) (server : Server) (service : FolderServer F) → dialogue_of server ≡ initial_dialogue limits
-    → folder_dialogue_of service ≡ record { dialogue = dialogue_of server; files = files } → folder_dialogue_of service ≡ opening limits files
-opens limits files server service begins is = is ∙ ap (λ (dialogue : Dialogue). record { dialogue = dialogue; files = files }) begins
+opens : {F : Type 0} (limits : Limits) (files : F) (server : Server) (service : FolderServer F)
+    → dialogue_of server ≡ initial_dialogue limits
+    → folder_dialogue_of service ≡ record { dialogue = dialogue_of server; files = files }
+    → folder_dialogue_of service ≡ opening limits files
+opens limits files server service begins is =
+    is ∙ ap (λ (dialogue : Dialogue). record { dialogue = dialogue; files = files }) begins
 
 pub returns-clause-ok : goal.returns-clause-ok
 returns-clause-ok g c =

@@ -5,5 +5,6 @@ use Rattle.gqlls_server.proofs.capabilities.push_served.Goals as goal
 
 pub returns : goal.returns
 returns c =
-    written c.args.asks_first VERSION.now _ _ _ _ _ _ _ _ _ c.in_ok-extend_from_slice.ensures.items c.in_ok-extend_from_slice-2.ensures.items
+    written c.args.asks_first VERSION.now _ _ _ _ _ _ _ _ _ c.in_ok-extend_from_slice.ensures.items
+    c.in_ok-extend_from_slice-2.ensures.items
     c.in_ok-extend_from_slice-3.ensures.items c.in_ok-extend_from_slice-4.ensures.items c.renaming.ensures refl

@@ -14,9 +14,12 @@ loop-name-preserved-in-Continue-1 c =
     (λ (entry : String Global × Document). not (contains_text c.args.own.now (string_bytes entry.0)))
     (c.in-Some.name.now, c.in-Some.document.now) c.next.new.self (map (λ f. as_fragments f.now) c.loop-name.found.items)
     (map (λ f. as_fragments f.now) c.push.new.self.items) _
-    (ap not (ap (contains_text c.args.own.now) (sym c.as_str.ensures.value) ∙ sym c.contains.ensures ∙ c.if-not-contains.true))
-    (ap (map (λ f. as_fragments f.now)) c.in_ok-push.ensures.items ∙ map-append (λ f. as_fragments f.now) c.loop-name.found.items _
-    ∙ ap (λ (names : Fragments). map (λ f. as_fragments f.now) c.loop-name.found.items ++ names ∷ []) c.fragments.ensures)
+    (ap not (ap (contains_text c.args.own.now) (sym c.as_str.ensures.value) ∙ sym c.contains.ensures
+    ∙ c.if-not-contains.true))
+    (ap (map (λ f. as_fragments f.now)) c.in_ok-push.ensures.items
+    ∙ map-append (λ f. as_fragments f.now) c.loop-name.found.items _
+    ∙ ap (λ (names : Fragments). map (λ f. as_fragments f.now) c.loop-name.found.items ++ names ∷ [])
+    c.fragments.ensures)
     (ap (λ es. map (λ f. as_fragments f.now) c.loop-name.found.items
     ++ map (λ (entry : String Global × Document). names_of entry.1)
     (filter (λ (entry : String Global × Document). not (contains_text c.args.own.now (string_bytes entry.0))) es))
@@ -26,8 +29,10 @@ pub loop-name-preserved : goal.loop-name-preserved
 loop-name-preserved c =
     passed_over (λ (entry : String Global × Document). names_of entry.1)
     (λ (entry : String Global × Document). not (contains_text c.args.own.now (string_bytes entry.0)))
-    (c.in-Some.name.now, c.in-Some.document.now) c.next.new.self (map (λ f. as_fragments f.now) c.loop-name.found.items) _
-    (ap not (ap (contains_text c.args.own.now) (sym c.as_str.ensures.value) ∙ sym c.contains.ensures ∙ c.if-not-contains.false))
+    (c.in-Some.name.now, c.in-Some.document.now) c.next.new.self
+    (map (λ f. as_fragments f.now) c.loop-name.found.items) _
+    (ap not (ap (contains_text c.args.own.now) (sym c.as_str.ensures.value) ∙ sym c.contains.ensures
+    ∙ c.if-not-contains.false))
     (ap (λ es. map (λ f. as_fragments f.now) c.loop-name.found.items
     ++ map (λ (entry : String Global × Document). names_of entry.1)
     (filter (λ (entry : String Global × Document). not (contains_text c.args.own.now (string_bytes entry.0))) es))

@@ -9,5 +9,6 @@ use Rattle.gqlls_server.proofs.documents.file_fragments.Given as goal
 abbrev pub invariant-loop-name : goal.invariant-loop-name
 invariant-loop-name l =
     map (λ f. as_fragments f.now) l.found.items
-    ++ map (λ entry. names_of entry.1) (filter (λ entry. not (contains_text l.own (string_bytes entry.0))) l.name-iterator)
+    ++ map (λ entry. names_of entry.1)
+    (filter (λ entry. not (contains_text l.own (string_bytes entry.0))) l.name-iterator)
     ≡ map (λ entry. names_of entry.1) (entries_beside l.own l.files)

@@ -5,8 +5,10 @@ use Rattle.gqlls_server.proofs.documents.insert.Goals as goal
 
 pub returns-clause-files : goal.returns-clause-files
 returns-clause-files c =
-    updated file_of _ _ c.args.documents.now c.insert.new.self _ _ c.in_ok-name.ensures.ok c.in_ok-insert.ensures.updates refl
+    updated file_of _ _ c.args.documents.now c.insert.new.self _ _ c.in_ok-name.ensures.ok
+    c.in_ok-insert.ensures.updates refl
 
 pub returns-clause-names : goal.returns-clause-names
 returns-clause-names c =
-    updated names_of _ _ c.args.documents.now c.insert.new.self _ _ c.in_ok-name.ensures.ok c.in_ok-insert.ensures.updates refl
+    updated names_of _ _ c.args.documents.now c.insert.new.self _ _ c.in_ok-name.ensures.ok
+    c.in_ok-insert.ensures.updates refl

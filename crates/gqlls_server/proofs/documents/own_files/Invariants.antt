@@ -8,4 +8,5 @@ use Rattle.gqlls_server.proofs.documents.own_files.Given as goal
 -- the files so far, and those of the documents that are left
 abbrev pub invariant-loop-name : goal.invariant-loop-name
 invariant-loop-name l =
-    (name : List ℕ) → (contains_text l.own name || list_any (is_of name) (map string_bytes l.name-iterator)) ≡ is_own l.uri l.documents name
+    (name : List ℕ) → (contains_text l.own name || list_any (is_of name) (map string_bytes l.name-iterator))
+    ≡ is_own l.uri l.documents name

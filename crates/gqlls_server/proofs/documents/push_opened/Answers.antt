@@ -19,12 +19,16 @@ loop-name-preserved-in-Continue-1 c =
     (c.known_as.ensures.known ∙ ap (λ name. (name, c.in-Some.document.now)) c.as_str-then-ne.ensures.value) in
     record {
       all =
-          passed_more entry_of (λ (e : String Global × Document). is_other c.args.uri.now (string_bytes e.0)) entry c.next.new.self before
+          passed_more entry_of (λ (e : String Global × Document). is_other c.args.uri.now (string_bytes e.0)) entry
+          c.next.new.self before
           (map known_of c.push.new.self.items) _
-          (ap (λ name. not (bytes_eq name c.args.uri.now)) (sym c.as_str.ensures.value) ∙ sym c.ne.ensures ∙ c.if-ne.true) added
-          (ap (λ es. before ++ map entry_of (filter (λ (e : String Global × Document). is_other c.args.uri.now (string_bytes e.0)) es))
+          (ap (λ name. not (bytes_eq name c.args.uri.now)) (sym c.as_str.ensures.value)
+          ∙ sym c.ne.ensures ∙ c.if-ne.true) added
+          (ap (λ es. before ++ map entry_of
+          (filter (λ (e : String Global × Document). is_other c.args.uri.now (string_bytes e.0)) es))
           (sym c.in-Some.ensures.steps) ∙ c.loop-name.invariant.all);
       parsed = λ parsed.
           subst AreParsed (sym added)
-          (All-push (λ (one : KnownFile). IsParsed one.1) before (entry_of entry) (c.loop-name.invariant.parsed parsed) c.known_as.ensures.parsed);
+          (All-push (λ (one : KnownFile). IsParsed one.1) before (entry_of entry) (c.loop-name.invariant.parsed parsed)
+          c.known_as.ensures.parsed);
     }

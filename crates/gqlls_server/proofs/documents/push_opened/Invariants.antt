@@ -7,7 +7,8 @@ use Rattle.gqlls_server.proofs.documents.push_opened.Given as goal
 -- the documents so far, and those that are left
 abbrev pub invariant-loop-name : goal.invariant-loop-name
 invariant-loop-name l = record {
-  all : map known_of l.found.items ++ map entry_of (filter (λ entry. is_other l.uri (string_bytes entry.0)) l.name-iterator)
+  all : map known_of l.found.items
+      ++ map entry_of (filter (λ entry. is_other l.uri (string_bytes entry.0)) l.name-iterator)
       ≡ map known_of l.initial.found.items ++ map entry_of (entries_that (is_other l.uri) l.opened);
   parsed : AreParsed (map known_of l.initial.found.items) → AreParsed (map known_of l.found.items);
 }

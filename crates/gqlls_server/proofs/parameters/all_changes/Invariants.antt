@@ -5,4 +5,6 @@ use Rattle.gqlls_server.specs.Parameters.{edit_in, client_edit}
 use Rattle.gqlls_server.proofs.parameters.all_changes.Given as goal
 
 abbrev pub invariant-loop-item : goal.invariant-loop-item
-invariant-loop-item l = IsSoFar edit_in (map value_view l.items) (map client_edit l.changes.items) (map value_view (drop l.item-index l.items))
+invariant-loop-item l =
+    IsSoFar edit_in (map value_view l.items) (map client_edit l.changes.items)
+    (map value_view (drop l.item-index l.items))

@@ -6,4 +6,5 @@ use Rattle.gqlls_server.proofs.parameters.names_in.Given as goal
 
 abbrev pub invariant-loop-item : goal.invariant-loop-item
 invariant-loop-item l =
-    map (λ uri. uri.now) l.uris.items ++ filter_map name_in (map value_view (drop l.item-index l.items)) ≡ filter_map name_in (map value_view l.items)
+    map (λ uri. uri.now) l.uris.items
+    ++ filter_map name_in (map value_view (drop l.item-index l.items)) ≡ filter_map name_in (map value_view l.items)

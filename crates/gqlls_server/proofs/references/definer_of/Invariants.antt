@@ -7,4 +7,5 @@ use Rattle.gqlls_server.proofs.references.definer_of.Given as goal
 -- the first one is among those that are left
 abbrev pub invariant-loop-one : goal.invariant-loop-one
 invariant-loop-one l =
-    find (defines (known_of l.asked) l.offset) (map known_of (drop l.one-index l.known)) ≡ find (defines (known_of l.asked) l.offset) (map known_of l.known)
+    find (defines (known_of l.asked) l.offset) (map known_of (drop l.one-index l.known))
+    ≡ find (defines (known_of l.asked) l.offset) (map known_of l.known)

@@ -11,6 +11,9 @@ use Rattle.gqlls_server.proofs.references.defines.Goals as goal
 
 pub returns : goal.returns
 returns c =
-    c.is_some.ensures ∙ sym (some_of bounds c.definition_elsewhere.result) ∙ ap is_some c.definition_elsewhere.ensures ∙ some_of range_at _
-    ∙ ap (λ (root : Place). is_some (definition_elsewhere root c.args.offset (node_place c.root-2.result))) c.root.ensures.place
-    ∙ ap (λ (other : Place). is_some (definition_elsewhere (root_of (known_of c.args.asked.now)) c.args.offset other)) c.root-2.ensures.place
+    c.is_some.ensures ∙ sym (some_of bounds c.definition_elsewhere.result)
+    ∙ ap is_some c.definition_elsewhere.ensures ∙ some_of range_at _
+    ∙ ap (λ (root : Place). is_some (definition_elsewhere root c.args.offset (node_place c.root-2.result)))
+    c.root.ensures.place
+    ∙ ap (λ (other : Place). is_some (definition_elsewhere (root_of (known_of c.args.asked.now)) c.args.offset other))
+    c.root-2.ensures.place

@@ -20,7 +20,8 @@ returns-in_ok-body-in-None-clause-renames c =
     let found = ap (λ (p : Place). identifier_at p c.args.offset) (sym c.root.ensures.place)
     ∙ found_in token_place _ _ _ c.identifier_at.ensures c.in-Some.is in
     let passes = found_passes (is_of IDENT) (leaves_at c.args.offset (root_of asked)) leaf found in
-    meaningless (value_view c.args.id.now) asked c.args.offset c.args.name.now (map known_of c.args.known.now) c.in_ok-body-in-None.body.items leaf found
+    meaningless (value_view c.args.id.now) asked c.args.offset c.args.name.now (map known_of c.args.known.now)
+    c.in_ok-body-in-None.body.items leaf found
     (sym (chosen _ _ _ _ passes c.meaning_of.ensures) ∙ c.in-None.is)
 
 pub returns-in-Some-meaning_of-clause-renames : goal.returns-in-Some-meaning_of-clause-renames
@@ -33,7 +34,8 @@ returns-in-Some-meaning_of-clause-renames c =
     let found = ap (λ (p : Place). identifier_at p c.args.offset) (sym c.root.ensures.place)
     ∙ found_in token_place _ _ _ c.identifier_at.ensures c.in-Some.is in
     let passes = found_passes (is_of IDENT) (leaves_at c.args.offset (root_of asked)) leaf found in
-    IfOk-weaker c.answer_name.result (λ body. IsRenamed id meaning.kind asked c.args.offset c.args.name.now known body.items)
+    IfOk-weaker c.answer_name.result
+    (λ body. IsRenamed id meaning.kind asked c.args.offset c.args.name.now known body.items)
     (λ body. IsRenamedAt id asked c.args.offset c.args.name.now known body.items)
     (λ body. meant id asked c.args.offset c.args.name.now known body.items leaf meaning found
     (sym (chosen _ _ _ _ passes c.meaning_of.ensures) ∙ c.in-Some-meaning_of.is))

@@ -20,5 +20,6 @@ returns-clause-edits c =
     (ap (flat_map tokens_of) c.as_slice.ensures.value
     ∙ result_written places name known _ _ _
     (added_as _ _ _ front c.in_ok-extend_from_slice.ensures.items refl
-    ∙ ap (λ (ps : List Piece). flat_map tokens_of ps ++ front) c.new-pieces.ensures.items) c.in_ok-push_all_edits.ensures
+    ∙ ap (λ (ps : List Piece). flat_map tokens_of ps ++ front) c.new-pieces.ensures.items)
+    c.in_ok-push_all_edits.ensures
     (added_as _ _ _ (end_object ∷ end_object ∷ []) c.in_ok-extend_from_slice-2.ensures.items refl))

@@ -11,7 +11,9 @@ use Rattle.gqlls_server.proofs.renaming.push_edits.Goals as goal
 pub returns : goal.returns
 returns c =
     let now = c.args.pieces.now.items in
-    let some : c.args.found.now ≢ [] = λ none. (let empty : length c.args.found.now ≡ 0 = ap length none in grind (arith, nat_tests)) in
-    pieces_written (known_of c.args.known.now) c.args.name.now c.args.found.now _ _ (flat_map tokens_of now) _ _ _ some c.in_ok-positions.ensures.encoding
+    let some : c.args.found.now ≢ [] =
+    λ none. (let empty : length c.args.found.now ≡ 0 = ap length none in grind (arith, nat_tests)) in
+    pieces_written (known_of c.args.known.now) c.args.name.now c.args.found.now _ _ (flat_map tokens_of now) _ _ _ some
+    c.in_ok-positions.ensures.encoding
     c.in_ok-positions.ensures.text (added now _ _ c.in_ok-extend_from_slice.ensures.items) c.in_ok-push_changes.ensures
     (added _ _ _ c.in_ok-extend_from_slice-2.ensures.items)

@@ -4,4 +4,5 @@ use Rattle.ignore_rules.proofs.fit_table.clear.Given as goal
 
 abbrev pub invariant-loop-index : goal.invariant-loop-index
 invariant-loop-index l =
-    IsWithin l.fn.window l.initial.table → (k : ℕ) → (k < l.index) ⊎ (l.fn.window.end ≤ k) → get_or l.table k false ≡ false
+    IsWithin l.fn.window l.initial.table → (k : ℕ) → (k < l.index) ⊎ (l.fn.window.end ≤ k)
+    → get_or l.table k false ≡ false

@@ -16,9 +16,12 @@ loop-index-preserved g c =
     let on : c.loop-index.index ≡ i + 1 = omega arith in (
       omega arith,
       λ first.
-          let so_far = subst (λ (n : ℕ). IsWindow (fits (map as_sign (drop n c.args.signs.now))) c.args.path.now c.loop-index.window c.loop-index.table) on
+          let so_far = subst (λ (n : ℕ). IsWindow (fits (map as_sign (drop n c.args.signs.now))) c.args.path.now
+          c.loop-index.window c.loop-index.table) on
           (c.loop-index.invariant.1 first) in
-          let after = fits_more as_sign c.args.signs.now i c.index-signs-index.result c.args.path.now c.put-window.result c.put-window.new.table (omega arith)
-          c.index-signs-index.is (c.put-window.ensures.places (fits (map as_sign (drop (i + 1) c.args.signs.now))) so_far) in
+          let after = fits_more as_sign c.args.signs.now i c.index-signs-index.result c.args.path.now
+          c.put-window.result c.put-window.new.table (omega arith)
+          c.index-signs-index.is (c.put-window.ensures.places
+          (fits (map as_sign (drop (i + 1) c.args.signs.now))) so_far) in
           record { answers = after.answers; within = c.trimmed-window.ensures.within after.within },
     )

@@ -7,4 +7,5 @@ use Rattle.ignore_rules.proofs.fit_table.put_folders.Given as goal
 abbrev pub invariant-loop-index : goal.invariant-loop-index
 invariant-loop-index l =
     (test : List ℕ → Bool) → IsWindow test l.path l.fn.window l.initial.table
-    → IsDown (after_sign folders test) l.path l.index l.initial.table l.table × (l.below ≡ after_slash test (drop l.index l.path))
+    → IsDown (after_sign folders test) l.path l.index l.initial.table l.table
+    × (l.below ≡ after_slash test (drop l.index l.path))

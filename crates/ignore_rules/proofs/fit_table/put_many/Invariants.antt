@@ -6,4 +6,5 @@ use Rattle.ignore_rules.proofs.fit_table.put_many.Given as goal
 
 abbrev pub invariant-loop-index : goal.invariant-loop-index
 invariant-loop-index l =
-    (test : List ℕ → Bool) → IsWindow test l.path l.fn.window l.initial.table → IsDown (after_bytes test) l.path l.index l.initial.table l.table
+    (test : List ℕ → Bool) → IsWindow test l.path l.fn.window l.initial.table
+    → IsDown (after_bytes test) l.path l.index l.initial.table l.table

@@ -7,12 +7,14 @@ returns-in-Some g c =
     let more : c.args.most - c.loop-done.done ≡ suc (c.args.most - (c.loop-done.done + 1)) = omega arith in
     rw c.in-Some.ensures.1
     ((rw more at c.loop-done.invariant)
-    ∙ range_last (c.args.most - (c.loop-done.done + 1)) c.loop-done.closes c.loop-done.rest.now c.loop-done.ranges.items c.in-Some.ensures.0)
+    ∙ range_last (c.args.most - (c.loop-done.done + 1)) c.loop-done.closes c.loop-done.rest.now
+    c.loop-done.ranges.items c.in-Some.ensures.0)
 
 pub returns-in_default-range_in : goal.returns-in_default-range_in
 returns-in_default-range_in g c =
     let more : c.args.most - c.loop-done.done ≡ suc (c.args.most - (c.loop-done.done + 1)) = omega arith in
-    let none = range_none (c.args.most - (c.loop-done.done + 1)) c.loop-done.closes c.loop-done.rest.now c.in_default.ensures
+    let none = range_none (c.args.most - (c.loop-done.done + 1)) c.loop-done.closes
+    c.loop-done.rest.now c.in_default.ensures
     (sym c.in_default-range_in.ensures) in
     not_joined _ _ (rw none at (rw more at c.loop-done.invariant))
 
@@ -21,5 +23,6 @@ loop-done-preserved g c =
     let more : c.args.most - c.loop-done.done ≡ suc (c.args.most - (c.loop-done.done + 1)) = omega arith in
     rw c.in_ok-push.ensures.items
     ((rw more at c.loop-done.invariant)
-    ∙ range_more (c.args.most - (c.loop-done.done + 1)) c.loop-done.closes c.loop-done.rest.now _ c.loop-done.ranges.items c.in_default.ensures
+    ∙ range_more (c.args.most - (c.loop-done.done + 1)) c.loop-done.closes c.loop-done.rest.now _
+    c.loop-done.ranges.items c.in_default.ensures
     (sym c.in-Some-range_in.ensures))

@@ -1,6 +1,7 @@
 use Rattle.std.proofs.Common.{refl, ◌≡◌, ◌-◌, ◌+◌, ◌*◌, ◌∙◌, List, ℕ, length, ap, subst, arith}
 use Rattle.std.specs.Str.{IsUtf8}
-use Rattle.line_index.proofs.MarkLemmas.{no-marks, marks-ordered, mark-units, whole-part-fits, from-units, units-boundary, room-fits, room-full}
+use Rattle.line_index.proofs.MarkLemmas.{no-marks, marks-ordered, mark-units, whole-part-fits, from-units}
+use Rattle.line_index.proofs.MarkLemmas.{units-boundary, room-fits, room-full}
 use Rattle.line_index.proofs.ColumnLemmas.{ascii-slice, ascii-unit}
 use Rattle.line_index.proofs.LineIndex.column_end.Goals as goal
 
@@ -8,7 +9,13 @@ pub overflow_add-wanted : goal.overflow_add-wanted
 overflow_add-wanted g c =
     let same : c.as_bytes-bytes.result.now ≡ c.args.self.now = c.as_bytes-bytes.ensures.value ∙ c.self.view_is in
     let utf8 : IsUtf8 c.args.self.now = subst (λ (t : List ℕ). IsUtf8 t) same c.as_bytes-bytes.ensures.utf8 in
-    omega (arith, units-boundary c.args.self.now c.args.start utf8 c.requires.boundary, c.units_before.ensures, ap length same, c.as_bytes-bytes.type_inv.0)
+    omega (
+      arith,
+      units-boundary c.args.self.now c.args.start utf8 c.requires.boundary,
+      c.units_before.ensures,
+      ap length same,
+      c.as_bytes-bytes.type_inv.0,
+    )
 
 pub last_up_to-mark-requires-clause-ordered : goal.last_up_to-mark-requires-clause-ordered
 last_up_to-mark-requires-clause-ordered g c = marks-ordered _ _ _ c.marks-marks.ensures
@@ -37,7 +44,8 @@ returns-clause-fits g c =
     let from = from-units c.args.self.now (c.last_up_to-mark.result * 64) c.args.start c.max-from.result
     (c.units_before.result + c.args.column) c.max-from.ensures
     (omega (arith, mark.0, c.last_up_to-mark.ensures.up_to)) (omega (arith, c.units_before.ensures)) in
-    room-fits c.args.self.now c.as_bytes-bytes.result.now c.args.start c.args.end c.max-from.result c.args.column c.units_before.result c.units_before-2.result
+    room-fits c.args.self.now c.as_bytes-bytes.result.now c.args.start c.args.end c.max-from.result c.args.column
+    c.units_before.result c.units_before-2.result
     (c.units_before.result + c.args.column - c.units_before-2.result) c.fitting.result (record {
       same = c.as_bytes-bytes.ensures.value ∙ c.self.view_is;
       start_units = c.units_before.ensures;
@@ -58,7 +66,8 @@ returns-clause-full g c =
     let from = from-units c.args.self.now (c.last_up_to-mark.result * 64) c.args.start c.max-from.result
     (c.units_before.result + c.args.column) c.max-from.ensures
     (omega (arith, mark.0, c.last_up_to-mark.ensures.up_to)) (omega (arith, c.units_before.ensures)) in
-    room-full c.args.self.now c.as_bytes-bytes.result.now c.args.start c.args.end c.max-from.result c.args.column c.units_before.result c.units_before-2.result
+    room-full c.args.self.now c.as_bytes-bytes.result.now c.args.start c.args.end c.max-from.result c.args.column
+    c.units_before.result c.units_before-2.result
     (c.units_before.result + c.args.column - c.units_before-2.result) c.fitting.result (record {
       same = c.as_bytes-bytes.ensures.value ∙ c.self.view_is;
       start_units = c.units_before.ensures;
@@ -76,7 +85,11 @@ returns-clause-full g c =
 pub returns-then-is_empty-clause-fits : goal.returns-then-is_empty-clause-fits
 returns-then-is_empty-clause-fits g c =
     let ascii = c.marks-marks.ensures.none (no-marks _ _ c.is_empty.ensures c.if-is_empty.true) in
-    omega (arith, ascii-slice c.args.self.now c.args.start c.args.column ascii (omega (arith, c.requires.short, c.requires.within)))
+    omega (
+      arith,
+      ascii-slice c.args.self.now c.args.start c.args.column ascii
+          (omega (arith, c.requires.short, c.requires.within)),
+    )
 
 pub returns-then-is_empty-clause-full : goal.returns-then-is_empty-clause-full
 returns-then-is_empty-clause-full g c =

@@ -4,4 +4,6 @@ use Rattle.line_index.proofs.LineIndex.line_text.Goals as goal
 
 pub range_from-requires : goal.range_from-requires
 range_from-requires g c =
-    λ some. rw c.self.view_is (column-boundary _ _ _ (rw c.self.view_is at (IsUtf8-had _ c.self.invariant.utf8)) c.requires c.line_column.ensures.column)
+    λ some. rw c.self.view_is
+    (column-boundary _ _ _ (rw c.self.view_is at (IsUtf8-had _ c.self.invariant.utf8)) c.requires
+    c.line_column.ensures.column)

@@ -13,7 +13,8 @@ returns-then-is_empty g c =
 pub weight_of-requires : goal.weight_of-requires
 weight_of-requires g c =
     let at = c.args.offset / 64 * 64 in
-    weight-part c.args.counted c.as_bytes.result.now at (c.args.offset - at) c.as_bytes.ensures.utf8 c.as_bytes.type_inv.0
+    weight-part c.args.counted c.as_bytes.result.now at (c.args.offset - at)
+    c.as_bytes.ensures.utf8 c.as_bytes.type_inv.0
 
 pub overflow_add-result : goal.overflow_add-result
 overflow_add-result g c =

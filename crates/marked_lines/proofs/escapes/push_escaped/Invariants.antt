@@ -8,4 +8,5 @@ use Rattle.marked_lines.proofs.escapes.push_escaped.Given as goal
 -- what is shown so far and what is left is the text
 abbrev pub invariant-loop-c : goal.invariant-loop-c
 invariant-loop-c g l =
-    IsUtf8 (chars_rest l.c-iterator) × (string_bytes l.report ++ shown (chars_rest l.c-iterator) ≡ string_bytes l.fn.report ++ shown l.fn.text)
+    IsUtf8 (chars_rest l.c-iterator)
+    × (string_bytes l.report ++ shown (chars_rest l.c-iterator) ≡ string_bytes l.fn.report ++ shown l.fn.text)

@@ -17,10 +17,12 @@ loop-init g c = record {
 
 pub returns-in_default-clause-ok : goal.returns-in_default-clause-ok
 returns-in_default-clause-ok g c =
-    let empty = drained as_found_path c.loop.search.waiting.items c.pop.new.self.items _ c.in_default.ensures.items c.in_default.ensures.rest
+    let empty = drained as_found_path c.loop.search.waiting.items c.pop.new.self.items _ c.in_default.ensures.items
+    c.in_default.ensures.rest
     c.in_default.ensures.cases.0 in
     ends g.F.Files.lists _ _ _ _
-    (subst (λ (waiting : List FoundPath). Advances g.F.Files.lists (folder c.args.path.now ∷ []) [] c.args.files.now waiting
+    (subst (λ (waiting : List FoundPath). Advances g.F.Files.lists (folder c.args.path.now ∷ []) []
+    c.args.files.now waiting
     (found_by c.loop.search) c.loop.files)
     empty c.loop.invariant.advances)
 
@@ -30,9 +32,11 @@ returns-in_err-look-clause-lists g c = lists_on g.F.Files.lists _ _ _ c.loop.inv
 pub loop-preserved : goal.loop-preserved
 loop-preserved g c = record {
   advances =
-      let next = popped as_found_path c.loop.search.waiting.items c.pop.new.self.items c.in-Some.found_path c.in-Some.ensures.items in
+      let next = popped as_found_path c.loop.search.waiting.items c.pop.new.self.items c.in-Some.found_path
+      c.in-Some.ensures.items in
       goes_on g.F.Files.lists _ _ _ _ _ _ _ _ _
-      (subst (λ (waiting : List FoundPath). Advances g.F.Files.lists (folder c.args.path.now ∷ []) [] c.args.files.now waiting
+      (subst (λ (waiting : List FoundPath). Advances g.F.Files.lists (folder c.args.path.now ∷ []) []
+      c.args.files.now waiting
       (found_by c.loop.search) c.loop.files)
       next c.loop.invariant.advances) c.in_ok-look.ensures.ok;
   lists = lists_on g.F.Files.lists _ _ _ c.loop.invariant.lists c.look.ensures.lists;

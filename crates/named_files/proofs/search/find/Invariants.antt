@@ -5,6 +5,7 @@ use Rattle.named_files.proofs.search.find.Given as goal
 
 abbrev pub invariant-loop : goal.invariant-loop
 invariant-loop g l = record {
-  advances : Advances g.F.Files.lists (folder l.fn.path ∷ []) [] l.fn.files (waiting_of l.search) (found_by l.search) l.files;
+  advances : Advances g.F.Files.lists (folder l.fn.path ∷ []) [] l.fn.files (waiting_of l.search)
+      (found_by l.search) l.files;
   lists : Lists g.F.Files.lists l.fn.files l.files;
 }

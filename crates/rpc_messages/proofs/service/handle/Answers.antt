@@ -5,4 +5,5 @@ use Rattle.rpc_messages.proofs.service.handle.Goals as goal
 
 pub returns-in-Err-Invalid-clause-replies : goal.returns-in-Err-Invalid-clause-replies
 returns-in-Err-Invalid-clause-replies g c = IfOk-weaker c.refused.result _ _
-    (λ r. no_json_refused _ r (c.in-Err-Invalid.ensures.invalid (ap Err c.in-Err-Invalid.field-0-is))) c.refused.ensures.replies
+    (λ r. no_json_refused _ r (c.in-Err-Invalid.ensures.invalid (ap Err c.in-Err-Invalid.field-0-is)))
+    c.refused.ensures.replies

@@ -4,4 +4,6 @@ use Rattle.rpc_serving.specs.Frames.{length_in}
 use Rattle.rpc_serving.proofs.frames.length_in.Given as goal
 
 abbrev pub invariant-loop-header : goal.invariant-loop-header
-invariant-loop-header l = length_in (map (header_bytes l.bytes) l.headers) ≡ length_in (map (header_bytes l.bytes) (drop l.header-index l.headers))
+invariant-loop-header l =
+    length_in (map (header_bytes l.bytes) l.headers)
+    ≡ length_in (map (header_bytes l.bytes) (drop l.header-index l.headers))

@@ -15,5 +15,6 @@ pub returns : goal.returns
 returns c =
     let all : list_all is_ascii_digit c.args.digits.now ≡ true = sym c.are_digits.ensures ∙ c.if-not-are_digits.false in
     subst (λ (o : Option ℕ). Agrees (numeral c.args.digits.now) o) (sym c.ok.ensures.value)
-    (agrees-parsed _ c.args.digits.now c.parse.result all (subst (λ (t : List ℕ). ParsesUnsigned 64 10 t c.parse.result) c.in-Ok.ensures.cases.0
+    (agrees-parsed _ c.args.digits.now c.parse.result all
+    (subst (λ (t : List ℕ). ParsesUnsigned 64 10 t c.parse.result) c.in-Ok.ensures.cases.0
     c.parse.ensures.value.0))

@@ -7,5 +7,6 @@ use Rattle.schema_members.proofs.definitions.push_members.Given as goal
 
 abbrev pub invariant-loop-block : goal.invariant-loop-block
 invariant-loop-block l =
-    map located l.found.items ++ located_in l.fn.definition.document (flat_map members_of_block (rest_nodes l.block-iterator))
+    map located l.found.items
+    ++ located_in l.fn.definition.document (flat_map members_of_block (rest_nodes l.block-iterator))
     ≡ map located l.fn.found.items ++ located_in l.fn.definition.document (members_in (node_place l.fn.definition.node))

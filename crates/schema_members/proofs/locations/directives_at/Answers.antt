@@ -13,5 +13,6 @@ returns-in_ok-found-in-Some c =
     let owner : directive_owner (token_place c.args.leaf) ≡ Some (node_place c.in-Some.owner) =
     sym c.owner_of.ensures ∙ ap (option_map node_place) c.in-Some.is in
     let at : Option Place → Type 0 =
-    λ o. MatchOption o (found ≡ []) (λ p. (location : List ℕ) × IsLocation p location × (found ≡ in_documents (directives_in location) 0 roots)) in
+    λ o. MatchOption o (found ≡ [])
+    (λ p. (location : List ℕ) × IsLocation p location × (found ≡ in_documents (directives_in location) 0 roots)) in
     subst at (sym owner) (c.location_of.result.now, c.location_of.ensures, c.in_ok-found-in-Some.ensures)

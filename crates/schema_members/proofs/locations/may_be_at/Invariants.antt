@@ -6,4 +6,6 @@ use Rattle.schema_members.specs.Locations.{lists_location, may_be_at}
 use Rattle.schema_members.proofs.locations.may_be_at.Given as goal
 
 abbrev pub invariant-loop-part : goal.invariant-loop-part
-invariant-loop-part l = list_any (lists_location l.location) (rest_nodes l.part-iterator) ≡ may_be_at l.location (node_place l.fn.definition)
+invariant-loop-part l =
+    list_any (lists_location l.location) (rest_nodes l.part-iterator)
+    ≡ may_be_at l.location (node_place l.fn.definition)

@@ -8,5 +8,6 @@ use Rattle.schema_members.proofs.locations.push_directives.Given as goal
 
 abbrev pub invariant-loop-node : goal.invariant-loop-node
 invariant-loop-node l =
-    map located l.found.items ++ located_in l.document (filter (is_directive_for l.location) (rest_nodes l.node-iterator))
+    map located l.found.items
+    ++ located_in l.document (filter (is_directive_for l.location) (rest_nodes l.node-iterator))
     ≡ map located l.fn.found.items ++ located_in l.document (directives_in l.location (node_place l.fn.root))

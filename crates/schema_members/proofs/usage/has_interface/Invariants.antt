@@ -9,4 +9,5 @@ use Rattle.schema_members.proofs.usage.has_interface.Given as goal
 
 abbrev pub invariant-loop-part : goal.invariant-loop-part
 invariant-loop-part l =
-    list_any (is_of IMPLEMENTS_INTERFACES) (rest_nodes l.part-iterator) ≡ list_any (is_of IMPLEMENTS_INTERFACES) (child_nodes (node_place l.fn.definition))
+    list_any (is_of IMPLEMENTS_INTERFACES) (rest_nodes l.part-iterator)
+    ≡ list_any (is_of IMPLEMENTS_INTERFACES) (child_nodes (node_place l.fn.definition))

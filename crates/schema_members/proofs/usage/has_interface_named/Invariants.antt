@@ -7,4 +7,5 @@ use Rattle.schema_members.proofs.usage.has_interface_named.Given as goal
 
 abbrev pub invariant-loop-definition : goal.invariant-loop-definition
 invariant-loop-definition l =
-    list_any (is_interface_named l.name) (rest_nodes l.definition-iterator) ≡ has_interface_named l.name (node_place l.fn.root)
+    list_any (is_interface_named l.name) (rest_nodes l.definition-iterator)
+    ≡ has_interface_named l.name (node_place l.fn.root)

@@ -8,4 +8,6 @@ use Rattle.schema_members.specs.declared.definitions.TheConstants.{TYPES}
 use Rattle.schema_members.proofs.usage.type_around.Given as goal
 
 abbrev pub invariant-loop-outer : goal.invariant-loop-outer
-invariant-loop-outer l = find (is_of_one TYPES) (rest_ancestors l.outer-iterator) ≡ find (is_of_one TYPES) (at_or_above (node_place l.fn.node))
+invariant-loop-outer l =
+    find (is_of_one TYPES) (rest_ancestors l.outer-iterator)
+    ≡ find (is_of_one TYPES) (at_or_above (node_place l.fn.node))

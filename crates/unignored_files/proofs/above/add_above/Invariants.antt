@@ -8,7 +8,8 @@ use Rattle.unignored_files.proofs.above.add_above.Given as goal
 abbrev pub invariant-loop-folder : goal.invariant-loop-folder
 invariant-loop-folder g l = record {
   added : HasAdded g.F.Files.reads (files_of_all l.fn.above.is_repository (folders_of l.fn.above))
-      (files_of_all l.above.is_repository (folders_of l.above)) (as_rules l.fn.rules) (as_rules l.rules) l.fn.files l.files;
+      (files_of_all l.above.is_repository (folders_of l.above)) (as_rules l.fn.rules) (as_rules l.rules)
+      l.fn.files l.files;
   same : l.above.is_repository ≡ l.fn.above.is_repository;
 }
 

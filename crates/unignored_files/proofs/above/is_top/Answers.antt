@@ -4,7 +4,8 @@ use Rattle.unignored_files.proofs.above.is_top.Goals as goal
 
 pub returns-in-Ok-clause-ok : goal.returns-in-Ok-clause-ok
 returns-in-Ok-clause-ok g c =
-    top (subst (λ (path : List ℕ). g.F.Files.reads c.args.files.now path (Ok c.in-Ok.field-0.items) c.read_up_to.new.self)
+    top (subst (λ (path : List ℕ). g.F.Files.reads c.args.files.now path (Ok c.in-Ok.field-0.items)
+    c.read_up_to.new.self)
     (c.as_str.ensures ∙ c.in_ok-path.ensures) c.in-Ok.ensures) tt
 
 pub returns-in-NotFound-clause-ok : goal.returns-in-NotFound-clause-ok
@@ -18,6 +19,10 @@ returns g c = record {
   ok =
       top (subst (λ (path : List ℕ). g.F.Files.reads c.args.files.now path (Err c.in-Err.error) c.read_up_to.new.self)
       (c.as_str.ensures ∙ c.in_ok-path.ensures) c.in-Err.ensures)
-      (λ missing. elim missing [ inl e ↦ c.in_default.not-NotFound (c.kind.ensures ∙ e) | inr e ↦ c.in_default.not-NotADirectory (c.kind.ensures ∙ e) ]);
+      (λ missing. elim missing [
+        | inl e ↦ c.in_default.not-NotFound (c.kind.ensures ∙ e)
+        | inr e ↦
+            c.in_default.not-NotADirectory (c.kind.ensures ∙ e)
+      ]);
   err = tt;
 }

@@ -8,14 +8,18 @@ pub returns-in_err-add_file-clause-err : goal.returns-in_err-add_file-clause-err
 returns-in_err-add_file-clause-err g c =
     let p = err_from_is_err_and c.from_residual.result c.from_residual.ensures.1 in
     rw (p.1, p.2)
-    (fails_before g.F.Files.reads (file_at c.args.folder.now (codes ".prettierignore") ∷ []) (file_at c.args.folder.now (codes ".gqlfmtignore") ∷ [])
+    (fails_before g.F.Files.reads (file_at c.args.folder.now (codes ".prettierignore") ∷ [])
+    (file_at c.args.folder.now (codes ".gqlfmtignore") ∷ [])
     _ _ _ _ c.in_err-add_file.ensures.err)
 
 pub returns-clause-ok : goal.returns-clause-ok
-returns-clause-ok g c = on_ok_weaker c.add_file-2.result (λ adds. adds_on g.F.Files.reads c.in_ok-add_file.ensures.ok adds) c.add_file-2.ensures.ok
+returns-clause-ok g c =
+    on_ok_weaker c.add_file-2.result (λ adds. adds_on g.F.Files.reads c.in_ok-add_file.ensures.ok adds)
+    c.add_file-2.ensures.ok
 
 pub returns-clause-err : goal.returns-clause-err
 returns-clause-err g c =
     IfErr-weaker c.add_file-2.result _ _ (λ error fails.
-    fails_after g.F.Files.reads (file_at c.args.folder.now (codes ".prettierignore") ∷ []) (file_at c.args.folder.now (codes ".gqlfmtignore") ∷ [])
+    fails_after g.F.Files.reads (file_at c.args.folder.now (codes ".prettierignore") ∷ [])
+    (file_at c.args.folder.now (codes ".gqlfmtignore") ∷ [])
     _ _ _ _ _ error c.in_ok-add_file.ensures.ok fails) c.add_file-2.ensures.err

@@ -6,4 +6,5 @@ use Rattle.unignored_files.specs.Unignored.{is_kept}
 use Rattle.unignored_files.proofs.kept_entries.sift.Given as goal
 
 abbrev pub invariant-loop-entry : goal.invariant-loop-entry
-invariant-loop-entry g l = l.kept.items ≡ filter (λ entry. is_kept (as_rules l.rules) l.folder (as_entry entry)) l.yielded
+invariant-loop-entry g l =
+    l.kept.items ≡ filter (λ entry. is_kept (as_rules l.rules) l.folder (as_entry entry)) l.yielded

@@ -6,4 +6,6 @@ use Rattle.validation_names.specs.Definitions.{as_defined, defined, defined_at}
 use Rattle.validation_names.proofs.executables.definitions.Given as goal
 
 abbrev pub invariant-loop-node : goal.invariant-loop-node
-invariant-loop-node g l = map as_defined l.definitions.items ++ filter_map defined_at (rest_nodes l.node-iterator) ≡ defined (node_place l.document)
+invariant-loop-node g l =
+    map as_defined l.definitions.items
+    ++ filter_map defined_at (rest_nodes l.node-iterator) ≡ defined (node_place l.document)

@@ -32,6 +32,8 @@ loop-number-preserved g c =
     elim c.match-fragment_name.branch [
       | in-Some+in_ok-enter w ↦ λ q.
           rw (w.fragments-is, more, ← w.in-Some.ensures)
-          (named_more old w.enter.new.entries (names_of ds n) _ n c.loop-number.invariant (count_names ds n inside) w.in_ok-enter.ensures.entered q)
-      | in_default w ↦ λ q. rw (w.fragments-is, more, ← w.in_default.ensures) (unnamed_more old (names_of ds n) c.loop-number.invariant q)
+          (named_more old w.enter.new.entries (names_of ds n) _ n c.loop-number.invariant (count_names ds n inside)
+          w.in_ok-enter.ensures.entered q)
+      | in_default w ↦ λ q. rw (w.fragments-is, more, ← w.in_default.ensures)
+          (unnamed_more old (names_of ds n) c.loop-number.invariant q)
     ]

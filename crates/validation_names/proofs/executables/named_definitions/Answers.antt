@@ -9,7 +9,8 @@ use Rattle.validation_names.proofs.executables.named_definitions.Goals.{in-Some+
 pub loop-definition-preserved : goal.loop-definition-preserved
 loop-definition-preserved g c =
     let more =
-    filter_map_more (named c.args.kind) as_defined c.args.definitions.now c.loop-definition.definition-index c.definition-item.result
+    filter_map_more (named c.args.kind) as_defined c.args.definitions.now c.loop-definition.definition-index
+    c.definition-item.result
     c.loop-definition-test.true c.definition-item.is in
     elim c.match-named.branch [
       | in-Some+in_ok-push w ↦

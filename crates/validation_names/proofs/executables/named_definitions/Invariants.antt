@@ -4,4 +4,5 @@ use Rattle.validation_names.specs.Mentions.{as_named}
 use Rattle.validation_names.proofs.executables.named_definitions.Given as goal
 
 abbrev pub invariant-loop-definition : goal.invariant-loop-definition
-invariant-loop-definition g l = map as_named l.found.items ≡ named_definitions l.kind (map as_defined (take l.definition-index l.definitions))
+invariant-loop-definition g l =
+    map as_named l.found.items ≡ named_definitions l.kind (map as_defined (take l.definition-index l.definitions))

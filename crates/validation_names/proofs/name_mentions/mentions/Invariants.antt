@@ -7,4 +7,5 @@ use Rattle.validation_names.proofs.name_mentions.mentions.Given as goal
 
 abbrev pub invariant-loop-node : goal.invariant-loop-node
 invariant-loop-node g l =
-    map as_named l.found.items ++ filter_map (mentioned l.mention) (rest_descendant_nodes l.node-iterator) ≡ mentions l.mention (node_place l.root)
+    map as_named l.found.items
+    ++ filter_map (mentioned l.mention) (rest_descendant_nodes l.node-iterator) ≡ mentions l.mention (node_place l.root)

@@ -11,13 +11,22 @@ loop-number-preserved c =
     let ds = map as_parts c.args.parts.now in
     let n = c.loop-number.number in
     let read : is_operation (at ds n) ≡ c.is_operation.result =
-    ap is_operation (at_read c.args.parts.now n c.index-parts-number.result c.loop-number-test.true c.index-parts-number.is) ∙ sym c.is_operation.ensures in
+    ap is_operation (at_read c.args.parts.now n c.index-parts-number.result c.loop-number-test.true
+    c.index-parts-number.is) ∙ sym c.is_operation.ensures in
     elim c.if-is_operation.branch [
       | then-is_operation+in_ok-push w ↦
-          rw (w.numbers-is, w.in_ok-push.ensures.items, filter_range_more (λ k. is_operation (at ds k)) n true (read ∙ w.if-is_operation.true))
+          rw (
+            w.numbers-is,
+            w.in_ok-push.ensures.items,
+            filter_range_more (λ k. is_operation (at ds k)) n true (read ∙ w.if-is_operation.true),
+          )
           (ap (λ xs. xs ++ n ∷ []) c.loop-number.invariant)
       | else-is_operation w ↦
-          rw (w.numbers-is, filter_range_more (λ k. is_operation (at ds k)) n false (read ∙ w.if-is_operation.false), append-nil) c.loop-number.invariant
+          rw (
+            w.numbers-is,
+            filter_range_more (λ k. is_operation (at ds k)) n false (read ∙ w.if-is_operation.false),
+            append-nil,
+          ) c.loop-number.invariant
     ]
 
 pub returns : goal.returns

@@ -4,4 +4,5 @@ use Rattle.validation_rules.specs.Parts.{as_parts, at, is_operation}
 use Rattle.validation_rules.proofs.definition_parts.operations.Given as goal
 
 abbrev pub invariant-loop-number : goal.invariant-loop-number
-invariant-loop-number l = l.numbers.items ≡ filter (λ number. is_operation (at (map as_parts l.parts) number)) (range_with_len 0 l.number)
+invariant-loop-number l =
+    l.numbers.items ≡ filter (λ number. is_operation (at (map as_parts l.parts) number)) (range_with_len 0 l.number)

@@ -4,4 +4,5 @@ use Rattle.validation_rules.specs.Parts.{as_parts, parts_of}
 use Rattle.validation_rules.proofs.definition_parts.parts.Given as goal
 
 abbrev pub invariant-loop-definition : goal.invariant-loop-definition
-invariant-loop-definition l = map as_parts l.parts.items ≡ map (λ d. parts_of (as_defined d)) (take l.definition-index l.definitions)
+invariant-loop-definition l =
+    map as_parts l.parts.items ≡ map (λ d. parts_of (as_defined d)) (take l.definition-index l.definitions)

@@ -11,4 +11,5 @@ returns-clause-graph c =
 pub returns-clause-closed : goal.returns-clause-closed
 returns-clause-closed c =
     let end : c.loop-definition.definition-index ≡ length c.args.parts.now = omega arith in
-    is_closed _ _ (is_spread_graph _ c.args.fragments.now _ c.requires (rw (end, take-length) at c.loop-definition.invariant))
+    is_closed _ _ (is_spread_graph _ c.args.fragments.now _ c.requires
+    (rw (end, take-length) at c.loop-definition.invariant))

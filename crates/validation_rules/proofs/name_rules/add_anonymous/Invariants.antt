@@ -7,5 +7,6 @@ use Rattle.validation_rules.proofs.name_rules.add_anonymous.Given as goal
 
 abbrev pub invariant-loop-number : goal.invariant-loop-number
 invariant-loop-number l =
-    Adds (Below (NotAloneAt (map as_parts l.parts)) l.number-index) (AllBelow (AloneAt (map as_parts l.parts)) l.number-index) l.initial.violations
+    Adds (Below (NotAloneAt (map as_parts l.parts)) l.number-index)
+    (AllBelow (AloneAt (map as_parts l.parts)) l.number-index) l.initial.violations
     l.violations

@@ -11,6 +11,7 @@ abbrev pub invariant-loop-number : goal.invariant-loop-number
 invariant-loop-number l = record {
   first : AreFirstNumbers l.numbers (take l.number (names (map as_named l.items)));
   adds :
-      Adds (Below (RepeatAt l.rule (map as_named l.items)) l.number) (AllBelow (UniqueAt (map as_named l.items)) l.number) l.initial.violations
+      Adds (Below (RepeatAt l.rule (map as_named l.items)) l.number)
+      (AllBelow (UniqueAt (map as_named l.items)) l.number) l.initial.violations
       l.violations;
 }

@@ -19,11 +19,14 @@ loop-item-preserved g c =
     elim c.if-not-is_entered.branch [
       | then-not-is_entered+in_ok-add w ↦
           rw w.violations-is
-          (unknown_more c.args.rule other (HasEntry c.args.known.now) items n _ _ _ c.requires (simp length-map c.loop-item-test.true)
-          (rw read (λ has. let e : true ≡ false = sym has ∙ sym c.is_entered.ensures ∙ w.if-not-is_entered.true in cc)) inv (rw read w.in_ok-add.ensures))
+          (unknown_more c.args.rule other (HasEntry c.args.known.now) items n _ _ _ c.requires
+          (simp length-map c.loop-item-test.true)
+          (rw read (λ has. let e : true ≡ false = sym has ∙ sym c.is_entered.ensures ∙ w.if-not-is_entered.true in cc))
+          inv (rw read w.in_ok-add.ensures))
       | else-not-is_entered w ↦
           rw w.violations-is
-          (known_more c.args.rule other (HasEntry c.args.known.now) items n _ _ (rw read (sym c.is_entered.ensures ∙ w.if-not-is_entered.false)) inv)
+          (known_more c.args.rule other (HasEntry c.args.known.now) items n _ _
+          (rw read (sym c.is_entered.ensures ∙ w.if-not-is_entered.false)) inv)
     ]
 
 pub returns-then-is_full : goal.returns-then-is_full
@@ -32,10 +35,12 @@ returns-then-is_full g c =
     let le : c.loop-item.item-index ≤ length items = simp length-map (omega arith) in
     let full = c.if-is_full.ensures in
     let filled : c.loop-item.violations.most ≤ count c.loop-item.violations = grind (arith, nat_tests, full) in
-    unknown_full c.args.rule (option_map node_place c.args.other) (HasEntry c.args.known.now) items _ _ _ le filled c.loop-item.invariant
+    unknown_full c.args.rule (option_map node_place c.args.other) (HasEntry c.args.known.now) items _ _ _ le
+    filled c.loop-item.invariant
 
 pub returns : goal.returns
 returns g c =
     let items = map as_named c.args.items.now in
     let end : c.loop-item.item-index ≡ length items = simp length-map (omega arith) in
-    unknown_all c.args.rule (option_map node_place c.args.other) (HasEntry c.args.known.now) items _ _ _ end c.loop-item.invariant
+    unknown_all c.args.rule (option_map node_place c.args.other) (HasEntry c.args.known.now) items _ _ _
+    end c.loop-item.invariant

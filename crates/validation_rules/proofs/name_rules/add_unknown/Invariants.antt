@@ -9,5 +9,6 @@ use Rattle.validation_rules.proofs.name_rules.add_unknown.Given as goal
 
 abbrev pub invariant-loop-item : goal.invariant-loop-item
 invariant-loop-item g l =
-    Adds (Below (UnknownAt l.rule (option_map node_place l.other) (HasEntry l.known) (map as_named l.items)) l.item-index)
+    Adds (Below (UnknownAt l.rule (option_map node_place l.other) (HasEntry l.known) (map as_named l.items))
+    l.item-index)
     (AllBelow (KnownAt (HasEntry l.known) (map as_named l.items)) l.item-index) l.initial.violations l.violations

@@ -7,4 +7,5 @@ use Rattle.validation_rules.proofs.spread_rules.add_cycles.Given as goal
 
 abbrev pub invariant-loop-number : goal.invariant-loop-number
 invariant-loop-number l =
-    Adds (Below (CycleAt (map as_parts l.parts)) l.number) (AllBelow (NoCycleAt (map as_parts l.parts)) l.number) l.initial.violations l.violations
+    Adds (Below (CycleAt (map as_parts l.parts)) l.number) (AllBelow (NoCycleAt (map as_parts l.parts)) l.number)
+    l.initial.violations l.violations

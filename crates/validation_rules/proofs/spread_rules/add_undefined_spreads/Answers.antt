@@ -19,8 +19,10 @@ pub loop-number-preserved : goal.loop-number-preserved
 loop-number-preserved c =
     let spreads = ap (λ (d : Parts). d.spreads) c.part_at.ensures in
     let same = ap (map as_named) c.deref.ensures.value ∙ spreads in
-    let inside : c.loop-number.number < length (map as_parts c.args.parts.now) = simp length-map c.loop-number-test.true in
-    spreads_more (map as_parts c.args.parts.now) c.args.fragments.now c.loop-number.number _ _ _ _ c.requires.document inside c.requires.fragments same
+    let inside : c.loop-number.number < length (map as_parts c.args.parts.now) =
+    simp length-map c.loop-number-test.true in
+    spreads_more (map as_parts c.args.parts.now) c.args.fragments.now c.loop-number.number _ _ _ _ c.requires.document
+    inside c.requires.fragments same
     c.loop-number.invariant
     c.in_ok-add_unknown.ensures
 

@@ -9,4 +9,5 @@ use Rattle.validation_rules.proofs.spread_rules.add_undefined_spreads.Given as g
 abbrev pub invariant-loop-number : goal.invariant-loop-number
 invariant-loop-number l =
     Adds (Below (IsUndefinedSpreadOf (map as_parts l.parts)) l.number)
-    (AllBelow (λ k. AreKnown (IsFragmentName (map as_parts l.parts)) (at (map as_parts l.parts) k).spreads) l.number) l.initial.violations l.violations
+    (AllBelow (λ k. AreKnown (IsFragmentName (map as_parts l.parts)) (at (map as_parts l.parts) k).spreads) l.number)
+    l.initial.violations l.violations

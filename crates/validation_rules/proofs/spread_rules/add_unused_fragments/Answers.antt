@@ -24,7 +24,8 @@ loop-number-preserved c =
     let marked = c.in_ok-marks.ensures.marked n in
     let starts = c.requires.numbers in
     let inside : n < length ds = simp length-map c.loop-number-test.true in
-    let below : n < length marks = rw (c.in_ok-marks.ensures.as_many, c.requires.graph.as_many, length-map) c.loop-number-test.true in
+    let below : n < length marks =
+    rw (c.in_ok-marks.ensures.as_many, c.requires.graph.as_many, length-map) c.loop-number-test.true in
     elim c.if-not-index.branch [
       | then-not-index+in_ok-add w ↦
           let off = read_false marks n _ c.index.ensures w.if-not-index.true in
@@ -36,7 +37,8 @@ loop-number-preserved c =
           (rw place w.in_ok-add.ensures))
       | else-not-index w ↦
           let on = read_true marks n _ below c.index.ensures w.if-not-index.false in
-          rw w.violations-is (used_more ds n _ _ (to_reaches ds graph (operations ds) c.requires.graph n (rw starts at (marked.0 on))) inv)
+          rw w.violations-is (used_more ds n _ _
+          (to_reaches ds graph (operations ds) c.requires.graph n (rw starts at (marked.0 on))) inv)
     ]
 
 pub returns-then-is_full : goal.returns-then-is_full

@@ -7,4 +7,5 @@ use Rattle.validation_rules.proofs.spread_rules.add_unused_fragments.Given as go
 
 abbrev pub invariant-loop-number : goal.invariant-loop-number
 invariant-loop-number l =
-    Adds (Below (UnusedAt (map as_parts l.parts)) l.number) (AllBelow (UsedAt (map as_parts l.parts)) l.number) l.initial.violations l.violations
+    Adds (Below (UnusedAt (map as_parts l.parts)) l.number) (AllBelow (UsedAt (map as_parts l.parts)) l.number)
+    l.initial.violations l.violations

@@ -9,4 +9,5 @@ use Rattle.validation_rules.proofs.variable_rules.add_undefined.Given as goal
 abbrev pub invariant-loop-number : goal.invariant-loop-number
 invariant-loop-number l =
     Adds (Below (NumberBreaks l.numbers (UndefinedIn (map as_parts l.parts) l.operation)) l.number-index)
-    (AllBelow (NumberIsWell l.numbers (DefinedIn (map as_parts l.parts) l.operation)) l.number-index) l.initial.violations l.violations
+    (AllBelow (NumberIsWell l.numbers (DefinedIn (map as_parts l.parts) l.operation)) l.number-index)
+    l.initial.violations l.violations

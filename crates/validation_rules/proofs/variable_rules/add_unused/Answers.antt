@@ -24,7 +24,8 @@ returns c =
     let place = ap (λ (d : Parts). Some d.definition.place) c.part_at.ensures in
     let same = ap (map as_named) c.deref.ensures.value ∙ ap (λ (d : Parts). d.declared) c.part_at-2.ensures in
     let used = c.in_ok-used.ensures in
-    known_same NoUnusedVariables (Some (place_at ds o)) (HasEntry c.in_ok-used.used) (IsUsed ds o) (at ds o).declared _ _
+    known_same NoUnusedVariables (Some (place_at ds o)) (HasEntry c.in_ok-used.used) (IsUsed ds o) (at ds o).declared
+    _ _
     (λ name has. used_to ds o numbers are name ((used name).0 has))
     (λ name is. (used name).1 (used_from ds o numbers are name is))
     (rw (← place, ← same) c.in_ok-add_unknown.ensures)

@@ -25,7 +25,8 @@ loop-number-preserved c =
           adds_more (NumberBreaks c.args.numbers.now (BreaksVariablesOf ds)) (NumberIsWell c.args.numbers.now
           (VariablesAreWellOf ds)) c.loop-number.number-index
           _ c.loop-number.violations _
-          (λ k less. variables_apart ds c.args.numbers.now c.requires.document c.requires.numbers k c.loop-number.number-index less c.loop-number-test.true)
+          (λ k less. variables_apart ds c.args.numbers.now c.requires.document c.requires.numbers k
+          c.loop-number.number-index less c.loop-number-test.true)
           c.loop-number.invariant.adds c.in_ok-add_operation.ensures.adds;
     }
 
@@ -38,7 +39,8 @@ returns-then-is_full c =
     let P : List ℕ → Type 0 = λ numbers. Adds (Among numbers (BreaksVariablesOf ds)) (AllAmong numbers
     (VariablesAreWellOf ds)) c.args.violations.now c.loop-number.violations in
     subst P c.requires.numbers
-    (among_full c.args.numbers.now (BreaksVariablesOf ds) (VariablesAreWellOf ds) _ _ _ le filled c.loop-number.invariant.adds)
+    (among_full c.args.numbers.now (BreaksVariablesOf ds) (VariablesAreWellOf ds) _ _ _ le filled
+    c.loop-number.invariant.adds)
 
 pub returns : goal.returns
 returns c =

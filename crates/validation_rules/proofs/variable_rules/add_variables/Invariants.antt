@@ -14,5 +14,6 @@ invariant-loop-number l = record {
   unmarked : AreUnmarked l.marks.items;
   adds :
       Adds (Below (NumberBreaks l.numbers (BreaksVariablesOf (map as_parts l.parts))) l.number-index)
-      (AllBelow (NumberIsWell l.numbers (VariablesAreWellOf (map as_parts l.parts))) l.number-index) l.initial.violations l.violations;
+      (AllBelow (NumberIsWell l.numbers (VariablesAreWellOf (map as_parts l.parts))) l.number-index)
+      l.initial.violations l.violations;
 }

@@ -7,4 +7,5 @@ use Rattle.validation_rules.proofs.variable_rules.declared_names.Goals as goal
 pub returns : goal.returns
 returns c =
     let same = ap (map as_named) c.deref.ensures.value ∙ ap (λ (d : Parts). d.declared) c.part_at.ensures in
-    entered_alone c.new-known.result c.enter_names.new.known _ c.new-known.ensures.empty (rw same at c.in_ok-enter_names.ensures)
+    entered_alone c.new-known.result c.enter_names.new.known _ c.new-known.ensures.empty
+    (rw same at c.in_ok-enter_names.ensures)

@@ -11,8 +11,13 @@ loop-number-init c = enters_none c.args.known.now
 pub loop-number-preserved : goal.loop-number-preserved
 loop-number-preserved c =
     let item = c.index-items-number.result in
-    rw (take_more c.args.items.now c.loop-number.number item c.loop-number-test.true, map-append, ← c.index-items-number.is)
-    (enters_more c.args.known.now c.loop-number.known c.enter.new.entries _ (as_named item) _ c.loop-number.invariant c.in_ok-enter.ensures.entered)
+    rw (
+      take_more c.args.items.now c.loop-number.number item c.loop-number-test.true,
+      map-append,
+      ← c.index-items-number.is,
+    )
+    (enters_more c.args.known.now c.loop-number.known c.enter.new.entries _ (as_named item) _ c.loop-number.invariant
+    c.in_ok-enter.ensures.entered)
 
 pub returns : goal.returns
 returns c =

@@ -13,7 +13,8 @@ pub loop-number-preserved : goal.loop-number-preserved
 loop-number-preserved c =
     let same = ap (map as_named) c.deref.ensures.value ∙ ap (λ (d : Parts). d.used) c.part_at.ensures in
     rw (take_more c.args.numbers.now c.loop-number.number-index 0 c.loop-number-test.true)
-    (used_more (map as_parts c.args.parts.now) _ _ _ c.loop-number.known c.enter_names.new.known same c.loop-number.invariant c.in_ok-enter_names.ensures)
+    (used_more (map as_parts c.args.parts.now) _ _ _ c.loop-number.known c.enter_names.new.known same
+    c.loop-number.invariant c.in_ok-enter_names.ensures)
 
 pub returns : goal.returns
 returns c =

@@ -19,5 +19,7 @@ returns-in-Err c = λ fits.
     let kind = subst (λ n. is_kind INT_VALUE (node_kind n) ≡ true) (sym c.syntax.ensures) c.args.value.of_kind in
     let said = c.text.ensures.text ∙ ap (λ n. text_at (node_place n)) c.syntax.ensures in
     ∥∥₁_elim c.text.ensures.sound (hlevel props) (λ s.
-    let integer = subst IsIntegerPart (sym c.text.ensures.text) (IsIntegerPart-from_sound _ c.text.ensures.node kind s) in
-    c.in-Err.ensures.value.0 (integer-numeral c.text.result.now integer, subst (λ t. FitsSigned w32 (IntOf t)) (sym said) fits))
+    let integer = subst IsIntegerPart (sym c.text.ensures.text)
+    (IsIntegerPart-from_sound _ c.text.ensures.node kind s) in
+    c.in-Err.ensures.value.0
+    (integer-numeral c.text.result.now integer, subst (λ t. FitsSigned w32 (IntOf t)) (sym said) fits))

@@ -12,4 +12,5 @@ pub returns-clause-name : goal.returns-clause-name
 returns-clause-name c =
     let said = c.new.ensures ∙ c.text.ensures.text in
     let kind = subst (λ n. is_kind NAME (node_kind n) ≡ true) (sym c.syntax.ensures) c.args.self.now.of_kind in
-    subst IsName (sym said) (∥∥₁_elim c.text.ensures.sound (IsName-prop _) (λ h. IsName-from_sound _ c.text.ensures.node kind h))
+    subst IsName (sym said)
+    (∥∥₁_elim c.text.ensures.sound (IsName-prop _) (λ h. IsName-from_sound _ c.text.ensures.node kind h))

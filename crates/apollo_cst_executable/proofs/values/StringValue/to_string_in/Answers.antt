@@ -16,7 +16,8 @@ use Rattle.apollo_cst_executable.proofs.values.StringValue.to_string_in.Goals as
 pub string_value-requires : goal.string_value-requires
 string_value-requires g c =
     let kind = subst (λ n. is_kind STRING_VALUE (node_kind n) ≡ true) (sym c.syntax.ensures) c.args.self.now.of_kind in
-    ∥∥₁_elim c.text.ensures.sound (hlevel props) (λ s. ∣ subst IsString (sym c.text.ensures.text) (IsString-from_sound _ c.text.ensures.node kind s) ∣₁)
+    ∥∥₁_elim c.text.ensures.sound (hlevel props)
+    (λ s. ∣ subst IsString (sym c.text.ensures.text) (IsString-from_sound _ c.text.ensures.node kind s) ∣₁)
 
 pub returns : goal.returns
 returns g c =

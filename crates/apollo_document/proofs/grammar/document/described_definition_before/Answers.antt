@@ -20,7 +20,8 @@ unfolding holds
 returns-then-is_word g c =
     let brace = c.if-is_kind.ensures ∙ ap (is_at token.LCurly) c.requires in
     let extend = c.if-is_word.ensures ∙ ap (is_word kind.extend_KW) c.requires in
-    parsed_by (λ r. described_without_keyword c.in_default.ensures c.requires (no brace (yes extend r))) c.err_and_pop-then-is_word.ensures
+    parsed_by (λ r. described_without_keyword c.in_default.ensures c.requires (no brace (yes extend r)))
+    c.err_and_pop-then-is_word.ensures
 
 pub returns-then-is_some : goal.returns-then-is_some
 unfolding holds
@@ -28,7 +29,8 @@ returns-then-is_some g c =
     let brace = c.if-is_kind.ensures ∙ ap (is_at token.LCurly) c.requires in
     let extend = c.if-is_word.ensures ∙ ap (is_word kind.extend_KW) c.requires in
     let more = c.if-is_some.ensures ∙ some-shown c.args.next ∙ ap is_some c.requires in
-    parsed_by (λ r. described_without_keyword c.in_default.ensures c.requires (no brace (no extend (yes more r)))) c.err_and_pop-then-is_some.ensures
+    parsed_by (λ r. described_without_keyword c.in_default.ensures c.requires (no brace (no extend (yes more r))))
+    c.err_and_pop-then-is_some.ensures
 
 pub returns : goal.returns
 unfolding holds
@@ -36,4 +38,5 @@ returns g c =
     let brace = c.if-is_kind.ensures ∙ ap (is_at token.LCurly) c.requires in
     let extend = c.if-is_word.ensures ∙ ap (is_word kind.extend_KW) c.requires in
     let more = c.if-is_some.ensures ∙ some-shown c.args.next ∙ ap is_some c.requires in
-    parsed_by (λ r. described_without_keyword c.in_default.ensures c.requires (no brace (no extend (no more r)))) c.err_and_pop-2.ensures
+    parsed_by (λ r. described_without_keyword c.in_default.ensures c.requires (no brace (no extend (no more r))))
+    c.err_and_pop-2.ensures

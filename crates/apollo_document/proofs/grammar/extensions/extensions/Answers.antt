@@ -6,5 +6,6 @@ use Rattle.parser_state.specs.Parses.{Parses}
 use Rattle.apollo_document.proofs.grammar.extensions.extensions.Goals as goal
 
 pub returns : goal.returns
-returns g c = subst (λ (s : State). Parses (Call Extensions) c.extensions_before.result s c.extensions_before.new.p) c.peek-next.ensures.same
+returns g c = subst (λ (s : State). Parses (Call Extensions) c.extensions_before.result s c.extensions_before.new.p)
+    c.peek-next.ensures.same
     c.extensions_before.ensures

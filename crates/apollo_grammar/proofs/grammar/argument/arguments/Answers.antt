@@ -6,4 +6,5 @@ use Rattle.apollo_grammar.proofs.grammar.argument.arguments.Goals as goal
 
 pub loop-constness-smaller : goal.loop-constness-smaller
 unfolding consuming
-loop-constness-smaller g c = taken c.in_ok-argument.ensures.runs (here-there (Kind token.Name) _ c.loop-constness-test.ensures) refl
+loop-constness-smaller g c =
+    taken c.in_ok-argument.ensures.runs (here-there (Kind token.Name) _ c.loop-constness-test.ensures) refl

@@ -7,4 +7,5 @@ use Rattle.apollo_grammar.proofs.grammar.directive.directive_locations.Goals as 
 
 pub loop-p-smaller : goal.loop-p-smaller
 unfolding consuming
-loop-p-smaller g c = taken (seq c.in_ok-bump.ensures.runs c.in_ok-location-2.ensures.runs) (here-there (Kind token.Pipe) _ c.loop-p-test.ensures) refl
+loop-p-smaller g c = taken (seq c.in_ok-bump.ensures.runs c.in_ok-location-2.ensures.runs)
+    (here-there (Kind token.Pipe) _ c.loop-p-test.ensures) refl

@@ -6,4 +6,5 @@ use Rattle.apollo_grammar.proofs.grammar.directive.directives.Goals as goal
 
 pub loop-constness-smaller : goal.loop-constness-smaller
 unfolding consuming
-loop-constness-smaller g c = taken c.in_ok-directive.ensures.runs (here-there (Kind token.At) _ c.loop-constness-test.ensures) refl
+loop-constness-smaller g c =
+    taken c.in_ok-directive.ensures.runs (here-there (Kind token.At) _ c.loop-constness-test.ensures) refl

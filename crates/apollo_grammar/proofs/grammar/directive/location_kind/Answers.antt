@@ -10,10 +10,12 @@ pub loop-kind-init : goal.loop-kind-init
 loop-kind-init c = start (current_of c.args.token)
 
 pub loop-kind-preserved : goal.loop-kind-preserved
-loop-kind-preserved c = sym (later c.loop-kind.kind-index _ c.loop-kind-test.true c.if-is_word.ensures) ∙ c.loop-kind.invariant
+loop-kind-preserved c =
+    sym (later c.loop-kind.kind-index _ c.loop-kind-test.true c.if-is_word.ensures) ∙ c.loop-kind.invariant
 
 pub returns-then-is_word : goal.returns-then-is_word
-returns-then-is_word c = sym (here c.loop-kind.kind-index _ c.loop-kind-test.true c.if-is_word.ensures) ∙ c.loop-kind.invariant
+returns-then-is_word c =
+    sym (here c.loop-kind.kind-index _ c.loop-kind-test.true c.if-is_word.ensures) ∙ c.loop-kind.invariant
 
 pub returns : goal.returns
 returns c = sym (end c.loop-kind.kind-index _ c.loop-kind-test.false) ∙ c.loop-kind.invariant

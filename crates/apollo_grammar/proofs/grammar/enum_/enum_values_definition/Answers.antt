@@ -5,4 +5,5 @@ use Rattle.apollo_grammar.proofs.grammar.enum_.enum_values_definition.Goals as g
 
 pub loop-p-smaller : goal.loop-p-smaller
 unfolding consuming
-loop-p-smaller g c = taken c.in_ok-enum_value_definition.ensures.runs (here-there named_start _ c.loop-p-test.ensures) refl
+loop-p-smaller g c = taken c.in_ok-enum_value_definition.ensures.runs
+    (here-there named_start _ c.loop-p-test.ensures) refl

@@ -5,4 +5,5 @@ use Rattle.apollo_grammar.proofs.grammar.input.input_fields_definition.Goals as 
 
 pub loop-p-smaller : goal.loop-p-smaller
 unfolding consuming
-loop-p-smaller g c = taken c.in_ok-input_value_definition.ensures.runs (here-there named_start _ c.loop-p-test.ensures) refl
+loop-p-smaller g c = taken c.in_ok-input_value_definition.ensures.runs
+    (here-there named_start _ c.loop-p-test.ensures) refl

@@ -12,5 +12,6 @@ aliased_name_before-requires g c =
     record { at = subst (λ (s : State). true ≡ holds (At token.Name) s) (sym l.same) c.requires; after = l.next }
 
 pub returns : goal.returns
-returns g c = subst (λ (s : State). Parses (Call AliasedName) c.aliased_name_before.result s c.aliased_name_before.new.p) c.is_before-next_is_colon.ensures.same
+returns g c = subst (λ (s : State). Parses (Call AliasedName) c.aliased_name_before.result s
+    c.aliased_name_before.new.p) c.is_before-next_is_colon.ensures.same
     c.aliased_name_before.ensures

@@ -16,7 +16,10 @@ pub list_type-inside_list_type-requires : goal.list_type-inside_list_type-requir
 unfolding left opened flush
 list_type-inside_list_type-requires g t c =
     let h = ap left c.in_ok-start_node.ensures.step in
-    λ κs w. (omega (arith, h, c.decreases), (w, still-at kind.LIST_TYPE token.LBracket _ c.requires c.in_ok-start_node.ensures.step))
+    λ κs w. (
+      omega (arith, h, c.decreases),
+      (w, still-at kind.LIST_TYPE token.LBracket _ c.requires c.in_ok-start_node.ensures.step),
+    )
 
 pub inside_list_type-item_type-requires : goal.inside_list_type-item_type-requires
 unfolding consuming
@@ -26,7 +29,10 @@ inside_list_type-item_type-requires g t c =
     λ κs w. (omega (arith, h, k, c.decreases), w)
 
 pub ty-wrap-requires : goal.ty-wrap-requires
-ty-wrap-requires g t c = still-checkpoint _ c.in_ok-nullable_type.ensures.runs (is-checkpoint c.checkpoint.new.self _ c.in_ok-checkpoint.ensures.index)
+ty-wrap-requires g t c =
+    still-checkpoint _ c.in_ok-nullable_type.ensures.runs
+    (is-checkpoint c.checkpoint.new.self _ c.in_ok-checkpoint.ensures.index)
 
 pub ty-finish_node-requires : goal.ty-finish_node-requires
-ty-finish_node-requires g t c = still-open c.in_ok-bump.ensures.runs (open-wrapped kind.NON_NULL_TYPE _ _ refl c.in_ok-wrap.ensures.step)
+ty-finish_node-requires g t c =
+    still-open c.in_ok-bump.ensures.runs (open-wrapped kind.NON_NULL_TYPE _ _ refl c.in_ok-wrap.ensures.step)

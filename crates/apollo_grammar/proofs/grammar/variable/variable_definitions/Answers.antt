@@ -5,4 +5,5 @@ use Rattle.apollo_grammar.proofs.grammar.variable.variable_definitions.Goals as 
 
 pub loop-p-smaller : goal.loop-p-smaller
 unfolding consuming
-loop-p-smaller g c = taken c.in_ok-variable_definition.ensures.runs (here-there variable_start _ c.loop-p-test.ensures) refl
+loop-p-smaller g c = taken c.in_ok-variable_definition.ensures.runs
+    (here-there variable_start _ c.loop-p-test.ensures) refl

@@ -9,8 +9,10 @@ loop-item-preserved g c =
     let comes = rw c.in-Err.is at c.in-Some.ensures.steps.answers in
     record {
       tokens_so_far = tokens-kept _ e.is_limit e.text.now e.index _ _ _ comes c.loop-item.invariant.tokens_so_far;
-      errors_so_far = rw c.in_ok-push-in-Err.ensures.items (errors-more _ _ c.in_ok-to_error-in-Err.field-0 e.is_limit e.text.now e.index _ _ comes
-          (lex-error-made e.is_limit e.text.now e.index _ told.subject told.index told.message) c.loop-item.invariant.errors_so_far);
+      errors_so_far = rw c.in_ok-push-in-Err.ensures.items
+          (errors-more _ _ c.in_ok-to_error-in-Err.field-0 e.is_limit e.text.now e.index _ _ comes
+          (lex-error-made e.is_limit e.text.now e.index _ told.subject told.index told.message)
+          c.loop-item.invariant.errors_so_far);
     }
 
 -- nothing is left

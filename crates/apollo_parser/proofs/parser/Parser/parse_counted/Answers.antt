@@ -8,4 +8,5 @@ pub returns-clause-promise : goal.returns-clause-promise
 returns-clause-promise g c =
     let p = promise c.in_ok-tree.ensures.run in
     IfOk-weaker c.into_owned.result _ _
-    (λ t same. subst (Promise c.args.self.source.now c.args.self.recursion_limit c.args.self.token_limit) (sym same) p) c.into_owned.ensures
+    (λ t same. subst (Promise c.args.self.source.now c.args.self.recursion_limit c.args.self.token_limit) (sym same) p)
+    c.into_owned.ensures

@@ -7,5 +7,6 @@ use Rattle.parser_rules.specs.Runs.{Runs}
 use Rattle.apollo_parser.proofs.parser.Parser.read_document.Goals as goal
 
 pub returns-clause-runs : goal.returns-clause-runs
-returns-clause-runs g c = subst (λ (s : State). OnOk c.document.result (Runs (Call Document) s c.document.new.p)) c.in_ok-open.ensures.step
+returns-clause-runs g c =
+    subst (λ (s : State). OnOk c.document.result (Runs (Call Document) s c.document.new.p)) c.in_ok-open.ensures.step
     c.document.ensures.runs

@@ -20,7 +20,8 @@ finish-requires g c =
     let run = from-started (answers k source) r _ kind.SELECTION_SET c.start-p.ensures.unread
     (subst (λ s. Runs field_set s c.field_set.new.p) first c.in_ok-field_set.ensures.runs) in
     record {
-      source = source-begins kind.SELECTION_SET k r source run c.drop_pending.ensures.step selections_pass c.start-p.ensures.cut;
+      source = source-begins kind.SELECTION_SET k r source run c.drop_pending.ensures.step selections_pass
+          c.start-p.ensures.cut;
       open_root = open-root kind.SELECTION_SET k r source run c.drop_pending.ensures.step refl;
     }
 
@@ -32,7 +33,8 @@ of-requires g c =
     let first = c.in_ok-push_pending.ensures.step ∙ ap flush c.in_ok-open.ensures.step in
     let run = from-started (answers k source) r _ kind.SELECTION_SET c.start-p.ensures.unread
     (subst (λ s. Runs field_set s c.field_set.new.p) first c.in_ok-field_set.ensures.runs) in
-    ap (is_kind kind.SELECTION_SET) (kind-is kind.SELECTION_SET k r source run c.drop_pending.ensures.step c.in_ok-finished.ensures.tree)
+    ap (is_kind kind.SELECTION_SET)
+    (kind-is kind.SELECTION_SET k r source run c.drop_pending.ensures.step c.in_ok-finished.ensures.tree)
 
 pub returns : goal.returns
 returns g c =

@@ -15,17 +15,23 @@ use Rattle.apollo_parser.proofs.PartRuns.{source-begins, open-root, kind-is, by-
 use Rattle.apollo_parser.proofs.parser.Parser.run_type.Goals as goal
 
 pub type_root-requires : goal.type_root-requires
-type_root-requires g c = record { first = c.in_ok-first.ensures.index; not_open = not-open _ _ _ c.start-p.ensures.unread c.in_ok-first.ensures.step }
+type_root-requires g c =
+    record {
+      first = c.in_ok-first.ensures.index;
+      not_open = not-open _ _ _ c.start-p.ensures.unread c.in_ok-first.ensures.step;
+    }
 
 pub finish-requires : goal.finish-requires
 finish-requires g c =
     let k = c.args.self.token_limit in
     let r = c.args.self.recursion_limit in
     let source = c.args.self.source.now in
-    let made = subst (λ (s : State). RunsTypeRoot (flush s) c.type_root.new.p) c.in_ok-first.ensures.step c.in_ok-type_root.ensures.runs in
+    let made = subst (λ (s : State). RunsTypeRoot (flush s) c.type_root.new.p) c.in_ok-first.ensures.step
+    c.in_ok-type_root.ensures.runs in
     let m = type-run (answers k source) r refl (from-unopened (answers k source) r _ c.start-p.ensures.unread made) in
     record {
-      source = source-begins m.kind k r source m.run c.drop_pending.ensures.step (type_passes m.is) c.start-p.ensures.cut;
+      source = source-begins m.kind k r source m.run c.drop_pending.ensures.step (type_passes m.is)
+          c.start-p.ensures.cut;
       open_root = open-root m.kind k r source m.run c.drop_pending.ensures.step (type-free m.is);
     }
 
@@ -34,7 +40,8 @@ of-requires g c =
     let k = c.args.self.token_limit in
     let r = c.args.self.recursion_limit in
     let source = c.args.self.source.now in
-    let made = subst (λ (s : State). RunsTypeRoot (flush s) c.type_root.new.p) c.in_ok-first.ensures.step c.in_ok-type_root.ensures.runs in
+    let made = subst (λ (s : State). RunsTypeRoot (flush s) c.type_root.new.p) c.in_ok-first.ensures.step
+    c.in_ok-type_root.ensures.runs in
     let m = type-run (answers k source) r refl (from-unopened (answers k source) r _ c.start-p.ensures.unread made) in
     ap (λ j. one_of Types j || is_kind kind.ERROR j)
     (kind-is m.kind k r source m.run c.drop_pending.ensures.step c.in_ok-finished.ensures.tree) ∙ type-rooted m.is
@@ -44,7 +51,8 @@ returns g c =
     let k = c.args.self.token_limit in
     let r = c.args.self.recursion_limit in
     let source = c.args.self.source.now in
-    let made = subst (λ (s : State). RunsTypeRoot (flush s) c.type_root.new.p) c.in_ok-first.ensures.step c.in_ok-type_root.ensures.runs in
+    let made = subst (λ (s : State). RunsTypeRoot (flush s) c.type_root.new.p) c.in_ok-first.ensures.step
+    c.in_ok-type_root.ensures.runs in
     let all = from-unopened (answers k source) r _ c.start-p.ensures.unread made in
     let m = type-run (answers k source) r refl all in
     let start = c.start-p.ensures in

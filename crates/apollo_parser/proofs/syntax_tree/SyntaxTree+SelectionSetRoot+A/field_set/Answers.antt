@@ -6,4 +6,5 @@ use Rattle.apollo_parser.proofs.Roots.{cast-is-some}
 use Rattle.apollo_parser.proofs.syntax_tree.SyntaxTree+SelectionSetRoot+A.field_set.Goals as goal
 
 pub unwrap-requires : goal.unwrap-requires
-unwrap-requires g c = cast-is-some _ _ _ c.cast.result c.cast.ensures (ap (λ p. is_kind SELECTION_SET (kind_at p)) c.root.ensures.place ∙ c.self.inside.rooted)
+unwrap-requires g c = cast-is-some _ _ _ c.cast.result c.cast.ensures
+    (ap (λ p. is_kind SELECTION_SET (kind_at p)) c.root.ensures.place ∙ c.self.inside.rooted)

@@ -9,4 +9,5 @@ returns-clause-steps c = ap up_from (c.branch-node.ensures ∙ ap continue_value
     ∙ chain-step c.in_ok-node.node c.parent-self.result c.parent-self.ensures
 
 pub returns-clause-goes : goal.returns-clause-goes
-returns-clause-goes c = record { on = λ _. (tt, tt, omega (arith, ap length (returns-clause-steps c))); keeps = tt; rests = λ _. tt }
+returns-clause-goes c =
+    record { on = λ _. (tt, tt, omega (arith, ap length (returns-clause-steps c))); keeps = tt; rests = λ _. tt }

@@ -9,12 +9,19 @@ use Rattle.apollo_tree.proofs.children.SyntaxElementChildren.find_next.Goals as 
 pub overflow_add-self : goal.overflow_add-self
 overflow_add-self g c =
     let now = c.args.self.now in
-    omega (arith, (after (g.T.ElementTest.is_taken c.args.test) now.table now.next now.end c.in-Some.found c.in-Some.ensures).rest.order)
+    omega (
+      arith,
+      (after (g.T.ElementTest.is_taken c.args.test) now.table now.next now.end c.in-Some.found
+          c.in-Some.ensures).rest.order,
+    )
 
 pub invariant_of-self : goal.invariant_of-self
 invariant_of-self g c =
     let now = c.args.self.now in
-    record { span = (after (g.T.ElementTest.is_taken c.args.test) now.table now.next now.end c.in-Some.found c.in-Some.ensures).rest }
+    record {
+      span = (after (g.T.ElementTest.is_taken c.args.test) now.table now.next now.end c.in-Some.found
+          c.in-Some.ensures).rest;
+    }
 
 pub returns-in-Some-clause-first : goal.returns-in-Some-clause-first
 returns-in-Some-clause-first g c =
@@ -22,12 +29,14 @@ returns-in-Some-clause-first g c =
     let takes = g.T.ElementTest.is_taken c.args.test in
     let found = c.in-Some.found in
     found-first takes now.table now.next now.end found c.in-Some.ensures
-    ∙ ap (λ p. p ∷ filter (takes_place takes) (rest_from now.table (found.index + found.row.size) now.end)) (sym c.at.ensures)
+    ∙ ap (λ p. p ∷ filter (takes_place takes) (rest_from now.table (found.index + found.row.size) now.end))
+    (sym c.at.ensures)
 
 pub returns-in-Some-clause-kind : goal.returns-in-Some-clause-kind
 returns-in-Some-clause-kind g c =
     let now = c.args.self.now in
-    found-kind (g.T.ElementTest.is_taken c.args.test) now.table now.next now.end c.in-Some.found c.in-Some.ensures ∙ ap kind_at (sym c.at.ensures)
+    found-kind (g.T.ElementTest.is_taken c.args.test) now.table now.next now.end c.in-Some.found c.in-Some.ensures
+    ∙ ap kind_at (sym c.at.ensures)
 
 pub returns-in-Some-clause-taken : goal.returns-in-Some-clause-taken
 returns-in-Some-clause-taken g c =

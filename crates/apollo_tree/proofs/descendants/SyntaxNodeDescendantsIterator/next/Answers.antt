@@ -11,7 +11,12 @@ returns-in-Node-clause-steps c =
     ∙ keep-node c.in-Some.element c.in-Node.node (rest_descendants c.next.new.self) c.in-Node.is
 
 pub returns-in-Node-clause-goes : goal.returns-in-Node-clause-goes
-returns-in-Node-clause-goes c = record { on = λ _. (tt, tt, omega (arith, ap length (returns-in-Node-clause-steps c))); keeps = tt; rests = λ _. tt }
+returns-in-Node-clause-goes c =
+    record {
+      on = λ _. (tt, tt, omega (arith, ap length (returns-in-Node-clause-steps c)));
+      keeps = tt;
+      rests = λ _. tt;
+    }
 
 pub loop-element-preserved : goal.loop-element-preserved
 loop-element-preserved c =

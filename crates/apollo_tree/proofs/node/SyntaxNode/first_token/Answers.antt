@@ -14,7 +14,8 @@ use Rattle.apollo_tree.proofs.node.SyntaxNode.first_token.Goals as goal
 pub overflow_add-end : goal.overflow_add-end
 overflow_add-end c =
     let now = c.args.self.now in
-    let span = children-span _ _ now.table.is_table now.index now.inside c.record.result.size (ap (λ r. r.size) c.record.ensures.value) in
+    let span = children-span _ _ now.table.is_table now.index now.inside c.record.result.size
+    (ap (λ r. r.size) c.record.ensures.value) in
     omega (arith, span.inside, c.record.ensures.len)
 
 pub loop-index-init : goal.loop-index-init
@@ -22,9 +23,11 @@ loop-index-init c =
     let now = c.args.self.now in
     let whole = (node_place now).whole in
     let size = c.record.result.size in
-    let span = children-span _ _ now.table.is_table now.index now.inside size (ap (λ r. r.size) c.record.ensures.value) in
+    let span = children-span _ _ now.table.is_table now.index now.inside size
+    (ap (λ r. r.size) c.record.ensures.value) in
     let first : now.index + 1 ≡ suc now.index = omega arith in
-    let number : (now.index + size) - (now.index + 1) ≡ count (tree_kids (tree_at (node_place now))) = omega (arith, c.record.ensures.size) in
+    let number : (now.index + size) - (now.index + 1) ≡ count (tree_kids (tree_at (node_place now))) =
+    omega (arith, c.record.ensures.size) in
     record {
       inside = span.inside;
       rest =
@@ -36,9 +39,11 @@ pub loop-index-preserved : goal.loop-index-preserved
 loop-index-preserved c =
     let now = c.args.self.now in
     let whole = (node_place now).whole in
-    let node : not (is_node_place (spot whole c.loop-index.index)) ≡ false = ap not (sym c.record-in-loop-index.ensures.node) ∙ c.if-not-record.false in
+    let node : not (is_node_place (spot whole c.loop-index.index)) ≡ false =
+    ap not (sym c.record-in-loop-index.ensures.node) ∙ c.if-not-record.false in
     record {
       inside = c.loop-index.invariant.inside;
-      rest = sym (find-pass-one is_leaf_place whole c.loop-index.index (now.index + c.record.result.size) c.loop-index-test.true node)
+      rest = sym (find-pass-one is_leaf_place whole c.loop-index.index (now.index + c.record.result.size)
+          c.loop-index-test.true node)
           ∙ c.loop-index.invariant.rest;
     }

@@ -26,8 +26,17 @@ returns c =
     let end = c.start_from-end.ensures ∙ end-is _ _ table c.args.index c.requires _ c.record-record.result.size
     (ap (λ (r : Record). r.size) c.record-record.ensures.value) in
     let up = ap (λ (r : Record). r.to_parent) c.record-record.ensures.value in
-    let parent : c.match-record.parent ≡ (element (table_place c.args.self c.args.index)).parent = elim c.match-record.branch [
+    let parent : c.match-record.parent ≡ (element (table_place c.args.self c.args.index)).parent =
+    elim c.match-record.branch [
       | in-0 w ↦ w.parent-is ∙ sym (no-index _ _ table _ c.requires c.record-record.result.to_parent up (omega arith))
-      | in_default w ↦ w.parent-is ∙ sym (some-parent _ _ table _ c.requires c.record-record.result.to_parent up (omega arith)).index
+      | in_default w ↦ w.parent-is
+          ∙ sym (some-parent _ _ table _ c.requires c.record-record.result.to_parent up (omega arith)).index
     ] in
-    cc (c.record-record.ensures.kind, c.record-record.ensures.node, c.record-record.ensures.start, c.record-record.ensures.size, end, parent)
+    cc (
+      c.record-record.ensures.kind,
+      c.record-record.ensures.node,
+      c.record-record.ensures.start,
+      c.record-record.ensures.size,
+      end,
+      parent,
+    )

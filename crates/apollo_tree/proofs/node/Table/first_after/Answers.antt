@@ -9,7 +9,8 @@ loop-low-preserved-then-record-offset c =
       low = omega arith;
       order = omega arith;
       high = c.loop-low.invariant.high;
-      before = λ k a b. omega (arith, rises _ _ c.args.self.is_table k middle (omega arith) (omega arith), c.record.ensures.start);
+      before = λ k a b. omega
+          (arith, rises _ _ c.args.self.is_table k middle (omega arith) (omega arith), c.record.ensures.start);
       after = c.loop-low.invariant.after;
     }
 
@@ -21,5 +22,9 @@ loop-low-preserved c =
       order = omega arith;
       high = omega arith;
       before = c.loop-low.invariant.before;
-      after = λ k a b. omega (arith, rises _ _ c.args.self.is_table middle k (omega arith) (omega arith), c.record.ensures.start);
+      after = λ k a b. omega (
+        arith,
+        rises _ _ c.args.self.is_table middle k (omega arith) (omega arith),
+        c.record.ensures.start,
+      );
     }

@@ -11,7 +11,8 @@ use Rattle.apollo_tree.proofs.node.Table.tokens_at.Goals as goal
 
 pub last_leaf-requires-clause-others : goal.last_leaf-requires-clause-others
 last_leaf-requires-clause-others c = λ k a b.
-    no-earlier _ _ c.args.self.is_table k c.args.offset (omega arith) (λ some. c.first_from-here.ensures.before (suc k) (omega arith) (omega arith))
+    no-earlier _ _ c.args.self.is_table k c.args.offset (omega arith)
+    (λ some. c.first_from-here.ensures.before (suc k) (omega arith) (omega arith))
 
 pub last_leaf-requires-2-clause-others : goal.last_leaf-requires-2-clause-others
 last_leaf-requires-2-clause-others c = λ k a b.
@@ -33,6 +34,7 @@ returns c =
     c.new.ensures
     ∙ ap (λ ps. ps ++ option_to_list (option_map token_place c.last_leaf-2.result)) c.last_leaf.ensures
     ∙ ap (λ ps. filter m (places_from whole c.args.from (here - c.args.from)) ++ ps)
-    (c.last_leaf-2.ensures ∙ sym (append-nil _) ∙ ap (λ ps. filter m (places_from whole here (next - here)) ++ ps) (sym none)
+    (c.last_leaf-2.ensures ∙ sym (append-nil _)
+    ∙ ap (λ ps. filter m (places_from whole here (next - here)) ++ ps) (sym none)
     ∙ sym (filter-split m whole here next c.args.to (omega arith) (omega arith)))
     ∙ sym (filter-split m whole c.args.from here c.args.to (omega arith) (omega arith))

@@ -6,4 +6,5 @@ pub returns-clause-index : goal.returns-clause-index
 returns-clause-index g c = c.len.ensures ∙ count-is (holds c.self.view_is c.self.invariant.0).parts
 
 pub returns-clause-can_open : goal.returns-clause-can_open
-returns-clause-can_open g c = can-open-end _ _ (c.len.ensures ∙ count-is (holds c.self.view_is c.self.invariant.0).parts)
+returns-clause-can_open g c =
+    can-open-end _ _ (c.len.ensures ∙ count-is (holds c.self.view_is c.self.invariant.0).parts)

@@ -31,7 +31,8 @@ range-requires-clause-end_boundary g c =
     let h = holds c.self.view_is c.self.invariant.0 in
     let b = begins c.args.source.now c.self.inside.len h c.self.invariant.1 c.requires.source in
     let e : c.self.inside.len ≡ length (built_text c.args.self) = c.self.invariant.1 ∙ ap length (sym h.parts.text) in
-    let here : built_text c.args.self ≡ text c.args.self.here = ap (λ above. open_text above ++ text c.args.self.here) c.requires.complete.closed in
+    let here : built_text c.args.self ≡ text c.args.self.here =
+    ap (λ above. open_text above ++ text c.args.self.here) c.requires.complete.closed in
     IsCharBoundary-from_take c.args.source.now c.self.inside.len c.utf8.source
     (omega (arith, ap length b, e, length-take c.self.inside.len c.args.source.now))
     (subst IsUtf8 (sym (b ∙ here)) (sound-text c.args.self.here h.here))
@@ -39,12 +40,14 @@ range-requires-clause-end_boundary g c =
 pub invariant_of-result : goal.invariant_of-result
 invariant_of-result g c =
     let h = holds c.self.view_is c.self.invariant.0 in
-    tree-kept (finished-over h c.requires.complete (c.range.ensures.value ∙ borrows c.args.source.now _ h c.self.invariant.1 c.requires.source))
+    tree-kept (finished-over h c.requires.complete
+    (c.range.ensures.value ∙ borrows c.args.source.now _ h c.self.invariant.1 c.requires.source))
 
 pub returns-clause-value : goal.returns-clause-value
 returns-clause-value g c =
     let h = holds c.self.view_is c.self.invariant.0 in
-    forest-is (finished-over h c.requires.complete (c.range.ensures.value ∙ borrows c.args.source.now _ h c.self.invariant.1 c.requires.source))
+    forest-is (finished-over h c.requires.complete
+    (c.range.ensures.value ∙ borrows c.args.source.now _ h c.self.invariant.1 c.requires.source))
 
 pub returns-clause-calls : goal.returns-clause-calls
 returns-clause-calls g c = ap brackets (returns-clause-value g c) ∙ written-whole c.args.self c.requires.complete.closed

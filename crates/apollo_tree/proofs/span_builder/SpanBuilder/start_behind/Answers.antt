@@ -5,7 +5,13 @@ use Rattle.apollo_tree.proofs.span_builder.SpanBuilder.start_behind.Goals as goa
 
 pub returns-then-index-len : goal.returns-then-index-len
 returns-then-index-len g c =
-    ap (λ (r : Record). r.start) c.get.ensures ∙ start-at c.args.index _ (holds c.self.view_is c.self.invariant.0).parts c.requires (omega arith)
+    ap (λ (r : Record). r.start) c.get.ensures
+    ∙ start-at c.args.index _ (holds c.self.view_is c.self.invariant.0).parts c.requires (omega arith)
 
 pub returns-else-index-len : goal.returns-else-index-len
-returns-else-index-len g c = omega (arith, c.self.invariant.1, end_at c.args.index (holds c.self.view_is c.self.invariant.0).parts c.requires (omega arith))
+returns-else-index-len g c =
+    omega (
+      arith,
+      c.self.invariant.1,
+      end_at c.args.index (holds c.self.view_is c.self.invariant.0).parts c.requires (omega arith),
+    )

@@ -8,25 +8,31 @@ use Rattle.apollo_tree.proofs.span_builder.SpanBuilder.token.Goals as goal
 pub push_in_place-requires : goal.push_in_place-requires
 push_in_place-requires g c =
     let h = holds c.self.view_is c.self.invariant.0 in
-    is-new _ _ _ c.leaf-leaf.ensures (omega arith) (omega (arith, c.to_parent-to_parent.ensures.within, c.checkpoint.ensures.index, count-is h.parts))
+    is-new _ _ _ c.leaf-leaf.ensures (omega arith)
+    (omega (arith, c.to_parent-to_parent.ensures.within, c.checkpoint.ensures.index, count-is h.parts))
 
 pub invariant_of-self : goal.invariant_of-self
 invariant_of-self g c =
     let h = holds c.self.view_is c.self.invariant.0 in
-    let l : length c.joined-self-inside.result.value ≡ length c.self.inside.leaf_text.value + length c.args.text.now = ap length c.joined-self-inside.ensures
+    let l : length c.joined-self-inside.result.value ≡ length c.self.inside.leaf_text.value + length c.args.text.now =
+    ap length c.joined-self-inside.ensures
     ∙ length-append c.self.inside.leaf_text.value c.args.text.now in (
-      kept (moved (leaf-table c.args.kind c.args.text.now c.self.inside.len c.to_parent-to_parent.result c.checkpoint.result.index h.parts c.self.invariant.1
+      kept (moved (leaf-table c.args.kind c.args.text.now c.self.inside.len c.to_parent-to_parent.result
+          c.checkpoint.result.index h.parts c.self.invariant.1
           c.checkpoint.ensures.index c.to_parent-to_parent.ensures.up) (c.if-push_in_place.ensures
-          ∙ ap (λ r. c.self.inside.records ++ r ∷ []) c.leaf-leaf.ensures) refl c.joined-self-inside.ensures) (sound-join _ _ h.here (c.utf8.text, tt)) h.above,
+          ∙ ap (λ r. c.self.inside.records ++ r ∷ []) c.leaf-leaf.ensures) refl c.joined-self-inside.ensures)
+          (sound-join _ _ h.here (c.utf8.text, tt)) h.above,
       omega (arith, l, c.self.invariant.1),
     )
 
 pub returns-then-push_in_place-clause-ok : goal.returns-then-push_in_place-clause-ok
 returns-then-push_in_place-clause-ok g c =
     let h = holds c.self.view_is c.self.invariant.0 in
-    built-is (moved (leaf-table c.args.kind c.args.text.now c.self.inside.len c.to_parent-to_parent.result c.checkpoint.result.index h.parts c.self.invariant.1
+    built-is (moved (leaf-table c.args.kind c.args.text.now c.self.inside.len c.to_parent-to_parent.result
+    c.checkpoint.result.index h.parts c.self.invariant.1
     c.checkpoint.ensures.index c.to_parent-to_parent.ensures.up) (c.if-push_in_place.ensures
     ∙ ap (λ r. c.self.inside.records ++ r ∷ []) c.leaf-leaf.ensures) refl c.joined-self-inside.ensures)
 
 pub returns-then-push_in_place-clause-calls : goal.returns-then-push_in_place-clause-calls
-returns-then-push_in_place-clause-calls g c = ap written (returns-then-push_in_place-clause-ok g c) ∙ written-leaf c.args.kind c.args.text.now c.args.self.now
+returns-then-push_in_place-clause-calls g c =
+    ap written (returns-then-push_in_place-clause-ok g c) ∙ written-leaf c.args.kind c.args.text.now c.args.self.now

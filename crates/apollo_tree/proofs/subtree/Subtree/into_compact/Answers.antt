@@ -17,7 +17,8 @@ table-of rs s tree = record { table = tree.table; words = tree.words; root = tre
 pub into_compact-requires : goal.into_compact-requires
 into_compact-requires g c =
     let tree = c.self.invariant in
-    let elements = ap length (sym tree.table) ∙ length-records 0 0 _ ∙ ap count c.self.view_is ∙ sym (length-order 0 0 None c.args.self) in
+    let elements = ap length (sym tree.table) ∙ length-records 0 0 _ ∙ ap count c.self.view_is
+    ∙ sym (length-order 0 0 None c.args.self) in
     let bytes = ap length (sym tree.words) ∙ ap (λ f. length (text f)) c.self.view_is in
     all-fit _ _ (table-of _ _ tree) (omega (arith, c.requires.few, elements)) (omega (arith, c.requires.short, bytes))
 

@@ -6,5 +6,6 @@ use Rattle.editor_answers.proofs.answers.names.push_changes.Given as goal
 
 abbrev pub invariant-loop-span : goal.invariant-loop-span
 invariant-loop-span l =
-    flat_map tokens_of l.pieces.items ≡ flat_map tokens_of l.initial.pieces.items ++ flat_map (change_tokens l.positions.encoding l.positions.text.now l.name)
+    flat_map tokens_of l.pieces.items ≡ flat_map tokens_of l.initial.pieces.items
+    ++ flat_map (change_tokens l.positions.encoding l.positions.text.now l.name)
     (take l.span-index l.found)

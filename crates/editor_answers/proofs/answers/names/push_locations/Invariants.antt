@@ -6,5 +6,6 @@ use Rattle.editor_answers.proofs.answers.names.push_locations.Given as goal
 
 abbrev pub invariant-loop-span : goal.invariant-loop-span
 invariant-loop-span l =
-    flat_map tokens_of l.pieces.items ≡ flat_map tokens_of l.initial.pieces.items ++ flat_map (location_tokens l.positions.encoding l.positions.text.now l.uri)
+    flat_map tokens_of l.pieces.items ≡ flat_map tokens_of l.initial.pieces.items
+    ++ flat_map (location_tokens l.positions.encoding l.positions.text.now l.uri)
     (take l.span-index l.found)

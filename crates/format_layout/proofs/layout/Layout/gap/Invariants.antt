@@ -4,8 +4,10 @@ use Rattle.format_layout.proofs.layout.Layout.gap.Given as goal
 
 abbrev pub invariant-loop : goal.invariant-loop
 invariant-loop g l = record {
-  keeps : Keeps (string_bytes l.fn.self.text) l.fn.self.edge l.fn.self.tokens.value (string_bytes l.self.text) l.self.edge l.self.tokens.value;
+  keeps : Keeps (string_bytes l.fn.self.text) l.fn.self.edge l.fn.self.tokens.value (string_bytes l.self.text)
+      l.self.edge l.self.tokens.value;
   few : l.self.tokens.value ≤ l.fn.self.tokens.value + 1;
   blank : l.fn.gap.comma ≡ false → l.self.tokens.value ≡ l.fn.self.tokens.value;
-  short : ended_length (string_bytes l.self.text) l.self.edge ≤ ended_length (string_bytes l.fn.self.text) l.fn.self.edge + l.counter + 1;
+  short : ended_length (string_bytes l.self.text) l.self.edge
+      ≤ ended_length (string_bytes l.fn.self.text) l.fn.self.edge + l.counter + 1;
 }

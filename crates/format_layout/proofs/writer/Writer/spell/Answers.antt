@@ -14,7 +14,9 @@ returns-in-Some-clause-adds g c =
     (subst (SameBlock c.args.text.now) (sym c.as_str.ensures.value) same) c.in_ok-token.ensures.adds
 
 pub returns-clause-adds : goal.returns-clause-adds
-returns-clause-adds g c = adds-token _ _ _ _ _ _ (record { kind = c.args.kind; text = c.args.text.now }) c.requires.kept c.in_ok-token-2.ensures.adds
+returns-clause-adds g c =
+    adds-token _ _ _ _ _ _ (record { kind = c.args.kind; text = c.args.text.now }) c.requires.kept
+    c.in_ok-token-2.ensures.adds
 
 pub returns-clause-short : goal.returns-clause-short
 returns-clause-short g c =

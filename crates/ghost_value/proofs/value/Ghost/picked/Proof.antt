@@ -12,7 +12,8 @@ use contract.Monad.{Fun}
 use contract.Running.{tables, tables_of}
 use sound.WpLaws.{WpFn-mono}
 use types.Logic.{Logic}
-use types.Kit.{Goal, Step, step, Item, ‵, raw, ◌⊛◌, prop, ◌$◌, ◌∵◌, !, qed, move, keep, drop, split, fsplit, fjoin, fpack, feq_i, feq_l, regoal, suffices, done}
+use types.Kit.{Goal, Step, step, Item, ‵, raw, ◌⊛◌, prop, ◌$◌, ◌∵◌, !, qed, move, keep, drop, split, fsplit, fjoin}
+use types.Kit.{fpack, feq_i, feq_l, regoal, suffices, done}
 use types.Part.{agg}
 use types.Run.{enter, returns, and_then, no_more}
 use types.ByLocal.{alloc_all, pass_all, free_all, look_at, get, sets}
@@ -48,11 +49,13 @@ marked = vstruct (vcons mark vnil)
 abbrev single : RattleType → RattleType
 single row = Struct (record { name = []; args = []; types = []; fields = row ∷ [] })
 
-single-made : {M : Type 1} {𝓤 : Ura M} {𝓛 : Logic 𝓤} {K : Type 0} {Γ : List (Item 𝓤)} {G : Goal 𝓤 𝓛.H} → K → (row : RattleType) (x : row.Denot)
+single-made : {M : Type 1} {𝓤 : Ura M} {𝓛 : Logic 𝓤} {K : Type 0} {Γ : List (Item 𝓤)} {G : Goal 𝓤 𝓛.H} → K
+    → (row : RattleType) (x : row.Denot)
     → Step K 𝓛 (‵ ((single row).own_val (x, tt) (marked ∷ [])) ∷ Γ) G (‵ (row.own_val x (mark ∷ [])) ∷ Γ) G
 single-made t row x = step (λ s.
     nothing t $ move t (1 ∷ 0 ∷ []) $ fjoin t $ feq_i t (List Val) (marked ∷ []) (marked ∷ []) refl $ fjoin t $
-    fpack t (Valss (row ∷ [])) (within (record { name = []; args = []; types = []; fields = row ∷ [] }) (x, tt) (marked ∷ [])) (mark ∷ [], tt) $ s)
+    fpack t (Valss (row ∷ []))
+    (within (record { name = []; args = []; types = []; fields = row ∷ [] }) (x, tt) (marked ∷ [])) (mark ∷ [], tt) $ s)
 
 module _ (kind first second : RattleType) where
   abbrev args : Args
@@ -83,7 +86,8 @@ module _ (kind first second : RattleType) where
       abbrev Post : Val → SProp 𝓤
       Post = (walk_of 𝓛 ended stayed held).post z
 
-      walks : ent 𝓤 ((walk_of 𝓛 ended stayed held).pre z) (WpFn 𝓤 H C Λ function ((walk_of 𝓛 ended stayed held).args z) Post)
+      walks : ent 𝓤 ((walk_of 𝓛 ended stayed held).pre z)
+          (WpFn 𝓤 H C Λ function ((walk_of 𝓛 ended stayed held).args z) Post)
       walks =
           let a = z.0.3 in
           let vss = z.0.4 in
@@ -91,7 +95,8 @@ module _ (kind first second : RattleType) where
           let q = vptr a.1.0.ref_ptr.0 a.1.0.ref_ptr.1 in
           let made : (Ghost.the_row (param 0 kind)).Denot = record { kind = record {}; value = z.1 } in
           let toks : SProp 𝓤 = alive 𝓛 ended.signature z.0.0 z.0.1 in
-          qed 𝓛 ((raw toks ⊛ ‵ (owns (types_at ended.signature.params z.0.0) a vss)) ∷ raw ((held z.0.0 a).requires z.1) ∷ []) ∵
+          qed 𝓛 ((raw toks ⊛ ‵ (owns (types_at ended.signature.params z.0.0) a vss))
+          ∷ raw ((held z.0.0 a).requires z.1) ∷ []) ∵
           keep ! (0 ∷ []) $ split ! $ move ! (1 ∷ []) $ fsplit ! $ fsplit ! $ feq_l ! (λ is. drop ! $
           fsplit ! $ fsplit ! $ feq_l ! (λ are. drop ! $ drop ! $
           regoal ! (λ (us : List Val). prop (WpFn 𝓤 H C Λ function (us ++ (vss.1.0 ++ [])) Post)) is refl $
@@ -99,7 +104,8 @@ module _ (kind first second : RattleType) where
           enter ! C Λ function (p ∷ q ∷ []) Post $ alloc_all ! (λ l. pass_all ! refl ((tt, tt), ((tt, tt), tt)) $
           sets ! (agg ! (no_more !)) refl (tt, tt) $
           sets ! (agg ! (and_then ! (get ! refl) (no_more !))) refl (tt, (tt, tt)) $
-          nothing ! $ owned ! marker (Is marker) (makes (Mark.the_type (param 0 kind)) tt 𝓛) (record {}) (mark ∷ []) (tt, (refl, tt)) $
+          nothing ! $ owned ! marker (Is marker) (makes (Mark.the_type (param 0 kind)) tt 𝓛) (record {})
+          (mark ∷ []) (tt, (refl, tt)) $
           single-made ! marker (record {}) $ fjoin ! $
           returns ! (look_at ! 0 refl) $ free_all ! refl $
           suffices ! _ (ends_at 𝓛 ended stayed held z marked made (tt, (tt, tt)) (tt, (tt, tt))) $ says ! refl $
@@ -117,6 +123,8 @@ pub picked_spec : {M : Type 1} → stated.statement M
 unfolding tables_of
 picked_spec 𝓤 𝓛 𝓜 𝓡 wired kind first second _ _ _ =
     let 𝓣 : Tables 𝓤 𝓛.H = tables_of 𝓤 𝓛.H 𝓜 (tables 𝓤 𝓛.H 𝓜 𝓡 𝓡.env) in
-    entered 𝓤 𝓛.H (triple_of 𝓛 (ended kind first second).signature (closing 𝓛 (ended kind first second) (held kind first second 𝓛 𝓜.mem 𝓡.returns))) 𝓣.C 𝓣.Λ
-    (#self (args kind first second)) (function kind first second) (code.unfolded 𝓤 𝓛.H 𝓜 𝓡 wired (kind, (first, (second, tt))))
+    entered 𝓤 𝓛.H (triple_of 𝓛 (ended kind first second).signature
+    (closing 𝓛 (ended kind first second) (held kind first second 𝓛 𝓜.mem 𝓡.returns))) 𝓣.C 𝓣.Λ
+    (#self (args kind first second)) (function kind first second)
+    (code.unfolded 𝓤 𝓛.H 𝓜 𝓡 wired (kind, (first, (second, tt))))
     (meets kind first second 𝓛 𝓜.mem 𝓡.returns 𝓣)

@@ -16,7 +16,8 @@ returns-then-opened-ne0 g c = record {
   opens = (rw c.opening.ensures at c.print-opened.ensures, refl);
   files = refl;
   continues =
-      stopped g.F.Files.lists g.F.Files.reads (as_asked c.args.self.now.checks) c.args.self.now.printing (texts c.args.paths.now) c.print-opened.result _
+      stopped g.F.Files.lists g.F.Files.reads (as_asked c.args.self.now.checks) c.args.self.now.printing
+      (texts c.args.paths.now) c.print-opened.result _
       c.if-opened-ne0.true;
 }
 
@@ -32,7 +33,8 @@ returns g c = record {
   opens = (rw c.opening.ensures at c.print-opened.ensures, refl);
   files = refl;
   continues =
-      went_on g.F.Files.lists g.F.Files.reads (as_asked c.args.self.now.checks) c.args.self.now.printing (texts c.args.paths.now) c.print-opened.result
+      went_on g.F.Files.lists g.F.Files.reads (as_asked c.args.self.now.checks) c.args.self.now.printing
+      (texts c.args.paths.now) c.print-opened.result
       c.close.result _ _ c.if-opened-ne0.false (record {
         checked = record {
           input = g.R.Source.account c.check_texts-status.new.reader;

@@ -8,8 +8,13 @@ use Rattle.gqlcheck_run.proofs.job.Job.check_files.Given as goal
 abbrev pub invariant-loop-named : goal.invariant-loop-named
 invariant-loop-named g l = record {
   checks :
-      InTurn (ChecksFound g.F.Files.reads (as_asked l.self.checks) l.self.printing) (map as_named (take l.named-index l.found)) l.status
-      (record { files = l.initial.files; output = g.W.Sink.account l.initial.writer; complaints = g.E.Sink.account l.initial.complaints })
+      InTurn (ChecksFound g.F.Files.reads (as_asked l.self.checks) l.self.printing)
+      (map as_named (take l.named-index l.found)) l.status
+      (record {
+        files = l.initial.files;
+        output = g.W.Sink.account l.initial.writer;
+        complaints = g.E.Sink.account l.initial.complaints;
+      })
       (record { files = l.files; output = g.W.Sink.account l.writer; complaints = g.E.Sink.account l.complaints });
   quiet : l.status ≡ 0 → l.tally.errors ≡ l.initial.tally.errors;
 }

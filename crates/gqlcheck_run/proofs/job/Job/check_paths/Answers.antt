@@ -11,10 +11,13 @@ pub loop-path-preserved : goal.loop-path-preserved
 loop-path-preserved g c = record {
   checks =
       in_turn-next
-      (HandlesNamed g.F.Files.lists PROGRAM.now (ChecksFound g.F.Files.reads (as_asked c.args.self.now.checks) c.args.self.now.printing)) (λ p. p.now)
-      c.args.paths.now c.loop-path.path-index c.loop-path.status c.check_path-one.result c.max-status.result (record { ref_ptr = (0, 0); now = [] }) _ _ _
+      (HandlesNamed g.F.Files.lists PROGRAM.now
+      (ChecksFound g.F.Files.reads (as_asked c.args.self.now.checks) c.args.self.now.printing)) (λ p. p.now)
+      c.args.paths.now c.loop-path.path-index c.loop-path.status c.check_path-one.result c.max-status.result
+      (record { ref_ptr = (0, 0); now = [] }) _ _ _
       c.loop-path-test.true c.loop-path.invariant.checks c.check_path-one.ensures.checks c.max-status.ensures;
   quiet =
-      quiet_more c.loop-path.status c.check_path-one.result c.max-status.result c.args.tally.now.errors c.loop-path.tally.errors
+      quiet_more c.loop-path.status c.check_path-one.result c.max-status.result c.args.tally.now.errors
+      c.loop-path.tally.errors
       c.check_path-one.new.tally.errors c.max-status.ensures c.loop-path.invariant.quiet c.check_path-one.ensures.quiet;
 }

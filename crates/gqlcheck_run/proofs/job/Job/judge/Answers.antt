@@ -7,6 +7,8 @@ pub returns : goal.returns
 returns g c = record {
   judged = c.in_ok-report.ensures.judged;
   quiet = search rules;
-  found = λ fails. about_first (as_asked c.args.self.now.checks) c.args.self.now.printing.format c.args.name.now c.args.source.now
-      c.in_ok-report.report.findings.items c.in_ok-output.output.items (c.in_ok-report.ensures.found fails) c.in_ok-output.ensures;
+  found = λ fails. about_first (as_asked c.args.self.now.checks) c.args.self.now.printing.format
+      c.args.name.now c.args.source.now
+      c.in_ok-report.report.findings.items c.in_ok-output.output.items (c.in_ok-report.ensures.found fails)
+      c.in_ok-output.ensures;
 }

@@ -11,9 +11,12 @@ returns g c =
     record {
       output = error_pieces c.index.result (length c.data-data.result.now) quoted.output c.shown.result.now;
       made =
-          error-form (error_of c.args.error.now) (parts.0.now ++ parts.1.now ++ parts.2.now) quoted.output c.shown.result.now c.index.result
-          (length c.data-data.result.now) c.message_parts.ensures quoted.made c.index.ensures (ap length c.data-data.ensures) c.shown.ensures;
+          error-form (error_of c.args.error.now) (parts.0.now ++ parts.1.now ++ parts.2.now) quoted.output
+          c.shown.result.now c.index.result
+          (length c.data-data.result.now) c.message_parts.ensures quoted.made c.index.ensures
+          (ap length c.data-data.ensures) c.shown.ensures;
       puts =
-          puts_then _ _ _ _ _ c.put_str.ensures (puts_then _ _ _ _ _ c.put_span.ensures (puts_then _ _ _ _ _ c.put_str-2.ensures
+          puts_then _ _ _ _ _ c.put_str.ensures
+          (puts_then _ _ _ _ _ c.put_span.ensures (puts_then _ _ _ _ _ c.put_str-2.ensures
           (puts_then _ _ _ _ _ quoted.puts (puts_then _ _ _ _ _ c.put_str-3.ensures c.put_str-4.ensures))));
     }

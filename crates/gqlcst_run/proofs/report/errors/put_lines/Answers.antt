@@ -12,7 +12,8 @@ loop-error-preserved g c =
     record {
       output = _;
       made =
-          lines-next (λ e. IsErrorForm (error_of e)) c.args.errors.now c.loop-error.error-index c.error-item.result _ one.output _ before.made
+          lines-next (λ e. IsErrorForm (error_of e)) c.args.errors.now c.loop-error.error-index c.error-item.result _
+          one.output _ before.made
           c.error-item.is c.loop-error-test.true one.made refl;
       puts = puts_then _ _ _ _ _ before.puts (puts_then _ _ _ _ _ one.puts c.put_str.ensures);
     }

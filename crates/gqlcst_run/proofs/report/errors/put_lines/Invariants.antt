@@ -6,5 +6,6 @@ use Rattle.gqlcst_run.proofs.report.errors.put_lines.Given as goal
 
 abbrev pub invariant-loop-error : goal.invariant-loop-error
 invariant-loop-error g l =
-    PutsSome (AreLines (λ e. IsErrorForm (error_of e)) (take l.error-index l.errors)) (l.initial.buffer, g.W.Sink.account l.initial.writer)
+    PutsSome (AreLines (λ e. IsErrorForm (error_of e)) (take l.error-index l.errors))
+    (l.initial.buffer, g.W.Sink.account l.initial.writer)
     (l.buffer, g.W.Sink.account l.writer)

@@ -18,4 +18,5 @@ loop-byte-preserved c =
     ∙ sym (list_all_more is_plain bytes index 0 c.loop-byte-test.true)
 
 pub returns : goal.returns
-returns c = c.loop-byte.invariant ∙ ap (list_all is_plain) (take_all c.loop-byte.byte-index c.args.bytes.now c.loop-byte-test.false)
+returns c = c.loop-byte.invariant
+    ∙ ap (list_all is_plain) (take_all c.loop-byte.byte-index c.args.bytes.now c.loop-byte-test.false)

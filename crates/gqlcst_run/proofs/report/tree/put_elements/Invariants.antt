@@ -2,4 +2,5 @@ use Rattle.gqlcst_run.specs.Buffering.{PutsAny}
 use Rattle.gqlcst_run.proofs.report.tree.put_elements.Given as goal
 
 abbrev pub invariant-loop-index : goal.invariant-loop-index
-invariant-loop-index g l = PutsAny (l.initial.buffer, g.W.Sink.account l.initial.writer) (l.buffer, g.W.Sink.account l.writer)
+invariant-loop-index g l =
+    PutsAny (l.initial.buffer, g.W.Sink.account l.initial.writer) (l.buffer, g.W.Sink.account l.writer)

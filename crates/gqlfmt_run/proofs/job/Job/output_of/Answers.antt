@@ -7,4 +7,5 @@ returns-in_ok-complain-in-Refused-clause-output g c =
     (is-refused _ _ _ (rw c.in-Refused.is at c.in_ok-revise.ensures)) c.new.ensures.bytes
 
 pub returns-in_ok-complain-in-Refused-clause-silent : goal.returns-in_ok-complain-in-Refused-clause-silent
-returns-in_ok-complain-in-Refused-clause-silent g c = c.in_ok-complain-in-Refused.ensures (rw c.in-Refused.is at c.in_ok-revise.ensures)
+returns-in_ok-complain-in-Refused-clause-silent g c =
+    c.in_ok-complain-in-Refused.ensures (rw c.in-Refused.is at c.in_ok-revise.ensures)

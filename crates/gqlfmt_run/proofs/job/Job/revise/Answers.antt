@@ -14,4 +14,5 @@ returns-in-Ok-Err g c =
 pub returns-in-Err-TooLong : goal.returns-in-Err-TooLong
 returns-in-Err-TooLong g c =
     let long = c.in-Err-TooLong.ensures.long c.in-Err-TooLong.field-0-is in
-    text-too-long c.args.self.now.bounds c.args.source.now (inl long.document) (omega (arith, long.longer, c.most_of-most.ensures))
+    text-too-long c.args.self.now.bounds c.args.source.now (inl long.document)
+    (omega (arith, long.longer, c.most_of-most.ensures))

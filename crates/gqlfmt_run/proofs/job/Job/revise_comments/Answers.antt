@@ -8,5 +8,8 @@ returns-in-Err-TooLong g c = λ _ _.
     let small = c.in-Err-TooLong.ensures.small c.in-Err-TooLong.field-0-is in
     let most = c.most_of-most.ensures in
     text-too-long c.args.self.now.bounds c.args.source.now
-    (inr (record { none = c.in-Err-TooLong.ensures.long c.in-Err-TooLong.field-0-is; few = c.if-not-stays_within.ensures.few refl }))
+    (inr (record {
+      none = c.in-Err-TooLong.ensures.long c.in-Err-TooLong.field-0-is;
+      few = c.if-not-stays_within.ensures.few refl;
+    }))
     (omega arith)

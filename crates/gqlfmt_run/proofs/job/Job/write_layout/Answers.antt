@@ -10,9 +10,11 @@ use Rattle.gqlfmt_run.proofs.job.Job.write_layout.Goals as goal
 pub returns-in_err-write_all-clause-output : goal.returns-in_err-write_all-clause-output
 returns-in_err-write_all-clause-output g c =
     let k =
-    cut (IsOutput c.args.self.now.mode c.args.self.now.bounds c.args.name.now) c.in_err-write_all.field-0.0 c.in_ok-settled.settled c.args.bytes.now
+    cut (IsOutput c.args.self.now.mode c.args.self.now.bounds c.args.name.now) c.in_err-write_all.field-0.0
+    c.in_ok-settled.settled c.args.bytes.now
     c.args.bytes.now c.in-Ok.source.now
-    (string_bytes c.in_ok-settled.output) c.as_bytes.result.now (g.W.Sink.account c.args.writer.now) _ _ _ refl refl c.in-Ok.ensures.cases
+    (string_bytes c.in_ok-settled.output) c.as_bytes.result.now (g.W.Sink.account c.args.writer.now) _ _ _ refl
+    refl c.in-Ok.ensures.cases
     c.in_ok-settled.ensures.output
     c.as_bytes.ensures.value c.in_err-write_all.ensures.err in
     let p = err_from_is_err_and c.from_residual-in_err-write_all.result c.from_residual-in_err-write_all.ensures.1 in
@@ -21,11 +23,14 @@ returns-in_err-write_all-clause-output g c =
 pub returns-in_err-write_all-clause-silent : goal.returns-in_err-write_all-clause-silent
 returns-in_err-write_all-clause-silent g c =
     let p = err_from_is_err_and c.from_residual-in_err-write_all.result c.from_residual-in_err-write_all.ensures.1 in
-    rw p.1 (silent-broken c.args.self.now.bounds c.args.name.now c.in-Ok.source.now c.in_ok-settled.settled c.in_err-write_all.field-0.0
-    (string_bytes c.in_ok-settled.output) c.as_bytes.result.now _ _ _ _ c.as_bytes.ensures.value c.in_err-write_all.ensures.err
+    rw p.1 (silent-broken c.args.self.now.bounds c.args.name.now c.in-Ok.source.now c.in_ok-settled.settled
+    c.in_err-write_all.field-0.0
+    (string_bytes c.in_ok-settled.output) c.as_bytes.result.now _ _ _ _ c.as_bytes.ensures.value
+    c.in_err-write_all.ensures.err
     c.in_ok-settled.ensures.empty c.in_ok-settled.ensures.silent)
 
 pub returns-clause-silent : goal.returns-clause-silent
 returns-clause-silent g c =
-    silent-again (Unit {0}) Fault c.args.self.now.bounds c.args.name.now c.in-Ok.source.now c.args.bytes.now c.in_ok-settled.settled _ _ c.in-Ok.ensures.cases.0
+    silent-again (Unit {0}) Fault c.args.self.now.bounds c.args.name.now c.in-Ok.source.now c.args.bytes.now
+    c.in_ok-settled.settled _ _ c.in-Ok.ensures.cases.0
     c.in_ok-settled.ensures.silent

@@ -11,4 +11,5 @@ loop-named-init g c =
     (within g.F.Files.lists _ _ c.named_files.ensures.lists))
 
 pub loop-named-preserved : goal.loop-named-preserved
-loop-named-preserved g c = reads_on g.F.Files.lists g.F.Files.reads g.F.Files.locates c.loop-named.invariant c.in_ok-refresh.ensures
+loop-named-preserved g c =
+    reads_on g.F.Files.lists g.F.Files.reads g.F.Files.locates c.loop-named.invariant c.in_ok-refresh.ensures

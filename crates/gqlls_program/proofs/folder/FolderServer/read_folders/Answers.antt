@@ -6,4 +6,5 @@ pub loop-folder-init : goal.loop-folder-init
 loop-folder-init g c = nothing
 
 pub loop-folder-preserved : goal.loop-folder-preserved
-loop-folder-preserved g c = reads_on g.F.Files.lists g.F.Files.reads g.F.Files.locates c.loop-folder.invariant c.in_ok-read_opened.ensures
+loop-folder-preserved g c =
+    reads_on g.F.Files.lists g.F.Files.reads g.F.Files.locates c.loop-folder.invariant c.in_ok-read_opened.ensures

@@ -24,8 +24,11 @@ returns g c =
     reads_on g.F.Files.lists g.F.Files.reads g.F.Files.locates
     (kept c.drop_file.ensures
     (subst (λ (given : Result (List ℕ) Error). g.F.Files.reads old.files.files c.args.path.now given middle.files.files)
-    (c.in-Some.ensures.given.2 ∙ ap (λ (bytes : List ℕ). Ok bytes) (sym c.as_str-3.ensures.value)) c.in-Some.ensures.given.1)
-    (subst (λ (dialogue : Dialogue). KeepsFile (uri_of c.args.path.now) text errors dialogue (dialogue_of new)) c.text_at.ensures.dialogue
-    (subst (λ (uri : List ℕ). KeepsFile uri text errors (dialogue_of middle.server) (dialogue_of new)) (c.as_str-2.ensures.value ∙ c.in_ok-uri.ensures.spelling)
+    (c.in-Some.ensures.given.2 ∙ ap (λ (bytes : List ℕ). Ok bytes) (sym c.as_str-3.ensures.value))
+    c.in-Some.ensures.given.1)
+    (subst (λ (dialogue : Dialogue). KeepsFile (uri_of c.args.path.now) text errors dialogue (dialogue_of new))
+    c.text_at.ensures.dialogue
+    (subst (λ (uri : List ℕ). KeepsFile uri text errors (dialogue_of middle.server) (dialogue_of new))
+    (c.as_str-2.ensures.value ∙ c.in_ok-uri.ensures.spelling)
     c.in_ok-errors.ensures)))
     c.drop_faulty.ensures

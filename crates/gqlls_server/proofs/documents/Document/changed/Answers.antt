@@ -20,5 +20,6 @@ returns c =
       encoding = c.in_ok-change_all.ensures.encoding;
       host = refl;
       limits = refl;
-      text = c.in_ok-change_all.ensures.client ∙ sym (told_all before.encoding c.args.changes.now (units before.encoding before.text));
+      text = c.in_ok-change_all.ensures.client
+          ∙ sym (told_all before.encoding c.args.changes.now (units before.encoding before.text));
     }))

@@ -24,7 +24,10 @@ returns-clause-published c =
       remarks = map as_remarked c.as_slice.result.now;
       said = subst
           (λ (found : List Remark). (¬ HasNoDefinitions document.source)
-          → AreRemarksOf c.args.takes_related others document.parsed (map as_remarked found)) found c.in_ok-remarks.ensures.said;
-      silent = subst (λ (found : List Remark). HasNoDefinitions document.source → map as_remarked found ≡ []) found c.in_ok-remarks.ensures.silent;
-      published = same_publication _ _ _ _ _ _ _ _ c.in_ok-positions.ensures.encoding c.in_ok-positions.ensures.text c.in_ok-body.ensures.published;
+          → AreRemarksOf c.args.takes_related others document.parsed (map as_remarked found)) found
+          c.in_ok-remarks.ensures.said;
+      silent = subst (λ (found : List Remark). HasNoDefinitions document.source → map as_remarked found ≡ []) found
+          c.in_ok-remarks.ensures.silent;
+      published = same_publication _ _ _ _ _ _ _ _ c.in_ok-positions.ensures.encoding c.in_ok-positions.ensures.text
+          c.in_ok-body.ensures.published;
     }

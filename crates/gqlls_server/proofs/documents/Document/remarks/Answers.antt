@@ -12,4 +12,5 @@ returns-then-has_no_definitions-clause-said c = λ some.
 pub returns-clause-silent : goal.returns-clause-silent
 returns-clause-silent c = λ none.
     let some : c.has_no_definitions.result ≡ false = grind (arith, nat_tests) in
-    absurd (MatchBool-at_false _ _ some c.has_no_definitions.ensures (subst HasNoDefinitions (sym c.source.ensures) none))
+    absurd (MatchBool-at_false _ _ some c.has_no_definitions.ensures
+    (subst HasNoDefinitions (sym c.source.ensures) none))

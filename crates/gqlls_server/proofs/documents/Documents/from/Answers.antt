@@ -13,14 +13,19 @@ returns c = λ is_open.
     let first = c.args.first.now in
     let beside = map entry_of (entries_that (is_other first.uri.now) opened) in
     let more = map entry_of (entries_that (is_stored c.in_ok-own.own opened) stored) in
-    let one = ap (map known_of) (c.in_ok-push.ensures.items ∙ ap (λ items. items ++ c.known_as.result ∷ []) c.new-known.ensures.items)
+    let one = ap (map known_of)
+    (c.in_ok-push.ensures.items ∙ ap (λ items. items ++ c.known_as.result ∷ []) c.new-known.ensures.items)
     ∙ ap (λ (k : KnownFile). k ∷ []) c.known_as.ensures.known in
     let all = c.in_ok-push_stored.ensures.all
-    ∙ ap (λ (ks : List KnownFile). ks ++ more) (c.in_ok-push_opened.ensures.all ∙ ap (λ (ks : List KnownFile). ks ++ beside) one) in
+    ∙ ap (λ (ks : List KnownFile). ks ++ more)
+    (c.in_ok-push_opened.ensures.all ∙ ap (λ (ks : List KnownFile). ks ++ beside) one) in
     let parsed = c.in_ok-push_stored.ensures.parsed (c.in_ok-push_opened.ensures.parsed
-    (subst AreParsed (sym one) (All-push (λ (one : KnownFile). IsParsed one.1) [] (known_of first) (All-nil _) c.known_as.ensures.parsed))) in (
+    (subst AreParsed (sym one)
+    (All-push (λ (one : KnownFile). IsParsed one.1) [] (known_of first) (All-nil _)
+    c.known_as.ensures.parsed))) in (
       beside ++ more,
       all,
-      are_known first.uri.now first.document.now opened stored c.in_ok-own.own is_open c.in_ok-own.ensures c.in_ok-push_opened.ensures.ordered
+      are_known first.uri.now first.document.now opened stored c.in_ok-own.own is_open c.in_ok-own.ensures
+          c.in_ok-push_opened.ensures.ordered
           c.in_ok-push_stored.ensures.ordered _ all parsed,
     )

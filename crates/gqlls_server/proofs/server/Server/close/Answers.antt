@@ -11,13 +11,16 @@ use Rattle.gqlls_server.proofs.server.Server.close.Goals as goal
 pub returns-clause-closes : goal.returns-clause-closes
 returns-clause-closes c =
     let after : Server = record c.args.self.now { documents = c.remove.new.self } in
-    closes (value_view c.args.params.now) (Notice c.in_ok-notification.notification) (dialogue_of c.args.self.now) (dialogue_of after)
+    closes (value_view c.args.params.now) (Notice c.in_ok-notification.notification)
+    (dialogue_of c.args.self.now) (dialogue_of after)
     c.in-Some.uri.now file_of c.remove.result
     (found_in _ _ _ _ c.uri_of.ensures c.in-Some.is) (ap (option_map file_of) c.remove.ensures.value) (search rules)
     (record {
       sets = record {
-        documents = updated file_of _ _ c.args.self.now.documents c.remove.new.self _ _ refl c.remove.ensures.updates refl;
-        fragments = updated names_of _ _ c.args.self.now.documents c.remove.new.self _ _ refl c.remove.ensures.updates refl;
+        documents = updated file_of _ _ c.args.self.now.documents c.remove.new.self _ _ refl
+            c.remove.ensures.updates refl;
+        fragments = updated names_of _ _ c.args.self.now.documents c.remove.new.self _ _ refl
+            c.remove.ensures.updates refl;
         files = refl;
         file_fragments = refl;
         stage = refl;

@@ -20,10 +20,12 @@ returns c =
           (subst (λ (file : OpenFile). IsParse file.limits document.source document.parsed) file parsed.promise);
       sets = record {
         files =
-            subst (λ (file : OpenFile). Updates c.args.uri.now (Some file) (files c.args.self.now.files) (files c.insert.new.documents)) file
+            subst (λ (file : OpenFile). Updates c.args.uri.now (Some file) (files c.args.self.now.files)
+            (files c.insert.new.documents)) file
             c.in_ok-insert.ensures.files;
         fragments =
-            subst (λ (names : Fragments). Updates c.args.uri.now (Some names) (names_in c.args.self.now.files) (names_in c.insert.new.documents)) parsed.named
+            subst (λ (names : Fragments). Updates c.args.uri.now (Some names) (names_in c.args.self.now.files)
+            (names_in c.insert.new.documents)) parsed.named
             c.in_ok-insert.ensures.names;
         others = refl;
       };

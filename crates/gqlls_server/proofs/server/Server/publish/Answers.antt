@@ -13,8 +13,10 @@ returns-clause-publishes c =
     let notification = c.in_ok-notification.ensures.published in
     let uri = c.args.uri.now in
     let known = c.known.result.opened.now in
-    let all = subst (λ documents. AreBeside (names_in documents) (names_in c.args.self.now.files) (is_own uri documents) notification.0) c.known.ensures.opened
-    (subst (λ files. AreBeside (names_in known) (names_in files) (is_own uri known) notification.0) c.known.ensures.files notification.1) in
+    let all = subst (λ documents. AreBeside (names_in documents) (names_in c.args.self.now.files) (is_own uri documents)
+    notification.0) c.known.ensures.opened
+    (subst (λ files. AreBeside (names_in known) (names_in files) (is_own uri known) notification.0)
+    c.known.ensures.files notification.1) in
     record {
       fragments = names_of c.args.document;
       sets = record {

@@ -6,5 +6,6 @@ use Rattle.ignore_rules.proofs.rules.Rules.decide.Given as goal
 
 abbrev pub invariant-loop-rule : goal.invariant-loop-rule
 invariant-loop-rule g l =
-    (decided l.is_folder l.path l.ignored (map as_rule (drop l.rule-index l.self.rules.items)) ≡ decided l.is_folder l.path false (as_rules l.self))
+    (decided l.is_folder l.path l.ignored (map as_rule (drop l.rule-index l.self.rules.items))
+    ≡ decided l.is_folder l.path false (as_rules l.self))
     × IsClear l.table

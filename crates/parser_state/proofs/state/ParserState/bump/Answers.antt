@@ -12,7 +12,8 @@ use Rattle.parser_state.proofs.state.ParserState.bump.Goals as goal
 pub push_token-requires : goal.push_token-requires
 push_token-requires g c =
     let is = ap (λ (s : State). s.current) (sym c.self.view_is) ∙ ap current_of c.in-Some.is in
-    room-bumped c.args.self.now c.push_pending.new.self (lexeme_of c.in-Some.current) c.«data».result.now c.in_ok-push_pending.ensures.step is c.«data».ensures
+    room-bumped c.args.self.now c.push_pending.new.self (lexeme_of c.in-Some.current) c.«data».result.now
+    c.in_ok-push_pending.ensures.step is c.«data».ensures
     (subst (λ (s : State). length_of s < 2 ^ 64) c.self.view_is c.self.invariant.1)
 
 pub returns : goal.returns
@@ -21,8 +22,10 @@ returns g c =
     let is = ap (λ (s : State). s.current) (sym c.self.view_is) ∙ ap current_of c.in-Some.is in
     record {
       runs = on_ok_weaker _
-          (λ e. does (bumped c.args.kind c.args.self.now c.push_pending.new.self c.push_token.new.self c.read_on.new.self
-          (lexeme_of c.in-Some.current) c.«data».result.now is c.«data».ensures c.in_ok-push_pending.ensures.step c.in_ok-push_token.ensures.step e))
+          (λ e. does (bumped c.args.kind c.args.self.now c.push_pending.new.self
+          c.push_token.new.self c.read_on.new.self
+          (lexeme_of c.in-Some.current) c.«data».result.now is c.«data».ensures c.in_ok-push_pending.ensures.step
+          c.in_ok-push_token.ensures.step e))
           c.read_on.ensures.step;
       budget = c.read_on.ensures.budget ∙ c.push_token.ensures.budget ∙ c.push_pending.ensures.budget;
     }

@@ -6,7 +6,8 @@ use Rattle.parser_state.proofs.Lengths.{after-finish}
 use Rattle.parser_state.proofs.state.ParserState.finish_node.Goals as goal
 
 pub finish_node-requires : goal.finish_node-requires
-finish_node-requires g c = free-fits c.self.inside.builder (subst (λ (s : State). IsOpen s.tree) (sym c.self.view_is) c.requires)
+finish_node-requires g c =
+    free-fits c.self.inside.builder (subst (λ (s : State). IsOpen s.tree) (sym c.self.view_is) c.requires)
 
 pub invariant_of-self : goal.invariant_of-self
 invariant_of-self g c =

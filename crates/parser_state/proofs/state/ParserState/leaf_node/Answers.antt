@@ -13,14 +13,16 @@ use Rattle.parser_state.proofs.state.ParserState.leaf_node.Goals as goal
 
 pub push_leaf_node-requires-clause-leaf : goal.push_leaf_node-requires-clause-leaf
 push_leaf_node-requires-clause-leaf g c =
-    fits-text c.args.node c.args.leaf (current_of c.self.inside.current_token) (lexeme_of c.in-Some.token) c.«data».result.now
+    fits-text c.args.node c.args.leaf (current_of c.self.inside.current_token)
+    (lexeme_of c.in-Some.token) c.«data».result.now
     (ap current_of c.in-Some.is) c.«data».ensures c.self.invariant.0
     (subst (λ (s : State). true ≡ is_leaf_of c.args.node c.args.leaf s.current) (sym c.self.view_is) c.requires)
 
 pub push_leaf_node-requires-clause-len : goal.push_leaf_node-requires-clause-len
 push_leaf_node-requires-clause-len g c =
     let is = ap (λ (s : State). s.current) (sym c.self.view_is) ∙ ap current_of c.in-Some.is in
-    room-bumped c.args.self.now c.push_pending.new.self (lexeme_of c.in-Some.token) c.«data».result.now c.in_ok-push_pending.ensures.step is c.«data».ensures
+    room-bumped c.args.self.now c.push_pending.new.self (lexeme_of c.in-Some.token) c.«data».result.now
+    c.in_ok-push_pending.ensures.step is c.«data».ensures
     (subst (λ (s : State). length_of s < 2 ^ 64) c.self.view_is c.self.invariant.1)
 
 pub returns-clause-step : goal.returns-clause-step
@@ -31,5 +33,6 @@ returns-clause-step g c =
     let anew = ap (λ (m : State). read_on m.items m) c.in_ok-push_leaf_node.ensures.step ∙ read-anew n.items n None in
     on_ok_weaker _
     (λ e. one-leaf c.args.node c.args.leaf c.args.self.now f n c.read_on.new.self
-    (lexeme_of c.in-Some.token) c.«data».result.now is c.«data».ensures c.in_ok-push_pending.ensures.step refl (e ∙ anew))
+    (lexeme_of c.in-Some.token) c.«data».result.now is c.«data».ensures c.in_ok-push_pending.ensures.step
+    refl (e ∙ anew))
     c.read_on.ensures.step

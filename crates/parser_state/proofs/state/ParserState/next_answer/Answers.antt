@@ -14,7 +14,8 @@ pub returns-clause-taken : goal.returns-clause-taken
 returns-clause-taken g c = search rules
 
 pub returns-clause-text : goal.returns-clause-text
-returns-clause-text g c = taken-text _ _ _ (returns-clause-taken g c) (subst (λ (s : State). AreAnswers s.items) c.self.view_is
+returns-clause-text g c =
+    taken-text _ _ _ (returns-clause-taken g c) (subst (λ (s : State). AreAnswers s.items) c.self.view_is
     (answers-are-items c.self.inside.reader.lexer))
 
 pub returns-clause-len : goal.returns-clause-len

@@ -8,11 +8,13 @@ use Rattle.parser_state.proofs.state.ParserState.push_several.Goals as goal
 
 pub push_all-pushed-requires : goal.push_all-pushed-requires
 push_all-pushed-requires g c =
-    subst (λ (ps : List PendingToken). length (built_text c.self.inside.builder) + pending_length (map pending_of ps) < 2 ^ 64) (sym c.deref.ensures.value)
+    subst (λ (ps : List PendingToken). length (built_text c.self.inside.builder) + pending_length (map pending_of ps)
+    < 2 ^ 64) (sym c.deref.ensures.value)
     (room-all _ _ _ _ c.self.invariant.1)
 
 pub invariant_of-self : goal.invariant_of-self
 invariant_of-self g c =
-    let le = subst (λ (ps : List PendingToken). length (built_text c.push_all-pushed.new.builder) ≤ length (built_text c.self.inside.builder) + pending_length
+    let le = subst (λ (ps : List PendingToken). length (built_text c.push_all-pushed.new.builder)
+    ≤ length (built_text c.self.inside.builder) + pending_length
     (map pending_of ps)) c.deref.ensures.value c.push_all-pushed.ensures.len in
     (c.self.invariant.0, after-all _ _ _ _ _ _ le c.clear.ensures.items c.self.invariant.1)

@@ -6,9 +6,12 @@ use Rattle.parser_state.proofs.state.ParserState.push_token.Goals as goal
 
 pub token-requires : goal.token-requires
 token-requires g c =
-    room-built _ _ _ _ _ (subst (λ (s : State). length c.args.text.now + text_length s.tree s.pending None s.items < 2 ^ 64) (sym c.self.view_is) c.requires)
+    room-built _ _ _ _ _ (subst
+    (λ (s : State). length c.args.text.now + text_length s.tree s.pending None s.items < 2 ^ 64)
+    (sym c.self.view_is) c.requires)
 
 pub invariant_of-self-2 : goal.invariant_of-self-2
 invariant_of-self-2 g c =
-    let n = subst (λ (s : State). length c.args.text.now + text_length s.tree s.pending None s.items < 2 ^ 64) (sym c.self.view_is) c.requires in
+    let n = subst (λ (s : State). length c.args.text.now + text_length s.tree s.pending None s.items < 2 ^ 64)
+    (sym c.self.view_is) c.requires in
     (tt, after-leaf c.args.kind c.args.text.now _ _ _ _ _ c.in_ok-token.ensures.ok n)

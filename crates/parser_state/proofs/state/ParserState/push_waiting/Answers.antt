@@ -8,17 +8,23 @@ use Rattle.parser_state.proofs.state.ParserState.push_waiting.Goals as goal
 
 pub token-requires : goal.token-requires
 token-requires g c =
-    room-built _ _ _ _ _ (alone-fits _ _ _ _ _ _ c.as_slice.ensures.value c.in-len1.len_at_least c.in-len1.len_below c.self.invariant.1)
+    room-built _ _ _ _ _ (alone-fits _ _ _ _ _ _ c.as_slice.ensures.value c.in-len1.len_at_least
+    c.in-len1.len_below c.self.invariant.1)
 
 -- the token is taken in
 pub invariant_of-self-in-len1 : goal.invariant_of-self-in-len1
 invariant_of-self-in-len1 g c =
-    let n = alone-fits _ _ _ _ _ _ c.as_slice.ensures.value c.in-len1.len_at_least c.in-len1.len_below c.self.invariant.1 in
-    (c.self.invariant.0, after-drop _ _ _ _ _ c.clear.ensures.items (after-leaf _ _ _ _ [] _ _ c.in_ok-token.ensures.ok n))
+    let n = alone-fits _ _ _ _ _ _ c.as_slice.ensures.value c.in-len1.len_at_least
+    c.in-len1.len_below c.self.invariant.1 in (
+      c.self.invariant.0,
+      after-drop _ _ _ _ _ c.clear.ensures.items
+          (after-leaf _ _ _ _ [] _ _ c.in_ok-token.ensures.ok n),
+    )
 
 -- memory is refused, and the token is lost
 pub invariant_of-self : goal.invariant_of-self
 invariant_of-self g c =
-    let m = subst (λ (b : Building). text_length b (map pending_of c.self.inside.pending.items) (current_of c.self.inside.current_token)
+    let m = subst (λ (b : Building). text_length b (map pending_of c.self.inside.pending.items)
+    (current_of c.self.inside.current_token)
     (answers_left c.self.inside.reader.lexer) < 2 ^ 64) (sym c.in_err-token.ensures.err) c.self.invariant.1 in
     (c.self.invariant.0, after-drop _ _ _ _ _ c.clear.ensures.items m)

@@ -7,6 +7,7 @@ use Rattle.parser_state.proofs.state.ParserState.set_current.Goals as goal
 
 pub invariant_of-self : goal.invariant_of-self
 invariant_of-self g c =
-    let n = subst (λ (s : State). current_length (current_of c.args.token) + text_length s.tree s.pending None s.items < 2 ^ 64)
+    let n = subst (λ (s : State). current_length (current_of c.args.token) + text_length s.tree s.pending None s.items
+    < 2 ^ 64)
     (sym c.self.view_is) c.requires.len in
     (c.requires.text, with-current _ _ _ _ n)

@@ -5,7 +5,8 @@ use Rattle.parser_state.proofs.Reading.{one_more}
 use Rattle.parser_state.proofs.state.building.push_all.Goals as goal
 
 pub token-requires : goal.token-requires
-token-requires g c = next-fits c.args.pending.now c.loop-token.token-index _ _ c.loop-token.builder c.loop-token-test.true c.loop-token.invariant.1 c.requires
+token-requires g c = next-fits c.args.pending.now c.loop-token.token-index _ _ c.loop-token.builder
+    c.loop-token-test.true c.loop-token.invariant.1 c.requires
 
 pub loop-token-preserved : goal.loop-token-preserved
 loop-token-preserved g c = (

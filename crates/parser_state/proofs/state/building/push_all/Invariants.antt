@@ -7,6 +7,7 @@ use Rattle.parser_state.proofs.state.building.push_all.Given as goal
 
 abbrev pub invariant-loop-token : goal.invariant-loop-token
 invariant-loop-token g l =
-    (add_all (map pending_of l.pending) l.initial.builder ≡ add_all (map pending_of (drop l.token-index l.pending)) l.builder)
+    (add_all (map pending_of l.pending) l.initial.builder
+    ≡ add_all (map pending_of (drop l.token-index l.pending)) l.builder)
     × (length (built_text l.builder) + pending_length (map pending_of (drop l.token-index l.pending))
     ≡ length (built_text l.initial.builder) + pending_length (map pending_of l.pending))

@@ -16,8 +16,11 @@ loop-answer-preserved-else-is_none c =
     let is = c.ignored.ensures ∙ ap ignored c.kind.ensures in
     let n = rw c.in-Ok.is at c.in-Some.ensures.count in
     let l = looked-ignored _ _ _ _ _ c.ignored.result taken is c.if-is_none.ensures in
-    let i = c.loop-answer.invariant.1 in
-    (c.loop-answer.invariant.0 ∙ second-ignored _ _ _ _ _ c.ignored.result taken is c.if-is_none.ensures, omega (arith, n, l, i))
+    let i = c.loop-answer.invariant.1 in (
+      c.loop-answer.invariant.0
+          ∙ second-ignored _ _ _ _ _ c.ignored.result taken is c.if-is_none.ensures,
+      omega (arith, n, l, i),
+    )
 
 pub loop-answer-preserved : goal.loop-answer-preserved
 loop-answer-preserved c =
@@ -44,4 +47,7 @@ returns c =
     let n = c.in_default.ensures.count in
     let l = looked-end _ c.in_default.ensures.answers.0 in
     let i = c.loop-answer.invariant.1 in
-    record { found = sym (c.loop-answer.invariant.0 ∙ second-end _ c.in_default.ensures.answers.0); count = omega (arith, n, l, i) }
+    record {
+      found = sym (c.loop-answer.invariant.0 ∙ second-end _ c.in_default.ensures.answers.0);
+      count = omega (arith, n, l, i);
+    }

@@ -10,6 +10,7 @@ returns-in_default c = sym (no_word c.args.keyword (current_of c.args.token) c.r
 
 pub returns-then-is_same : goal.returns-then-is_same
 returns-then-is_same c =
-    c.eq.ensures ∙ name-is-word c.args.keyword (lexeme_of c.in-Some-token.token) _ c.in-Some.word.now c.requires c.in-Some.ensures
+    c.eq.ensures ∙ name-is-word c.args.keyword (lexeme_of c.in-Some-token.token) _ c.in-Some.word.now
+    c.requires c.in-Some.ensures
     (c.if-is_same.ensures ∙ ap (λ k. same_kind k token.Name) c.kind.ensures) c.«data».ensures
     ∙ sym (ap (λ o. is_word c.args.keyword (current_of o)) c.in-Some-token.is)

@@ -5,4 +5,5 @@ use Rattle.rpc_messages.specs.Pieces.{tokens_of}
 use Rattle.rpc_messages.proofs.nesting.Nesting.take_all.Given as goal
 
 abbrev pub invariant-loop-piece : goal.invariant-loop-piece
-invariant-loop-piece l = expected_in l.self ≡ after_all (flat_map tokens_of (take l.piece-index l.pieces)) (expected_in l.initial.self)
+invariant-loop-piece l =
+    expected_in l.self ≡ after_all (flat_map tokens_of (take l.piece-index l.pieces)) (expected_in l.initial.self)

@@ -6,7 +6,8 @@ use Rattle.std.proofs.lemmas.Result.{err_from_is_err_and}
 use Rattle.file_access.specs.Listing.{AreInOrder, Entry, as_entry, entries}
 use Rattle.file_access.specs.declared.listing.Entry as declared
 use Rattle.ignore_rules.specs.Ignored.{as_rules}
-use Rattle.unignored_files.specs.Unignored.{Sifts, is_kept, no_folder_listed, refused, sifted, stopped, unlisted_folder, unlocated}
+use Rattle.unignored_files.specs.Unignored.{Sifts, is_kept, no_folder_listed, refused, sifted, stopped, unlisted_folder}
+use Rattle.unignored_files.specs.Unignored.{unlocated}
 use Rattle.unignored_files.proofs.UnignoredLemmas.{map-filter}
 use Rattle.unignored_files.proofs.unignored.UnignoredFiles.list.Goals as goal
 
@@ -40,11 +41,14 @@ returns-in_err-kept-clause-lists g c =
 pub returns-clause-lists : goal.returns-clause-lists
 returns-clause-lists g c =
     let kept = rw c.as_str-2.ensures.value at c.in_ok-kept.ensures in
-    subst (λ (has : List Entry). Sifts g.F.Files.lists g.F.Files.locates g.F.Files.reads c.args.path.now (as_rules c.args.self.now.rules) c.args.self.now.files
+    subst (λ (has : List Entry). Sifts g.F.Files.lists g.F.Files.locates g.F.Files.reads c.args.path.now
+    (as_rules c.args.self.now.rules) c.args.self.now.files
     (entries has) (as_rules c.add_folder.new.rules) c.add_folder.new.files)
     (sym (ap (map as_entry) kept
-    ∙ map-filter as_entry (is_kept (as_rules c.add_folder.new.rules) (string_bytes c.in_ok-folder.folder)) c.in-Some.entries.items))
-    (sifted (rw c.in-Some.is at c.in_ok-entries.ensures.lists) c.in_ok-folder.ensures (rw c.as_str.ensures.value at c.in_ok-add_folder.ensures.ok))
+    ∙ map-filter as_entry (is_kept (as_rules c.add_folder.new.rules) (string_bytes c.in_ok-folder.folder))
+    c.in-Some.entries.items))
+    (sifted (rw c.in-Some.is at c.in_ok-entries.ensures.lists) c.in_ok-folder.ensures
+    (rw c.as_str.ensures.value at c.in_ok-add_folder.ensures.ok))
 
 pub returns-clause-ordered : goal.returns-clause-ordered
 returns-clause-ordered g c =

@@ -11,4 +11,5 @@ returns-clause-same c = IsPermutation-map as_breach _ _ c.sort_unstable_by_key.e
 pub returns-clause-in_order : goal.returns-clause-in_order
 returns-clause-in_order c =
     sorted_breaches _
-    (c.sort_unstable_by_key.ensures.sorted (λ v. text_key (as_breach v)) (answers_always _ _ _ (λ f a r g h. search rules)))
+    (c.sort_unstable_by_key.ensures.sorted (λ v. text_key (as_breach v))
+    (answers_always _ _ _ (λ f a r g h. search rules)))

@@ -8,7 +8,8 @@ use Rattle.parser_state.proofs.state.reader.Reader.next_answer.Goals as goal
 pub invariant_of-self-in-None : goal.invariant_of-self-in-None
 invariant_of-self-in-None c =
     let s = c.args.self.now in
-    let all : all_given c.next_counted.new.self ≡ all_given s.lexer = ap₂ min c.next_counted.ensures.high c.next_counted.ensures.limit in
+    let all : all_given c.next_counted.new.self ≡ all_given s.lexer =
+    ap₂ min c.next_counted.ensures.high c.next_counted.ensures.limit in
     let taken = rw c.in-Ok.is at c.in_ok-answer.ensures.answers in
     let n = rw c.in-Ok.is at c.in_ok-answer.ensures.count in
     let is = sym c.in-None.is ∙ c.ignored.ensures ∙ ap ignored c.kind.ensures in
@@ -19,7 +20,8 @@ invariant_of-self-in-None c =
 pub invariant_of-self-in-Some-1 : goal.invariant_of-self-in-Some-1
 invariant_of-self-in-Some-1 c =
     let s = c.args.self.now in
-    let all : all_given c.next_counted.new.self ≡ all_given s.lexer = ap₂ min c.next_counted.ensures.high c.next_counted.ensures.limit in
+    let all : all_given c.next_counted.new.self ≡ all_given s.lexer =
+    ap₂ min c.next_counted.ensures.high c.next_counted.ensures.limit in
     let taken = rw c.in-Ok.is at c.in_ok-answer.ensures.answers in
     let n = rw c.in-Ok.is at c.in_ok-answer.ensures.count in
     let is = sym c.in-Some.is ∙ c.ignored.ensures ∙ ap ignored c.kind.ensures in
@@ -33,9 +35,13 @@ invariant_of-self-in-Some-1 c =
 pub invariant_of-self-in-Err-1 : goal.invariant_of-self-in-Err-1
 invariant_of-self-in-Err-1 c =
     let s = c.args.self.now in
-    let all : all_given c.next_counted.new.self ≡ all_given s.lexer = ap₂ min c.next_counted.ensures.high c.next_counted.ensures.limit in
+    let all : all_given c.next_counted.new.self ≡ all_given s.lexer =
+    ap₂ min c.next_counted.ensures.high c.next_counted.ensures.limit in
     let taken = rw c.in-Err.is at c.in_ok-answer.ensures.answers in
     let n = rw c.in-Err.is at c.in_ok-answer.ensures.count in
     let m : ℕ = s.start.value + 2 * all_given s.lexer in
     let k = after-bad s.ahead.is_known _ _ _ _ _ _ _ m taken n s.within in
-    record { known = still-shown s.ahead.is_known _ _ _ (second-bad _ _ _ _ _ taken) s.known; within = omega (arith, k, all) }
+    record {
+      known = still-shown s.ahead.is_known _ _ _ (second-bad _ _ _ _ _ taken) s.known;
+      within = omega (arith, k, all);
+    }
