@@ -10,10 +10,10 @@ use document_grammar::SyntaxKind;
 use std::mem::size_of;
 
 // The most records that a table of small ones has, and the greatest size and distance to a parent in it.
-pub const MOST_SMALL: usize = 268435455;
+pub const MOST_SMALL: usize = (1 << 28) - 1;
 
 // The bit that says that a small record is a node's. It comes above the record's start.
-const NODE: u32 = 2147483648;
+const NODE: u32 = 1 << 31;
 
 // The greatest start of a small record.
 pub const LAST_SMALL_START: usize = NODE as usize - 1;
