@@ -89,6 +89,7 @@ tests() {
     release/bindings/run
     tests/figures
     tests/validation
+    tests/variables
     release/bindings/run pages
     tests/editors/run
     tests/readme --check

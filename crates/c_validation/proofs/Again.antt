@@ -33,7 +33,7 @@ record Wrote (source : List ℕ) (r k : ℕ) (before after : List OperationRow) 
   parsed : Parsed
   parse : IsDocumentParse source r k parsed
   measures : List Measure
-  are_measures : AreMeasures (defined (root parsed)) measures
+  are_measures : AreMeasures (defined (root parsed ∷ [])) measures
   written : after ≡ filled before (map operation_row measures)
   counted : counts ≡ measure_counts measures
 
@@ -50,8 +50,8 @@ length-map f [] = refl
 length-map f (x ∷ xs) = ap suc (length-map f xs)
 
 -- a document has as many figures as operations
-operations-of : (parsed : Parsed) (measures : List Measure) → AreMeasures (defined (root parsed)) measures
-    → length measures ≡ length (filter is_operation (defined (root parsed)))
+operations-of : (parsed : Parsed) (measures : List Measure) → AreMeasures (defined (root parsed ∷ [])) measures
+    → length measures ≡ length (filter is_operation (defined (root parsed ∷ [])))
 operations-of parsed measures are =
     sym (length-map (λ (m : Measure). m.operation) measures) ∙ ap length are.operations_are
 
@@ -66,7 +66,7 @@ measures-again source r k before after room filled_room first second one ok two 
     let same : f.parsed ≡ s.parsed =
     one-parse f.parsed s.parsed f.parse.parse.promise.by_rules s.parse.parse.promise.by_rules in
     let number : length f.measures ≡ length s.measures = operations-of f.parsed f.measures f.are_measures
-    ∙ ap (λ (p : Parsed). length (filter is_operation (defined (root p)))) same
+    ∙ ap (λ (p : Parsed). length (filter is_operation (defined (root p ∷ [])))) same
     ∙ sym (operations-of s.parsed s.measures s.are_measures) in (
       s.counted ∙ ap (λ n. record { operations = n; start = 0; end = 0; other_start = 0; other_end = 0; status = OK })
           (sym number) ∙ sym f.counted,

@@ -1,5 +1,5 @@
 -- What a call gives, by its status.
-use Rattle.std.proofs.Common.{◌≡◌, ◌∙◌, ℕ, List, length, map, ap}
+use Rattle.std.proofs.Common.{◌≡◌, ◌∙◌, ℕ, List, length, map, ap, [], ◌∷◌}
 use Rattle.std.proofs.lemmas.List.{length-map}
 use Rattle.apollo_parser.specs.Filled.{filled}
 use Rattle.apollo_parser.specs.Parsed.{Parsed}
@@ -47,13 +47,14 @@ no-measure source r k status before counts is why = rw is (not_measured why)
 
 pub of-fault : (source : List ℕ) (r k : ℕ) (parsed : Parsed) (reason : MeasureError) (before : List OperationRow)
     (counts : MeasureCounts)
-    → IsDocumentParse source r k parsed → IsMeasureError (defined (root parsed)) reason → counts ≡ fault_counts reason
+    → IsDocumentParse source r k parsed → IsMeasureError (defined (root parsed ∷ [])) reason
+    → counts ≡ fault_counts reason
     → MeasureOutcome source r k before before counts
 of-fault source r k parsed reason before counts document is c = rw c (not_measurable reason document is)
 
 pub of-figures : (source : List ℕ) (r k : ℕ) (parsed : Parsed) (measures : List Measure)
     (before after : List OperationRow) (count : ℕ)
-    → IsDocumentParse source r k parsed → AreMeasures (defined (root parsed)) measures
+    → IsDocumentParse source r k parsed → AreMeasures (defined (root parsed ∷ [])) measures
     → after ≡ filled before (map operation_row measures)
     → count ≡ length (map operation_row measures)
     → MeasureOutcome source r k before after

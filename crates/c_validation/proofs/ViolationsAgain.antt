@@ -1,12 +1,12 @@
 -- A second validation, with the room that the first one counted.
-use Rattle.std.proofs.Common.{◌≡◌, ◌∙◌, ◌<◌, ap, sym, ℕ, List, length, refl, subst, arith}
+use Rattle.std.proofs.Common.{◌≡◌, ◌∙◌, [], ◌∷◌, ap, sym, ℕ, List, length, refl, subst, take}
 use Rattle.apollo_parser.specs.Filled.{filled}
 use Rattle.apollo_parser.specs.Parsed.{Parsed}
 use Rattle.apollo_parser.proofs.OneParse.{one-parse}
 use Rattle.validation_rules.specs.Violations.{Breach}
-use Rattle.document_validation.specs.Breaches.{AreBreaches, BreaksAs}
-use Rattle.document_validation.specs.Lists.{document_kind}
-use Rattle.document_validation.proofs.OneListLemmas.{one-list}
+use Rattle.validation_rules.specs.TextOrder.{IsInTextOrder}
+use Rattle.validation_rules.proofs.TextOrderLemmas.{one_order}
+use Rattle.document_validation.specs.Breaches.{breaches as all}
 use Rattle.c_parsing.specs.Outcomes.{OK}
 use Rattle.c_parsing.proofs.Again.{filled-whole}
 use Rattle.c_validation.specs.Again.{HoldViolations}
@@ -36,22 +36,20 @@ wrote (not_validated refused) ok = absurd (no-refusal refused ok)
 
 pub violations-again : (source : List ℕ) (r k most : ℕ) (before after room filled_room : ViolationBuffers)
     (first second : ViolationCounts)
-    → ValidationOutcome source r k most before after first → first.status ≡ OK → first.violations < most
+    → ValidationOutcome source r k most before after first → first.status ≡ OK
     → ValidationOutcome source r k most room filled_room second → second.status ≡ OK
     → (second ≡ first)
     × (length room.violations ≡ first.violations → length room.messages ≡ first.message_bytes
     → HoldViolations source r k most filled_room)
-violations-again source r k most before after room filled_room first second one ok few two ok' =
+violations-again source r k most before after room filled_room first second one ok two ok' =
     let f = wrote one ok in
     let s = wrote two ok' in
     let same : s.parsed ≡ f.parsed =
     one-parse s.parsed f.parsed s.parse.parse.promise.by_rules f.parse.parse.promise.by_rules in
-    let exact : AreBreaches most (BreaksAs (document_kind (root f.parsed)) (root f.parsed)) s.breaches =
-    subst (λ (p : Parsed). AreBreaches most (BreaksAs (document_kind (root p)) (root p)) s.breaches)
-    same s.found.exact in
-    let fewer : length f.breaches < most = omega (arith, few, ap (λ (c : ViolationCounts). c.violations) f.counted) in
+    let exact : IsInTextOrder (take most (all (root f.parsed ∷ []))) s.breaches =
+    subst (λ (p : Parsed). IsInTextOrder (take most (all (root p ∷ []))) s.breaches) same s.found.exact in
     let list : s.breaches ≡ f.breaches =
-    one-list (document_kind (root f.parsed)) (root f.parsed) most f.breaches s.breaches f.found.exact exact fewer in
+    one_order (take most (all (root f.parsed ∷ []))) s.breaches f.breaches exact f.found.exact in
     let second_is_first : second ≡ first = s.counted ∙ ap violation_counts list ∙ sym f.counted in (
       second_is_first,
       λ rows said. record {

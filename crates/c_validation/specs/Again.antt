@@ -1,5 +1,5 @@
 -- A second call, with the room that the first call counted.
-use Rattle.std.specs.Prelude.{◌≡◌, ℕ, List, map}
+use Rattle.std.specs.Prelude.{◌≡◌, ℕ, List, [], ◌∷◌, map}
 use Rattle.apollo_parser.specs.Parsed.{Parsed}
 use Rattle.validation_names.specs.Definitions.{defined}
 use Rattle.cost_limits.specs.Measures.{AreMeasures, Measure}
@@ -13,10 +13,10 @@ pub record HoldMeasures (source : List ℕ) (max_depth max_items : ℕ) (buffer 
   pub parsed : Parsed
   pub parse : IsDocumentParse source max_depth max_items parsed
   pub measures : List Measure
-  pub are_measures : AreMeasures (defined (root parsed)) measures
+  pub are_measures : AreMeasures (defined (root parsed ∷ [])) measures
   pub is : buffer ≡ map operation_row measures
 
--- The buffers hold all violations of the text, which has fewer of them than the bound.
+-- The buffers hold the violations of the text, up to the bound.
 pub record HoldViolations (source : List ℕ) (max_depth max_items most : ℕ) (buffers : ViolationBuffers) : Type 0 where
   pub parsed : Parsed
   pub parse : IsDocumentParse source max_depth max_items parsed

@@ -1,6 +1,6 @@
 -- What each call gives: for the status OK what it wrote, and for each other status why, and that it wrote nothing. A
 -- call ends with no other status than those of the cases; that memory was refused, `NO_MEMORY`, has no further reason.
-use Rattle.std.specs.Prelude.{◌≡◌, ◌<◌, ◌↔◌, ℕ, List, [], length, map}
+use Rattle.std.specs.Prelude.{◌≡◌, ◌<◌, ◌↔◌, ℕ, List, [], ◌∷◌, length, map}
 use Rattle.std.specs.Str.{IsUtf8}
 use Rattle.apollo_parser.specs.Filled.{filled}
 use Rattle.apollo_parser.specs.Parsed.{Parsed}
@@ -8,9 +8,8 @@ use Rattle.apollo_tree.specs.Order.{Place, range_at}
 use Rattle.formatter.specs.Formatted.{IsDocument}
 use Rattle.validation_names.specs.Definitions.{as_defined, defined}
 use Rattle.validation_rules.specs.Violations.{Breach}
-use Rattle.document_validation.specs.Lists.{document_kind}
-use Rattle.document_validation.specs.Breaches.{AreBreaches, BreaksAs}
-use Rattle.document_validation.specs.Validity.{IsValidAs}
+use Rattle.document_validation.specs.Breaches as validation
+use Rattle.document_validation.specs.Breaches.{AreValid, breaches as all}
 use Rattle.cost_limits.specs.Measures.{AreMeasures, IsMeasureError, Measure}
 use Rattle.cost_limits.specs.declared.measures.MeasureError.{MeasureError}
 use Rattle.cost_limits.specs.declared.measures.MeasureError.TheVariants as error
@@ -54,10 +53,10 @@ root parsed = record { whole = parsed.tree; index = 0 }
 
 -- These are the breaches that validation finds in a document, up to a bound, by the root of its tree.
 pub record AreFound (most : ℕ) (document : Place) (breaches : List Breach) : Type 0 where
-  -- all of them break a rule, none is there twice, and if there are fewer than the bound, no others do
-  pub exact : AreBreaches most (BreaksAs (document_kind document) document) breaches
+  -- they are the first of all, up to the bound, in the order of the text
+  pub exact : validation.AreFound most (all (document ∷ [])) breaches
   -- there are none exactly if the document keeps all rules
-  pub valid : 0 < most → (breaches ≡ []) ↔ IsValidAs (document_kind document) document
+  pub valid : 0 < most → (breaches ≡ []) ↔ AreValid (document ∷ [])
 
 -- The report has the rows and the messages of the breaches that validation finds.
 pub record IsReport (most : ℕ) (document : Place) (report : Report) : Type 0 where
@@ -121,7 +120,7 @@ fault_at status at other =
 
 abbrev pub fault_counts : MeasureError → MeasureCounts
 fault_counts (error.SameName first second) =
-    fault_at SAME_NAME (range_at (as_defined second).place) (range_at (as_defined first).place)
+    fault_at SAME_NAME (range_at (as_defined second).site.place) (range_at (as_defined first).site.place)
 fault_counts (error.Cycle span) = fault_at CYCLE (span.start, span.end) (0, 0)
 fault_counts (error.Undefined span) = fault_at UNDEFINED (span.start, span.end) (0, 0)
 fault_counts error.Memory = no_measures NO_MEMORY
@@ -133,14 +132,14 @@ pub data MeasureOutcome (source : List ℕ) (max_depth max_items : ℕ) (before 
   measured :
       {parsed : Parsed} {measures : List Measure}
       → IsDocumentParse source max_depth max_items parsed
-      → AreMeasures (defined (root parsed)) measures
+      → AreMeasures (defined (root parsed ∷ [])) measures
       → MeasureOutcome source max_depth max_items before (filled before (map operation_row measures))
       (measure_counts measures)
   -- it is one, and its operations have no figures for this reason; nothing was written
   not_measurable :
       {parsed : Parsed} (reason : MeasureError)
       → IsDocumentParse source max_depth max_items parsed
-      → IsMeasureError (defined (root parsed)) reason
+      → IsMeasureError (defined (root parsed ∷ [])) reason
       → MeasureOutcome source max_depth max_items before before (fault_counts reason)
   -- nothing was written
   not_measured :

@@ -1,11 +1,12 @@
 -- The rows that say the violations of a document, and the figures of its operations.
-use Rattle.std.specs.Prelude.{ℕ, ◌+◌, List, [], ◌∷◌, length, is_some, Option, Some, None}
+use Rattle.std.specs.Prelude.{ℕ, ◌+◌, List, [], ◌∷◌, length, is_some, Option, Some, None, option_map}
 use Rattle.std.specs.Int.{from_bool}
 use Rattle.std.specs.List.{flat_map}
 use Rattle.document_grammar.specs.declared.kind.SyntaxKind.TheVariants.{NAME}
 use Rattle.document_grammar.specs.Numbers.{is_kind}
 use Rattle.apollo_tree.specs.Order.{Place, range_at}
 use Rattle.apollo_cst_core.specs.Cast.{cast_children, first_of}
+use Rattle.validation_names.specs.Sites.{Located}
 use Rattle.validation_rules.specs.RuleNumbers.{rule_number}
 use Rattle.validation_rules.specs.Violations.{Breach}
 use Rattle.document_validation.specs.Messages.{message_of}
@@ -27,10 +28,10 @@ messages breaches = flat_map message_of breaches
 -- The row of a violation with these words, where the messages before it have `offset` bytes.
 abbrev pub violation_row : ℕ → List ℕ → Breach → ViolationRow
 violation_row offset words b = record {
-  start = (range_at b.place).0;
-  end = (range_at b.place).1;
-  other_start = (range_of b.other).0;
-  other_end = (range_of b.other).1;
+  start = (range_at b.site.place).0;
+  end = (range_at b.site.place).1;
+  other_start = (range_of (option_map (λ (s : Located). s.place) b.other)).0;
+  other_end = (range_of (option_map (λ (s : Located). s.place) b.other)).1;
   message = offset;
   message_length = length words;
   rule = rule_number b.rule;
@@ -51,10 +52,10 @@ name_range p = range_of (first_of (cast_children (is_kind NAME) p))
 
 abbrev pub operation_row : Measure → OperationRow
 operation_row m = record {
-  start = (range_at m.operation.place).0;
-  end = (range_at m.operation.place).1;
-  name_start = (name_range m.operation.place).0;
-  name_end = (name_range m.operation.place).1;
+  start = (range_at m.operation.site.place).0;
+  end = (range_at m.operation.site.place).1;
+  name_start = (name_range m.operation.site.place).0;
+  name_end = (name_range m.operation.site.place).1;
   depth = m.figures.depth;
   fields = m.figures.fields;
   root_fields = m.figures.root_fields;

@@ -18,13 +18,12 @@ pub fn measures_again()
         → (second ≡ first) × (length room ≡ first.operations → HoldMeasures source max_depth max_items filled) }
 {}
 
-/// A second validation of a text within the same limits counts what the first one did, if that found fewer violations
-/// than its bound. With just that room it writes all of them and their messages.
+/// A second validation of a text within the same limits counts what the first one did. With just that room it writes
+/// all of them and their messages.
 pub fn violations_again()
     ensures { (source : List ℕ) (max_depth max_items most : ℕ) (before after room filled : ViolationBuffers)
         (first second : ViolationCounts)
         → ValidationOutcome source max_depth max_items most before after first → first.status ≡ OK
-        → first.violations < most
         → ValidationOutcome source max_depth max_items most room filled second → second.status ≡ OK
         → (second ≡ first) × (length room.violations ≡ first.violations → length room.messages ≡ first.message_bytes
         → HoldViolations source max_depth max_items most filled) }

@@ -30,8 +30,8 @@ fn name_range<'t>(operation: &SyntaxNode<'t>) -> (usize, usize)
 fn row_of(measured: &OperationFigures<'_>) -> OperationRow
     ensures { result ≡ operation_row (as_measure measured.now) }
 {
-    let range = measured.operation.node.text_range();
-    let (name_start, name_end) = name_range(&measured.operation.node);
+    let range = measured.operation.site.node.text_range();
+    let (name_start, name_end) = name_range(&measured.operation.site.node);
     let figures = measured.figures;
     OperationRow {
         start: range.start(),
@@ -80,8 +80,8 @@ fn fault(error: MeasureError<'_>) -> MeasureCounts
 {
     match error {
         MeasureError::SameName(first, second) => {
-            let range = second.node.text_range();
-            let other = first.node.text_range();
+            let range = second.site.node.text_range();
+            let other = first.site.node.text_range();
             MeasureCounts {
                 start: range.start(),
                 end: range.end(),

@@ -36,8 +36,8 @@ pub(crate) fn range_of(node: Option<SyntaxNode<'_>>) -> (usize, usize)
 fn row_of(violation: &Violation<'_>, message: usize, words: &str) -> ViolationRow
     ensures { result ≡ violation_row message words.now (as_breach violation.now) }
 {
-    let range = violation.node.text_range();
-    let (other_start, other_end) = range_of(violation.other);
+    let range = violation.site.node.text_range();
+    let (other_start, other_end) = range_of(violation.other.map(|site| site.node));
     ViolationRow {
         start: range.start(),
         end: range.end(),
@@ -73,8 +73,10 @@ fn find_violations<'t>(
 ) -> Result<Report, AllocError>
     ensures { IfOk result (IsReport most (node_place document.now)) }
 {
-    let violations = validate(alloc, document, most)?;
-    report_of(alloc, violations.as_slice())
+    let violations = validate(alloc, &[*document], most)?;
+    // bound to a name, so that its clauses on `Ok` are found
+    let report = report_of(alloc, violations.as_slice())?;
+    Ok(report)
 }
 
 fn refused(status: u32) -> ViolationCounts

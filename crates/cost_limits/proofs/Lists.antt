@@ -96,12 +96,12 @@ module _ (f g : Option Name → ℕ) (same : (o : Option Name) → f o ≡ g o) 
       (below_same whole n (suc (i + count kids)) (seen_after seen p) rest)
 
   all_same : (vs : List ExecutableDefinition)
-      → map (λ (d : ExecutableDefinition). definition_items f (node_place d.node)) vs
-      ≡ map (λ (d : Defined). definition_items g d.place) (map as_defined vs)
+      → map (λ (d : ExecutableDefinition). definition_items f (node_place d.site.node)) vs
+      ≡ map (λ (d : Defined). definition_items g d.site.place) (map as_defined vs)
   all_same [] = refl
   all_same (v ∷ vs) =
-      let p = node_place v.node in
-      ap (λ xs. xs ∷ map (λ (d : ExecutableDefinition). definition_items f (node_place d.node)) vs)
+      let p = node_place v.site.node in
+      ap (λ xs. xs ∷ map (λ (d : ExecutableDefinition). definition_items f (node_place d.site.node)) vs)
       (below_same p.whole 0 (suc p.index) [] (tree_kids
       (tree_at p)))
       ∙ ap (λ xss. definition_items g p ∷ xss) (all_same vs)
@@ -113,7 +113,7 @@ same_number entries names are (Some s) = ap (λ o. unwrap_or o (2 ^ 64 - 1)) (ar
 
 pub items_are : (entries : Entries ℕ) (vs : List ExecutableDefinition)
     → AreFirstNumbers entries (fragment_names (map as_defined vs))
-    → map (λ (d : ExecutableDefinition). definition_items (number_of entries) (node_place d.node)) vs
+    → map (λ (d : ExecutableDefinition). definition_items (number_of entries) (node_place d.site.node)) vs
     ≡ items_of (map as_defined vs)
 items_are entries vs are =
     all_same (number_of entries) (number_in (fragment_names (map as_defined vs)))
@@ -212,7 +212,7 @@ in_range f vs ds roots e is =
       length-map vs f,
       ap (λ xs. length xs) e,
       length-map ds
-          (λ (d : Defined). definition_items (number_in (fragment_names ds)) d.place),
+          (λ (d : Defined). definition_items (number_in (fragment_names ds)) d.site.place),
     )))
 
 either_length : (b : Bool) (k : ℕ) (ks : List ℕ) (d : Defined) (ds : List Defined) → length ks ≡ length ds

@@ -20,7 +20,7 @@ number_in names (Some s) = unwrap_or (first_number names s) (2 ^ 64 - 1)
 
 -- the items of each definition
 abbrev pub items_of : List Defined → List (List Item)
-items_of ds = map (λ d. definition_items (number_in (fragment_names ds)) d.place) ds
+items_of ds = map (λ d. definition_items (number_in (fragment_names ds)) d.site.place) ds
 
 abbrev pub is_operation : Defined → Bool
 is_operation d = elim d.kind [ Operation ↦ true | Fragment ↦ false ]

@@ -1,5 +1,5 @@
 // The figures of the operations of a document.
-ghost use Rattle.std.specs.Prelude.{◌≡◌, ◌<◌, map, length, IfOk, IfErr, IfSome, IfNone};
+ghost use Rattle.std.specs.Prelude.{◌≡◌, ◌<◌, [], ◌∷◌, map, length, IfOk, IfErr, IfSome, IfNone};
 ghost use Rattle.std.specs.List.{filter};
 ghost use Rattle.apollo_tree.specs.References.{node_place};
 ghost use Rattle.validation_names.specs.Names.{AreFirstNumbers};
@@ -79,7 +79,7 @@ fn all_items<'t, A: Allocator + Copy>(
 {
     let mut found = Vec::new(alloc);
     for definition in definitions {
-        found.push(items(alloc, &definition.node, fragments)?)?;
+        found.push(items(alloc, &definition.site.node, fragments)?)?;
     }
     Ok(found)
 }
@@ -173,10 +173,10 @@ pub fn measure<'t, A: Allocator + Copy>(
     alloc: A,
     document: &SyntaxNode<'t>,
 ) -> Result<Vec<OperationFigures<'t>, A>, MeasureError<'t>>
-    ensures figures { IfOk result (λ v. AreMeasures (defined (node_place document.now)) (map as_measure v.items)) }
-    ensures error { IfErr result (IsMeasureError (defined (node_place document.now))) }
+    ensures figures { IfOk result (λ v. AreMeasures (defined (node_place document.now ∷ [])) (map as_measure v.items)) }
+    ensures error { IfErr result (IsMeasureError (defined (node_place document.now ∷ []))) }
 {
-    let Ok(definitions) = definitions(alloc, document) else {
+    let Ok(definitions) = definitions(alloc, &[*document]) else {
         return Err(MeasureError::Memory);
     };
     let Ok(fragments) = fragments(alloc, definitions.as_slice()) else {

@@ -1,5 +1,4 @@
--- Components that passed the tests: an edge leads back exactly if both its ends are in one component. At the end, what
--- is found for one vertex more.
+-- Components that passed the tests: an edge leads back exactly if both its ends are in one component.
 use Rattle.std.proofs.Common.{◌+◌, ◌++◌, Option, None, get_or, length-append, ◌≡◌, ◌≢◌, ℕ, zero, suc, ◌<◌, ◌≤◌, List}
 use Rattle.std.proofs.Common.{[], ◌∷◌, length, arith, refl, sym, ⊎_elim}
 use Rattle.std.specs.List.{Contains}
@@ -8,7 +7,10 @@ use Rattle.std.proofs.lemmas.Grind.{common_steps}
 use Rattle.directed_graph.specs.declared.components.Part.{Part}
 use Rattle.directed_graph.specs.Graph.{Graph, HasEdge, IsClosed, Reached, start, next}
 use Rattle.directed_graph.specs.Parts.{part_of, AreSound}
-use Rattle.directed_graph.specs.Returns.{LeadsTo, IsReturn, AreReturns}
+
+-- the other vertex is this one, or edges lead from it to this one
+abbrev pub LeadsTo : Graph → ℕ → ℕ → Type 0
+LeadsTo graph vertex other = Reached (HasEdge graph) (other ∷ []) vertex
 
 pub no_row : (graph : Graph) (from to : ℕ) → length graph ≤ from → ¬ HasEdge graph from to
 no_row [] from to above (k, inside, is) = absurd (omega arith)
@@ -119,23 +121,3 @@ same_if_back graph parts v w sound edge back =
     (λ (same : ((part_of parts w).component ≡ (part_of parts v).component)
     × ((part_of parts w).root ≡ (part_of parts v).root)). sym same.0)
     ((sound v (begins_inside graph v w edge)).order w edge)
-
--- one vertex more
-pub returns_more :
-    (graph : Graph) (n : ℕ) (found : List (Option ℕ)) (other : Option ℕ) → IsReturn graph n other
-    → AreReturns graph n found
-    → AreReturns graph (n + 1) (found ++ other ∷ [])
-returns_more graph n found other is are = record {
-  as_many = let e = are.as_many in rw length-append (omega arith);
-  each = λ vertex below.
-      ⊎_elim
-      (λ (e : vertex ≡ n). rw (e, last) is)
-      (λ (apart : vertex ≢ n). let less : vertex < n = omega arith in rw (before vertex less) (are.each vertex less))
-      (cases_eq vertex n);
-}
-  where
-    last : get_or (found ++ other ∷ []) n None ≡ other
-    last = let e = are.as_many in grind (arith, common_steps)
-
-    before : (vertex : ℕ) → vertex < n → get_or (found ++ other ∷ []) vertex None ≡ get_or found vertex None
-    before vertex less = let e = are.as_many in grind (arith, common_steps)

@@ -1,4 +1,4 @@
 pub mod Graph
 pub mod Marks
 pub mod Parts
-pub mod Returns
+pub mod Reach

@@ -1,9 +1,10 @@
 // Which vertices are on cycles.
-ghost use Rattle.std.specs.Prelude.{◌≡◌, ◌<◌, ◌↔◌, ℕ, length, IfOk, OnOk, IfSome, IsTrue};
+ghost use Rattle.std.specs.Prelude.{◌≡◌, ◌<◌, ℕ, [], ◌∷◌, length, map, IfOk, OnOk, IfSome, IsTrue};
+ghost use Rattle.std.specs.List.{range_with_len};
 ghost use Rattle.directed_graph.specs.Graph.{HasEdge, IsClosed};
 ghost use Rattle.directed_graph.specs.Marks.{AreUnmarked};
 ghost use Rattle.directed_graph.specs.Parts.{AreSoundFor, ComesIn, Follows, GoesOut, IsSound};
-ghost use Rattle.directed_graph.specs.Returns.{AreReturns, IsReturn, LeadsTo};
+ghost use Rattle.directed_graph.specs.Reach.{first_return, reaches};
 
 use crate::components::{Edge, Part, components};
 use crate::search::{reach, row};
@@ -120,7 +121,7 @@ fn leads_back(
     requires unmarked { AreUnmarked marks.old.items }
     ensures as_many { OnOk result (length marks.new.items ≡ length graph.now) }
     ensures unmarked { OnOk result (AreUnmarked marks.new.items) }
-    ensures back { IfOk result (λ back. IsTrue back ↔ LeadsTo graph.now vertex other) }
+    ensures back { IfOk result (λ back. back ≡ reaches graph.now (other ∷ []) vertex) }
 {
     if are_sound {
         return Ok(parts[vertex].component == parts[other].component);
@@ -145,7 +146,7 @@ fn first_return(
     requires unmarked { AreUnmarked marks.old.items }
     ensures as_many { OnOk result (length marks.new.items ≡ length graph.now) }
     ensures unmarked { OnOk result (AreUnmarked marks.new.items) }
-    ensures first { IfOk result (λ found. IsReturn graph.now vertex found) }
+    ensures first { IfOk result (λ found. found ≡ first_return graph.now vertex) }
 {
     for other in row(graph, vertex) {
         if leads_back(alloc, graph, parts, are_sound, marks, vertex, *other)? {
@@ -159,7 +160,7 @@ fn first_return(
 /// the vertex is on a cycle.
 pub fn returns(alloc: Global, graph: &[Vec<usize>]) -> Result<Vec<Option<usize>>, AllocError>
     requires { IsClosed graph.now }
-    ensures { IfOk result (λ found. AreReturns graph.now (length graph.now) found.items) }
+    ensures { IfOk result (λ found. found.items ≡ map (first_return graph.now) (range_with_len 0 (length graph.now))) }
 {
     let parts = components(alloc, graph)?;
     let are_sound = are_sound(graph, &parts);

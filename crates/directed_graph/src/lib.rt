@@ -9,6 +9,7 @@
 
 mod components;
 mod cycles;
+pub mod laws;
 mod search;
 
 pub use cycles::returns;

@@ -1,8 +1,9 @@
 // What edges lead to.
-ghost use Rattle.std.specs.Prelude.{◌≡◌, ◌<◌, ◌↔◌, ℕ, [], ◌∷◌, length, IfOk, OnOk};
+ghost use Rattle.std.specs.Prelude.{◌≡◌, ◌<◌, ◌↔◌, ℕ, [], ◌∷◌, false, length, slice_index_or, IfOk, OnOk};
 ghost use Rattle.std.specs.List.{All, Contains};
 ghost use Rattle.directed_graph.specs.Graph.{HasEdge, IsClosed, Reached, row_of};
 ghost use Rattle.directed_graph.specs.Marks.{AreDistinct, AreUnmarked, IsMarked, MarksAll, Unmarks};
+ghost use Rattle.directed_graph.specs.Reach.{has_vertex, reaches};
 
 use std::alloc::{AllocError, Global};
 
@@ -68,7 +69,7 @@ pub fn reached(
     requires starts { All (λ vertex. vertex < length graph.now) starts.now }
     ensures as_many { IfOk result (λ marks. length marks.items ≡ length graph.now) }
     ensures marked { IfOk result
-        (λ marks. (vertex : ℕ) → IsMarked marks.items vertex ↔ Reached (HasEdge graph.now) starts.now vertex) }
+        (λ marks. (vertex : ℕ) → slice_index_or marks.items vertex false ≡ reaches graph.now starts.now vertex) }
 {
     let mut marks = vec![in alloc; false; graph.len()]?;
     search(alloc, graph, starts, &mut marks)?;
@@ -100,7 +101,7 @@ pub fn reach(
     ensures as_many { OnOk result (length marks.new.items ≡ length graph.now) }
     ensures unmarked { OnOk result (AreUnmarked marks.new.items) }
     ensures found { IfOk result
-        (λ found. (vertex : ℕ) → Contains found.items vertex ↔ Reached (HasEdge graph.now) (start ∷ []) vertex) }
+        (λ found. (vertex : ℕ) → has_vertex found.items vertex ≡ reaches graph.now (start ∷ []) vertex) }
     ensures inside { IfOk result (λ found. All (λ vertex. vertex < length graph.now) found.items) }
     ensures distinct { IfOk result (λ found. AreDistinct found.items) }
 {

@@ -1,21 +1,19 @@
 -- When a text passes.
-use Rattle.std.proofs.Common.{◌≡◌, ◌≢◌, ℕ, Bool, true, false, List, [], ap, inl, inr, ◌∙◌, subst}
+use Rattle.std.proofs.Common.{◌≡◌, ◌≢◌, ℕ, Bool, true, false, List, [], ◌∷◌, ap, inl, inr, ◌∙◌, subst}
 use Rattle.std.specs.Prelude.{◌↔◌}
 use Rattle.apollo_tree.specs.Order.{Place}
 use Rattle.apollo_parser.specs.Parsed.{Parsed}
 use Rattle.apollo_parser.specs.Promise.{Promise}
 use Rattle.apollo_parser.proofs.OneParse.{one-parse}
-use Rattle.document_validation.specs.Lists.{document_kind}
-use Rattle.document_validation.specs.Validity.{IsValidAs}
+use Rattle.document_validation.specs.Breaches.{AreValid}
 use Rattle.document_checks.specs.Checking.{Asked, AreWithin, HasNothing, IsSound, IsSoundText, Passes}
 use Rattle.document_checks.proofs.Verdicts.{fails}
 
-pub invalid : (asked : Asked) (document : Place) (passes : Bool) → passes ≡ false
-    → (IsValidAs (document_kind document) document → ⊥)
+pub invalid : (asked : Asked) (document : Place) (passes : Bool) → passes ≡ false → (AreValid (document ∷ []) → ⊥)
     → (passes ≡ true) ↔ IsSound asked document
 invalid asked document passes is not = fails passes is (λ s. not s.valid)
 
-pub valid : (asked : Asked) (document : Place) (passes : Bool) → IsValidAs (document_kind document) document
+pub valid : (asked : Asked) (document : Place) (passes : Bool) → AreValid (document ∷ [])
     → (passes ≡ true) ↔ AreWithin asked document
     → (passes ≡ true) ↔ IsSound asked document
 valid asked document passes v iff = (λ e. record { valid = v; within = iff.0 e }, λ s. iff.1 s.within)

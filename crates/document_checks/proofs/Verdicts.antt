@@ -53,28 +53,28 @@ none_of_twins ds a b ms m t =
 pub fails : {P : Type 0} (passes : Bool) → passes ≡ false → (P → ⊥) → (passes ≡ true) ↔ P
 fails passes is not = (λ e. absurd (let r : ⊥ = cc in r), λ p. absurd (not p))
 
-no_figures : (asked : Asked) (document : Place) (e : MeasureError) → e ≢ Memory → IsMeasureError (defined document) e
-    → AreWithin asked document → ⊥
+no_figures : (asked : Asked) (document : Place) (e : MeasureError) → e ≢ Memory
+    → IsMeasureError (defined (document ∷ [])) e → AreWithin asked document → ⊥
 no_figures asked document (SameName a b) other error w =
-    none_of_twins (defined document) (as_defined a) (as_defined b) w.measures w.figures error
+    none_of_twins (defined (document ∷ [])) (as_defined a) (as_defined b) w.measures w.figures error
 no_figures asked document (Cycle span) other error w = no_cycle error.0 span w.figures.figures_are error.1 error.2
 no_figures asked document (Undefined span) other error w =
     all_defined error.0 span w.figures.figures_are error.1 error.2
 no_figures asked document Memory other error w = other refl
 
 pub unmeasured : (asked : Asked) (document : Place) (e : MeasureError) (passes : Bool) → passes ≡ false → e ≢ Memory
-    → IsMeasureError (defined document) e
+    → IsMeasureError (defined (document ∷ [])) e
     → (passes ≡ true) ↔ AreWithin asked document
 unmeasured asked document e passes is other error = fails passes is (no_figures asked document e other error)
 
 -- with figures, it depends on them
 pub measured : (asked : Asked) (document : Place) (ms : List Measure) (passes : Bool)
-    → AreMeasures (defined document) ms
+    → AreMeasures (defined (document ∷ [])) ms
     → (passes ≡ true) ↔ IsChosenWithin asked ms → (passes ≡ true) ↔ AreWithin asked document
 measured asked document ms passes figures iff = (
   λ e. record { measures = ms; figures = figures; chosen = iff.0 e },
   λ w. iff.1 (subst (λ (ns : List Measure). IsChosenWithin asked ns)
-      (one_measures (defined document) w.measures ms w.figures figures) w.chosen),
+      (one_measures (defined (document ∷ [])) w.measures ms w.figures figures) w.chosen),
 )
 
 -- ---- limits

@@ -1,5 +1,5 @@
 -- Which texts pass.
-use Rattle.std.specs.Prelude.{◌≡◌, ◌≢◌, ◌⊎◌, ℕ, Bool, true, false, List, [], All, bytes_eq, Option, Some, None}
+use Rattle.std.specs.Prelude.{◌≡◌, ◌≢◌, ◌⊎◌, ℕ, Bool, true, false, List, [], ◌∷◌, All, bytes_eq, Option, Some, None}
 use Rattle.std.specs.Prelude.{option_map}
 use Rattle.std.specs.List.{filter}
 use denote.Ref.{Bor}
@@ -13,8 +13,7 @@ use Rattle.cost_figures.specs.declared.figures.Figures.{Figures}
 use Rattle.formatter.specs.Within.{HasCommentsAlone}
 use Rattle.cost_limits.specs.Measures.{Measure, AreMeasures}
 use Rattle.cost_limits.specs.Limits.{IsWithin}
-use Rattle.document_validation.specs.Lists.{document_kind}
-use Rattle.document_validation.specs.Validity.{IsValidAs}
+use Rattle.document_validation.specs.Breaches.{AreValid}
 use Rattle.document_checks.specs.declared.report.Checks.{Checks}
 
 -- What a text is checked against: the parser's limits, the greatest figures that an operation may have, and the name of
@@ -50,14 +49,14 @@ pub record IsChosenWithin (asked : Asked) (measures : List Measure) : Type 0 whe
 -- The operations of a document have figures, and are so.
 pub record AreWithin (asked : Asked) (document : Place) : Type 0 where
   pub measures : List Measure
-  pub figures : AreMeasures (defined document) measures
+  pub figures : AreMeasures (defined (document ∷ [])) measures
   pub chosen : IsChosenWithin asked measures
 
 -- ---- texts
 
 -- The document is valid by the rules for its kind, and its operations are within the limits.
 pub record IsSound (asked : Asked) (document : Place) : Type 0 where
-  pub valid : IsValidAs (document_kind document) document
+  pub valid : AreValid (document ∷ [])
   pub within : AreWithin asked document
 
 -- The text is a document that is so.

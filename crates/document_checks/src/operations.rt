@@ -56,7 +56,7 @@ fn figures_of(
     let mut reports = Vec::new(alloc);
     for measured in operations {
         reports.push(OperationReport {
-            start: measured.operation.node.text_range().start(),
+            start: measured.operation.site.node.text_range().start(),
             name: String::from_str(alloc, name_of(measured))?,
             figures: measured.figures,
         })?;
@@ -82,7 +82,7 @@ fn limit_finding(alloc: Global, exceeded: &Exceeded<'_>) -> Result<Finding, Allo
     let (value, most) = (exceeded.found, exceeded.most);
     let message = format!(in alloc; "The {words} is {value}, and the limit {most}.")?;
     let name = exceeded.operation.operation_name().unwrap_or("");
-    let mut finding = Finding::at(exceeded.operation.node, "Limits", message);
+    let mut finding = Finding::at(exceeded.operation.site.node, "Limits", message);
     finding.operation = Some(String::from_str(alloc, name)?);
     finding.limit = Some(ExceededLimit {
         limit: exceeded.limit,
@@ -154,7 +154,7 @@ fn fault_of(error: MeasureError<'_>) -> Result<(Span, &'static str), AllocError>
 {
     match error {
         MeasureError::SameName(_, second) => {
-            let range = second.node.text_range();
+            let range = second.site.node.text_range();
             let span = Span {
                 start: range.start(),
                 end: range.end(),

@@ -78,7 +78,7 @@ fn check_document(
         (λ report. (report.passes ≡ true) ↔ IsSound (as_asked checks.now) (node_place document.now)) }
     ensures found { IfOk result (λ report. report.passes ≡ false → 0 < vec_len report.findings) }
 {
-    let violations = validate(alloc, document, MOST)?;
+    let violations = validate(alloc, &[*document], MOST)?;
     if !violations.is_empty() {
         let report = violated(alloc, violations.as_slice(), checks.findings)?;
         return Ok(report);

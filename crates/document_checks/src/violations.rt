@@ -25,8 +25,8 @@ fn words_of(rule: Rule) -> &'static str {
 
 // The place of the other party, if it is another place.
 fn other_place(violation: &Violation<'_>) -> Option<OtherPlace> {
-    let range = violation.other?.text_range();
-    if range.start() == violation.node.text_range().start() {
+    let range = violation.other?.node.text_range();
+    if range.start() == violation.site.node.text_range().start() {
         return None;
     }
     Some(OtherPlace {
@@ -42,7 +42,7 @@ fn operation_of<'t>(violation: &Violation<'t>) -> Option<SyntaxNode<'t>> {
         violation.rule,
         Rule::NoUndefinedVariables | Rule::NoUnusedVariables
     ) {
-        violation.other
+        violation.other.map(|other| other.node)
     } else {
         None
     }
@@ -54,7 +54,7 @@ pub(crate) fn violation_finding(
     violation: &Violation<'_>,
 ) -> Result<Finding, AllocError> {
     let text = message(alloc, violation)?;
-    let mut finding = Finding::at(violation.node, violation.rule.name(), text);
+    let mut finding = Finding::at(violation.site.node, violation.rule.name(), text);
     finding.other = other_place(violation);
     if let Some(operation) = operation_of(violation) {
         let name = name(&operation).unwrap_or("");

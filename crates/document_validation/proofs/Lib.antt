@@ -1,5 +1,7 @@
+pub mod DifferLemmas
+pub mod DistinctLemmas
+pub mod EachLemmas
+pub mod FoundLemmas
 pub mod ListLemmas
-pub mod OneListLemmas
 pub mod ReadLemmas
-pub mod ValidLemmas
-pub mod WalkLemmas
+pub mod VariableLemmas

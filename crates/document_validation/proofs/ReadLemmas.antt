@@ -1,18 +1,29 @@
 -- The definitions with their parts, as they are in a document.
-use Rattle.std.proofs.Common.{◌≡◌, List, [], ◌∷◌, map, refl, ◌∙◌, ap}
+use Rattle.std.proofs.Common.{◌≡◌, ℕ, List, [], ◌∷◌, map, Option, None, refl, ◌∙◌, ap, subst}
+use Rattle.std.specs.List.{flat_map}
 use Rattle.apollo_tree.specs.Order.{Place}
 use Rattle.validation_names.specs.declared.executables.ExecutableDefinition.{ExecutableDefinition}
-use Rattle.validation_names.specs.Definitions.{as_defined, defined}
-use Rattle.validation_rules.specs.Parts.{Parts, definitions, parts_in, parts_of}
+use Rattle.validation_names.specs.declared.executables.DefinitionKind.TheVariants.{Operation, Fragment}
+use Rattle.validation_names.specs.Definitions.{as_defined, defined, named_definitions}
+use Rattle.validation_rules.specs.declared.violations.Rule.TheVariants.{UniqueFragmentNames, UniqueOperationNames}
+use Rattle.validation_rules.specs.declared.violations.Violations.{Violations}
+use Rattle.validation_rules.specs.Broken.{not_alone, on_cycles, repeats, undefined_spreads, unused_fragments, variables}
+use Rattle.validation_rules.specs.Broken.{variables_of}
+use Rattle.validation_rules.specs.Violations.{Adds}
+use Rattle.validation_rules.proofs.AddLemmas.{adds_then}
+use Rattle.document_validation.specs.Breaches.{breaches, foreign_in, of_each, repeats_in}
+use Rattle.validation_rules.specs.Parts.{Parts, definitions, operations, parts_in, parts_of}
+use Rattle.variable_rules.specs.Steps.{before}
 
 of_all : (ds : List ExecutableDefinition) → map (λ d. parts_of (as_defined d)) ds ≡ map parts_of (map as_defined ds)
 of_all [] = refl
 of_all (d ∷ ds) = ap (λ rest. parts_of (as_defined d) ∷ rest) (of_all ds)
 
 pub parts_are :
-    (document : Place) (ds : List ExecutableDefinition) (parts : List Parts) → map as_defined ds ≡ defined document
-    → parts ≡ map (λ d. parts_of (as_defined d)) ds → parts ≡ parts_in document
-parts_are document ds parts are is = is ∙ of_all ds ∙ ap (map parts_of) are
+    (documents : List Place) (ds : List ExecutableDefinition) (parts : List Parts)
+    → map as_defined ds ≡ defined documents
+    → parts ≡ map (λ d. parts_of (as_defined d)) ds → parts ≡ parts_in documents
+parts_are documents ds parts are is = is ∙ of_all ds ∙ ap (map parts_of) are
 
 again : (ds : List ExecutableDefinition) → definitions (map (λ d. parts_of (as_defined d)) ds) ≡ map as_defined ds
 again [] = refl
@@ -22,3 +33,34 @@ pub definitions_are : (ds : List ExecutableDefinition) (parts : List Parts)
     → parts ≡ map (λ d. parts_of (as_defined d)) ds
     → definitions parts ≡ map as_defined ds
 definitions_are ds parts is = ap definitions is ∙ again ds
+
+-- where no steps are used up all operations were judged
+pub all_variables :
+    (ds es : List Parts) (ended_at : Option ℕ) (numbers : List ℕ) (old new : Violations) → ended_at ≡ None
+    → numbers ≡ operations ds → ds ≡ es
+    → Adds (flat_map (variables_of ds) (before ended_at numbers)) old new → Adds (variables es) old new
+all_variables ds es ended_at numbers old new all are same adds =
+    let judged = subst (λ e. Adds (flat_map (variables_of ds) (before e numbers)) old new) all adds in
+    subst (λ xs. Adds (variables xs) old new) same
+    (subst (λ ns. Adds (flat_map (variables_of ds) ns) old new) are judged)
+
+-- all rules, one after another
+pub adds_in_order :
+    (documents : List Place) (v0 v1 v2 v3 v4 v5 v6 v7 v8 v9 : Violations) → Adds (of_each foreign_in documents) v0 v1
+    → Adds (repeats UniqueOperationNames (named_definitions Operation (defined documents))) v1 v2
+    → Adds (not_alone (parts_in documents)) v2 v3
+    → Adds (of_each repeats_in documents) v3 v4
+    → Adds (repeats UniqueFragmentNames (named_definitions Fragment (defined documents))) v4 v5
+    → Adds (unused_fragments (parts_in documents)) v5 v6 → Adds (undefined_spreads (parts_in documents)) v6 v7
+    → Adds (on_cycles (parts_in documents)) v7 v8 → Adds (variables (parts_in documents)) v8 v9
+    → Adds (breaches documents) v0 v9
+adds_in_order documents v0 v1 v2 v3 v4 v5 v6 v7 v8 v9 foreign operations alone lists fragments unused spreads
+    cycles used =
+    let two = adds_then _ _ v0 v1 v2 foreign operations in
+    let three = adds_then _ _ v0 v2 v3 two alone in
+    let four = adds_then _ _ v0 v3 v4 three lists in
+    let five = adds_then _ _ v0 v4 v5 four fragments in
+    let six = adds_then _ _ v0 v5 v6 five unused in
+    let seven = adds_then _ _ v0 v6 v7 six spreads in
+    let eight = adds_then _ _ v0 v7 v8 seven cycles in
+    adds_then _ _ v0 v8 v9 eight used

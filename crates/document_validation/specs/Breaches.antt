@@ -1,11 +1,12 @@
--- What breaks the rules that need no schema (GraphQL October 2021).
-use Rattle.std.specs.Prelude.{◌≡◌, ℕ, ◌<◌, ◌≤◌, List, length, Bool, true, false, not, Option, Some, None}
+-- What breaks the rules that need no schema (GraphQL October 2021), in documents that are judged together.
+use Rattle.std.specs.Prelude.{◌≡◌, ℕ, suc, List, [], ◌∷◌, ◌++◌, take, Bool, true, false, not, Option, Some, None}
 use Rattle.std.specs.Prelude.{option_and_then, if◌then◌else◌}
-use Rattle.std.specs.List.{Contains}
+use Rattle.std.specs.List.{flat_map}
 use Rattle.apollo_tree.specs.Order.{Place}
 use Rattle.apollo_tree.specs.Children.{child_nodes}
 use Rattle.validation_names.specs.declared.executables.DefinitionKind.TheVariants.{Operation, Fragment}
 use Rattle.validation_names.specs.Definitions.{defined, named_definitions}
+use Rattle.validation_names.specs.Sites.{Located, located, nodes}
 use Rattle.validation_rules.specs.declared.violations.Rule.{Rule}
 use Rattle.validation_rules.specs.declared.violations.Rule.TheVariants.{ExecutableDefinitions, UniqueArgumentNames}
 use Rattle.validation_rules.specs.declared.violations.Rule.TheVariants.{UniqueFragmentNames, UniqueInputFieldNames}
@@ -14,11 +15,10 @@ use Rattle.validation_rules.specs.declared.violations.Rule.TheVariants.{UniqueAr
 use Rattle.validation_rules.specs.declared.violations.Rule.TheVariants.{UniqueEnumValueNames, UniqueUnionMemberTypes}
 use Rattle.validation_rules.specs.declared.violations.Rule.TheVariants.{UniqueImplementedInterfaces}
 use Rattle.validation_rules.specs.declared.violations.Rule.TheVariants.{UniqueOperationNames, UniqueVariableNames}
+use Rattle.validation_rules.specs.Broken.{not_alone, on_cycles, repeats, undefined_spreads, unused_fragments, variables}
 use Rattle.validation_rules.specs.Parts.{parts_in}
-use Rattle.validation_rules.specs.Broken.{BreaksVariables, IsNotAlone, IsOnCycle, IsUndefinedSpread, IsUnusedFragment}
-use Rattle.validation_rules.specs.Broken.{Repeats}
-use Rattle.validation_rules.specs.TextOrder.{AreInTextOrder}
-use Rattle.validation_rules.specs.Violations.{AreDistinct, Breach, breach}
+use Rattle.validation_rules.specs.TextOrder.{IsInTextOrder}
+use Rattle.validation_rules.specs.Violations.{Breach, breach}
 use Rattle.document_validation.specs.declared.lists.DocumentKind.{DocumentKind}
 use Rattle.document_validation.specs.declared.lists.DocumentKind.TheVariants.{Executable, TypeSystem}
 use Rattle.document_validation.specs.declared.lists.NamedList.{NamedList}
@@ -26,7 +26,7 @@ use Rattle.document_validation.specs.declared.lists.NamedList.TheVariants.{Argum
 use Rattle.document_validation.specs.declared.lists.NamedList.TheVariants.{FieldDefinitions, InputFieldDefinitions}
 use Rattle.document_validation.specs.declared.lists.NamedList.TheVariants.{ArgumentDefinitions, EnumValues}
 use Rattle.document_validation.specs.declared.lists.NamedList.TheVariants.{UnionMembers, Interfaces}
-use Rattle.document_validation.specs.Lists.{is_executable, items_of, list_of, nodes}
+use Rattle.document_validation.specs.Lists.{document_kind, is_executable, items_of, list_of}
 
 abbrev pub rule_of : NamedList → Rule
 rule_of Arguments = UniqueArgumentNames
@@ -59,45 +59,58 @@ is_judged Interfaces kind = not (is_as_executable kind)
 abbrev pub judged_list : DocumentKind → Place → Option NamedList
 judged_list kind p = option_and_then (λ list. if is_judged list kind then Some list else None) (list_of p)
 
--- An item of such a list has the name of an earlier one.
-abbrev pub RepeatsAs : Option NamedList → Place → Breach → Type 0
-RepeatsAs None p b = ⊥
-RepeatsAs (Some list) p b = Repeats (rule_of list) (items_of p) b
+-- ---- unique names in lists: sections 3.6 to 3.10, 3.13, 5.4.2, 5.6.3 and 5.8.1
+-- the items of such a list that have the name of an earlier one
+abbrev pub repeats_as : Option NamedList → Located → List Breach
+repeats_as None site = []
+repeats_as (Some list) site = repeats (rule_of list) (items_of site)
 
-abbrev pub RepeatsIn : DocumentKind → Place → Breach → Type 0
-RepeatsIn kind p b = RepeatsAs (judged_list kind p) p b
+abbrev pub repeats_at : DocumentKind → Located → List Breach
+repeats_at kind site = repeats_as (judged_list kind site.place) site
 
-abbrev pub OneOf : List Place → (Place → Breach → Type 0) → Breach → Type 0
-OneOf places Breaks b = (p : Place) × Contains places p × Breaks p b
+-- those of all lists in the document with a number, by which documents of its kind are judged
+abbrev pub repeats_in : ℕ → Place → List Breach
+repeats_in number document = flat_map (λ p. repeats_at (document_kind document) (located number p)) (nodes document)
 
-abbrev pub IsForeign : Place → Breach → Type 0
-IsForeign p b = (is_executable p ≡ false) × (b ≡ breach ExecutableDefinitions p None)
+-- ---- 5.1.1: a definition that is neither an operation nor a fragment
+abbrev pub foreign_at : Located → List Breach
+foreign_at site = if is_executable site.place then [] else breach ExecutableDefinitions site None ∷ []
 
--- It breaks one of these rules.
-pub data Breaks (document : Place) (b : Breach) : Type 0 where
-  executable_definitions : OneOf (child_nodes document) IsForeign b → Breaks document b
-  operation_names : Repeats UniqueOperationNames (named_definitions Operation (defined document)) b → Breaks document b
-  lone_anonymous_operation : IsNotAlone (parts_in document) b → Breaks document b
-  lists : OneOf (nodes document) (RepeatsIn Executable) b → Breaks document b
-  fragment_names : Repeats UniqueFragmentNames (named_definitions Fragment (defined document)) b → Breaks document b
-  fragments_used : IsUnusedFragment (parts_in document) b → Breaks document b
-  spreads_defined : IsUndefinedSpread (parts_in document) b → Breaks document b
-  no_cycles : IsOnCycle (parts_in document) b → Breaks document b
-  variables : BreaksVariables (parts_in document) b → Breaks document b
+-- Documents of the type system have such definitions.
+abbrev pub foreign_as : DocumentKind → ℕ → Place → List Breach
+foreign_as TypeSystem number document = []
+foreign_as Executable number document = flat_map (λ p. foreign_at (located number p)) (child_nodes document)
 
--- An item of one of these lists has the name of an earlier one.
-abbrev pub BreaksTypeSystem : Place → Breach → Type 0
-BreaksTypeSystem document b = OneOf (nodes document) (RepeatsIn TypeSystem) b
+abbrev pub foreign_in : ℕ → Place → List Breach
+foreign_in number document = foreign_as (document_kind document) number document
 
-abbrev pub BreaksAs : DocumentKind → Place → Breach → Type 0
-BreaksAs Executable document b = Breaks document b
-BreaksAs TypeSystem document b = BreaksTypeSystem document b
+-- ---- all rules
+-- what is listed for each document, the first of which has the number n
+abbrev pub of_each_from : (ℕ → Place → List Breach) → ℕ → List Place → List Breach
+of_each_from f n [] = []
+of_each_from f n (document ∷ documents) = f n document ++ of_each_from f (suc n) documents
 
--- All of these break a rule, none is there twice, and they are in the order of the text. Unless there are as many as
--- the bound allows, they are all that do.
-pub record AreBreaches (most : ℕ) (Breaks : Breach → Type 0) (found : List Breach) : Type 0 where
-  pub no_others : (b : Breach) → Contains found b → Breaks b
-  pub all : length found < most → (b : Breach) → Breaks b → Contains found b
-  pub few : length found ≤ most
-  pub distinct : AreDistinct found
-  pub in_order : AreInTextOrder found
+abbrev pub of_each : (ℕ → Place → List Breach) → List Place → List Breach
+of_each f documents = of_each_from f 0 documents
+
+-- All that breaks a rule in some documents, by their roots, rule by rule. Names of operations and of fragments, spreads
+-- and variables are those of all documents together.
+abbrev pub breaches : List Place → List Breach
+breaches documents =
+    of_each foreign_in documents
+    ++ repeats UniqueOperationNames (named_definitions Operation (defined documents))
+    ++ not_alone (parts_in documents)
+    ++ of_each repeats_in documents
+    ++ repeats UniqueFragmentNames (named_definitions Fragment (defined documents))
+    ++ unused_fragments (parts_in documents)
+    ++ undefined_spreads (parts_in documents)
+    ++ on_cycles (parts_in documents)
+    ++ variables (parts_in documents)
+
+-- Nothing breaks a rule.
+abbrev pub AreValid : List Place → Type 0
+AreValid documents = breaches documents ≡ []
+
+-- These are the first of the breaches, up to a bound, in the order of the text.
+abbrev pub AreFound : ℕ → List Breach → List Breach → Type 0
+AreFound most all found = IsInTextOrder (take most all) found

@@ -2,5 +2,3 @@ pub mod Breaches
 pub mod Lists
 pub mod Messages
 pub mod OwnNames
-pub mod Unique
-pub mod Validity

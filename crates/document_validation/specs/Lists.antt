@@ -1,7 +1,7 @@
 -- Lists in a tree whose items have to have different names, and which definitions are executable.
-use Rattle.std.specs.Prelude.{List, Bool, true, false, not, ◌&&◌, ◌||◌, Option, Some, None, [], ◌∷◌, option_map}
+use Rattle.std.specs.Prelude.{List, Bool, true, false, not, ◌&&◌, ◌||◌, Option, Some, None, [], ◌∷◌, map, option_map}
 use Rattle.std.specs.Prelude.{if◌then◌else◌}
-use Rattle.std.specs.List.{filter, filter_map, list_any}
+use Rattle.std.specs.List.{filter_map, list_any}
 use Rattle.document_grammar.specs.declared.kind.SyntaxKind.TheVariants.{ARGUMENTS, ARGUMENTS_DEFINITION}
 use Rattle.document_grammar.specs.declared.kind.SyntaxKind.TheVariants.{ENUM_VALUES_DEFINITION, FIELDS_DEFINITION}
 use Rattle.document_grammar.specs.declared.kind.SyntaxKind.TheVariants.{FRAGMENT_DEFINITION, INPUT_FIELDS_DEFINITION}
@@ -10,9 +10,9 @@ use Rattle.document_grammar.specs.declared.kind.SyntaxKind.TheVariants.{IMPLEMEN
 use Rattle.document_grammar.specs.declared.kind.SyntaxKind.TheVariants.{VARIABLE_DEFINITIONS}
 use Rattle.document_grammar.specs.Numbers.{is_kind}
 use Rattle.apollo_tree.specs.Order.{Place, kind_at}
-use Rattle.apollo_tree.specs.Children.{child_nodes, is_node_place}
-use Rattle.apollo_tree.specs.Below.{at_or_below}
+use Rattle.apollo_tree.specs.Children.{child_nodes}
 use Rattle.validation_names.specs.Mentions.{Named}
+use Rattle.validation_names.specs.Sites.{Located, located}
 use Rattle.document_validation.specs.declared.lists.DocumentKind.{DocumentKind}
 use Rattle.document_validation.specs.declared.lists.DocumentKind.TheVariants.{Executable, TypeSystem}
 use Rattle.document_validation.specs.declared.lists.NamedList.{NamedList}
@@ -46,16 +46,12 @@ list_of p =
     else None))))))))
 
 -- an item of such a list
-abbrev pub item_of : Place → Option Named
-item_of p = option_map (λ name. record { place = p; name = name }) (own_name p)
+abbrev pub item_of : Located → Option Named
+item_of site = option_map (λ name. record { site = site; name = name }) (own_name site.place)
 
 -- the items of a list that have a name, as each has in a tree without errors
-abbrev pub items_of : Place → List Named
-items_of p = filter_map item_of (child_nodes p)
-
--- the nodes at and below an element
-abbrev pub nodes : Place → List Place
-nodes root = filter is_node_place (at_or_below root)
+abbrev pub items_of : Located → List Named
+items_of site = filter_map item_of (map (located site.document) (child_nodes site.place))
 
 -- ---- 5.1.1: a document has only executable definitions
 abbrev pub is_executable : Place → Bool

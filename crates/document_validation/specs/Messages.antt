@@ -1,11 +1,12 @@
 -- The message of a violation, in the words of graphql-js 16.
 use Rattle.std.specs.Prelude.{Bool, ◌||◌, if◌then◌else◌, List, ℕ, ◌++◌, [], codes, bytes_eq, Option, Some, None}
-use Rattle.std.specs.Prelude.{option_and_then}
+use Rattle.std.specs.Prelude.{option_and_then, option_map}
 use Rattle.document_grammar.specs.declared.kind.SyntaxKind.TheVariants.{DIRECTIVE_DEFINITION, SCHEMA_DEFINITION}
 use Rattle.document_grammar.specs.declared.kind.SyntaxKind.TheVariants.{SCHEMA_EXTENSION}
 use Rattle.document_grammar.specs.Numbers.{is_kind}
 use Rattle.apollo_tree.specs.Order.{Place, kind_at, parent_place}
 use Rattle.validation_names.specs.Names.{Name}
+use Rattle.validation_names.specs.Sites.{Located}
 use Rattle.validation_rules.specs.declared.violations.Rule.{Rule}
 use Rattle.validation_rules.specs.declared.violations.Rule.TheVariants.{ExecutableDefinitions, UniqueOperationNames}
 use Rattle.validation_rules.specs.declared.violations.Rule.TheVariants.{LoneAnonymousOperation, UniqueArgumentNames}
@@ -113,4 +114,4 @@ wording UniqueImplementedInterfaces p other = interface (holder p) (name_at p)
 
 -- the message of a breach
 abbrev pub message_of : Breach → Text
-message_of b = wording b.rule b.place b.other
+message_of b = wording b.rule b.site.place (option_map (λ (s : Located). s.place) b.other)

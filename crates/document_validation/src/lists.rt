@@ -1,20 +1,19 @@
 // Lists in a tree whose items have to have different names, and definitions that are not executable.
 ghost use Rattle.std.specs.Prelude.{◌≡◌, IfOk, OnOk, map, option_map};
-ghost use Rattle.std.specs.List.{list_any};
+ghost use Rattle.std.specs.List.{flat_map, list_any};
 ghost use Rattle.apollo_tree.specs.Children.{child_nodes};
 ghost use Rattle.apollo_tree.specs.References.{node_place};
 ghost use Rattle.validation_names.specs.Mentions.{as_named};
+ghost use Rattle.validation_names.specs.Sites.{as_located, located, nodes};
 ghost use Rattle.validation_rules.specs.Violations.{Adds};
-ghost use Rattle.document_validation.specs.Validity.{EachOf, IsExecutable};
 ghost use Rattle.document_validation.specs.Lists.{document_kind, has_item, is_executable, item_of, items_of, list_of};
-ghost use Rattle.document_validation.specs.Lists.{nodes};
-ghost use Rattle.document_validation.specs.Breaches.{IsForeign, OneOf, RepeatsIn, is_judged, judged_list, rule_of};
-ghost use Rattle.document_validation.specs.Unique.{UniqueIn};
+ghost use Rattle.document_validation.specs.Breaches.{foreign_as, foreign_at, foreign_in, is_judged, judged_list};
+ghost use Rattle.document_validation.specs.Breaches.{of_each, repeats_at, repeats_in, rule_of};
 
 use crate::names::own_name;
 use apollo_tree::{SyntaxKind, SyntaxNode};
 use std::alloc::{AllocError, Global};
-use validation_names::Mention;
+use validation_names::{Mention, Site};
 use validation_rules::{Rule, Violations, add_repeats};
 
 /// What a document is judged as.
@@ -120,19 +119,23 @@ fn rule_of(list: NamedList) -> Rule
     }
 }
 
-fn item_of<'t>(node: SyntaxNode<'t>) -> Option<Mention<'t>>
-    ensures { option_map as_named result ≡ item_of (node_place node.entry) }
+fn item_of<'t>(site: Site<'t>) -> Option<Mention<'t>>
+    ensures { option_map as_named result ≡ item_of (as_located site.entry) }
 {
-    let name = own_name(&node)?;
-    Some(Mention { node, name })
+    let name = own_name(&site.node)?;
+    Some(Mention { site, name })
 }
 
 // The items of a list that have a name.
-fn items_of<'t>(alloc: Global, node: &SyntaxNode<'t>) -> Result<Vec<Mention<'t>>, AllocError>
-    ensures { IfOk result (λ items. map as_named items.items ≡ items_of (node_place node.now)) }
+fn items_of<'t>(alloc: Global, site: &Site<'t>) -> Result<Vec<Mention<'t>>, AllocError>
+    ensures { IfOk result (λ items. map as_named items.items ≡ items_of (as_located site.now)) }
 {
     let mut items = Vec::new(alloc);
-    for child in node.children() {
+    for node in site.node.children() {
+        let child = Site {
+            document: site.document,
+            node,
+        };
         if let Some(item) = item_of(child) {
             items.push(item)?;
         }
@@ -144,32 +147,50 @@ fn items_of<'t>(alloc: Global, node: &SyntaxNode<'t>) -> Result<Vec<Mention<'t>>
 fn add_list<'t>(
     alloc: Global,
     violations: &mut Violations<'t>,
-    node: &SyntaxNode<'t>,
+    site: &Site<'t>,
     kind: DocumentKind,
 ) -> Result<(), AllocError>
-    ensures { OnOk result (Adds (RepeatsIn kind (node_place node.now)) (UniqueIn kind (node_place node.now))
-        violations.old violations.new) }
+    ensures { OnOk result (Adds (repeats_at kind (as_located site.now)) violations.old violations.new) }
 {
-    if let Some(list) = judged_list(node, kind) {
-        let items = items_of(alloc, node)?;
+    if let Some(list) = judged_list(&site.node, kind) {
+        let items = items_of(alloc, site)?;
         add_repeats(alloc, violations, rule_of(list), &items)?;
     }
     Ok(())
 }
 
-// Adds the items with the name of an earlier one, in all lists at or below a node by which documents of a kind are
-// judged.
+// Adds the items with the name of an earlier one, in all lists of the document with a number by which documents of a
+// kind are judged.
+fn add_lists_as<'t>(
+    alloc: Global,
+    violations: &mut Violations<'t>,
+    number: usize,
+    document: &SyntaxNode<'t>,
+    kind: DocumentKind,
+) -> Result<(), AllocError>
+    ensures { OnOk result (Adds (flat_map (λ p. repeats_at kind (located number p)) (nodes (node_place document.now)))
+        violations.old violations.new) }
+{
+    for node in document.descendants() {
+        let site = Site {
+            document: number,
+            node,
+        };
+        add_list(alloc, violations, &site, kind)?;
+    }
+    Ok(())
+}
+
+// The same in all documents, each judged as its kind is.
 pub(crate) fn add_lists<'t>(
     alloc: Global,
     violations: &mut Violations<'t>,
-    root: &SyntaxNode<'t>,
-    kind: DocumentKind,
+    documents: &[SyntaxNode<'t>],
 ) -> Result<(), AllocError>
-    ensures { OnOk result (Adds (OneOf (nodes (node_place root.now)) (RepeatsIn kind))
-        (EachOf (nodes (node_place root.now)) (UniqueIn kind)) violations.old violations.new) }
+    ensures { OnOk result (Adds (of_each repeats_in (map node_place documents.now)) violations.old violations.new) }
 {
-    for node in root.descendants() {
-        add_list(alloc, violations, &node, kind)?;
+    for (number, document) in documents.iter().enumerate() {
+        add_lists_as(alloc, violations, number, document, document_kind(document))?;
     }
     Ok(())
 }
@@ -182,29 +203,59 @@ fn is_executable(node: &SyntaxNode<'_>) -> bool
 }
 
 // Adds a definition, if it is neither an operation nor a fragment.
-fn add_if_foreign<'t>(
-    violations: &mut Violations<'t>,
-    node: &SyntaxNode<'t>,
-) -> Result<(), AllocError>
-    ensures { OnOk result (Adds (IsForeign (node_place node.now)) (IsExecutable (node_place node.now))
-        violations.old violations.new) }
+fn add_if_foreign<'t>(violations: &mut Violations<'t>, site: Site<'t>) -> Result<(), AllocError>
+    ensures { OnOk result (Adds (foreign_at (as_located site.entry)) violations.old violations.new) }
 {
-    if !is_executable(node) {
-        violations.add(Rule::ExecutableDefinitions, *node, None)?;
+    if !is_executable(&site.node) {
+        violations.add(Rule::ExecutableDefinitions, site, None)?;
     }
     Ok(())
 }
 
-// Adds the definitions that are neither operations nor fragments.
-pub(crate) fn add_foreign<'t>(
+// Adds the definitions of the document with a number that are neither operations nor fragments.
+fn add_foreign_of<'t>(
     violations: &mut Violations<'t>,
+    number: usize,
     document: &SyntaxNode<'t>,
 ) -> Result<(), AllocError>
-    ensures { OnOk result (Adds (OneOf (child_nodes (node_place document.now)) IsForeign)
-        (EachOf (child_nodes (node_place document.now)) IsExecutable) violations.old violations.new) }
+    ensures { OnOk result (Adds (flat_map (λ p. foreign_at (located number p)) (child_nodes (node_place document.now)))
+        violations.old violations.new) }
 {
     for node in document.children() {
-        add_if_foreign(violations, &node)?;
+        let site = Site {
+            document: number,
+            node,
+        };
+        add_if_foreign(violations, site)?;
+    }
+    Ok(())
+}
+
+// The same, unless the document is one of the type system.
+fn add_foreign_as<'t>(
+    violations: &mut Violations<'t>,
+    number: usize,
+    document: &SyntaxNode<'t>,
+    kind: DocumentKind,
+) -> Result<(), AllocError>
+    ensures { OnOk result (Adds (foreign_as kind number (node_place document.now)) violations.old violations.new) }
+{
+    match kind {
+        DocumentKind::Executable => add_foreign_of(violations, number, document)?,
+        DocumentKind::TypeSystem => {}
+    }
+    Ok(())
+}
+
+// The same for all documents.
+pub(crate) fn add_foreign<'t>(
+    violations: &mut Violations<'t>,
+    documents: &[SyntaxNode<'t>],
+) -> Result<(), AllocError>
+    ensures { OnOk result (Adds (of_each foreign_in (map node_place documents.now)) violations.old violations.new) }
+{
+    for (number, document) in documents.iter().enumerate() {
+        add_foreign_as(violations, number, document, document_kind(document))?;
     }
     Ok(())
 }

@@ -273,9 +273,9 @@ pub fn message<A: Allocator + Copy>(
 ) -> Result<String<A>, AllocError>
     ensures { IfOk result (λ text. string_bytes text ≡ message_of (as_breach violation.now)) }
 {
-    let node = &violation.node;
+    let node = &violation.site.node;
     let name = name_at(node);
-    let other = name_of_other(violation.other);
+    let other = name_of_other(violation.other.map(|site| site.node));
     match violation.rule {
         Rule::ExecutableDefinitions => not_executable(alloc, node),
         Rule::UniqueOperationNames => only_one(alloc, "operation", name),

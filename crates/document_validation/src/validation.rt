@@ -1,18 +1,14 @@
-// All rules on a document.
-ghost use Rattle.std.specs.Prelude.{◌≡◌, ◌<◌, ◌↔◌, ℕ, [], IfOk, OnOk, map};
-ghost use Rattle.apollo_tree.specs.Order.{Place};
+// All rules on documents that are judged together.
+ghost use Rattle.std.specs.Prelude.{◌≡◌, ◌<◌, ◌↔◌, [], IfOk, OnOk, map};
 ghost use Rattle.apollo_tree.specs.References.{node_place};
-ghost use Rattle.validation_names.specs.Names.{AreFirstNumbers};
 ghost use Rattle.validation_names.specs.Definitions.{as_defined, defined, fragment_names, named_definitions};
+ghost use Rattle.validation_names.specs.Names.{AreFirstNumbers};
 ghost use Rattle.validation_rules.specs.Parts.{as_parts, definitions as definitions_of, parts_in};
-ghost use Rattle.validation_rules.specs.Rules.{AreUnique};
-ghost use Rattle.validation_rules.specs.Broken.{Repeats};
+ghost use Rattle.validation_rules.specs.Broken.{repeats};
 ghost use Rattle.validation_rules.specs.Violations.{Adds, as_breach};
-ghost use Rattle.document_validation.specs.Breaches.{AreBreaches, Breaks, BreaksAs, BreaksTypeSystem};
-ghost use Rattle.document_validation.specs.Validity.{IsValid, IsValidAs, IsValidTypeSystem};
-ghost use Rattle.document_validation.specs.Lists.{document_kind as kind_of};
+ghost use Rattle.document_validation.specs.Breaches.{AreFound, AreValid, breaches};
 
-use crate::lists::{DocumentKind, add_foreign, add_lists, document_kind};
+use crate::lists::{add_foreign, add_lists};
 use apollo_tree::SyntaxNode;
 use std::alloc::{AllocError, Global};
 use std::collections::BTreeMap;
@@ -21,8 +17,9 @@ use validation_names::{
 };
 use validation_rules::{
     DefinitionParts, Rule, Violation, Violations, add_anonymous, add_cycles, add_repeats,
-    add_undefined_spreads, add_unused_fragments, add_variables, operations, parts, spread_graph,
+    add_undefined_spreads, add_unused_fragments, operations, parts, spread_graph,
 };
+use variable_rules::add_variables;
 
 // Adds the definitions of a kind that have the name of an earlier one.
 fn add_repeated_names<'t>(
@@ -32,114 +29,72 @@ fn add_repeated_names<'t>(
     definitions: &[ExecutableDefinition<'t>],
     kind: DefinitionKind,
 ) -> Result<(), AllocError>
-    requires { (document : Place) × (map as_defined definitions.now ≡ defined document) }
-    ensures { let named = named_definitions kind (map as_defined definitions.now) in
-        OnOk result (Adds (Repeats rule named) (AreUnique named) violations.old violations.new) }
+    ensures { OnOk result (Adds (repeats rule (named_definitions kind (map as_defined definitions.now)))
+        violations.old violations.new) }
 {
     let named = named_definitions(alloc, definitions, kind)?;
     add_repeats(alloc, violations, rule, &named)
 }
 
-// Adds what breaks a rule in a document whose definitions are read.
+// Adds what breaks a rule in some documents whose definitions are read.
 fn add_all<'t>(
     alloc: Global,
     violations: &mut Violations<'t>,
-    document: &SyntaxNode<'t>,
+    documents: &[SyntaxNode<'t>],
     definitions: &[ExecutableDefinition<'t>],
     parts: &[DefinitionParts<'t>],
     fragments: &BTreeMap<&'t str, usize>,
 ) -> Result<(), AllocError>
-    requires definitions { map as_defined definitions.now ≡ defined (node_place document.now) }
-    requires parts { map as_parts parts.now ≡ parts_in (node_place document.now) }
+    requires definitions { map as_defined definitions.now ≡ defined (map node_place documents.now) }
+    requires parts { map as_parts parts.now ≡ parts_in (map node_place documents.now) }
     requires fragments { AreFirstNumbers fragments.now (fragment_names (definitions_of (map as_parts parts.now))) }
-    ensures { OnOk result (Adds (Breaks (node_place document.now)) (IsValid (node_place document.now))
-        violations.old violations.new) }
+    ensures { OnOk result (Adds (breaches (map node_place documents.now)) violations.old violations.new) }
 {
     let numbers = operations(alloc, parts)?;
     let graph = spread_graph(alloc, parts, fragments)?;
-    add_foreign(violations, document)?;
-    add_repeated_names(
-        alloc,
-        violations,
-        Rule::UniqueOperationNames,
-        definitions,
-        DefinitionKind::Operation,
-    )?;
+    add_foreign(violations, documents)?;
+    let (rule, kind) = (Rule::UniqueOperationNames, DefinitionKind::Operation);
+    add_repeated_names(alloc, violations, rule, definitions, kind)?;
     add_anonymous(violations, parts, &numbers)?;
-    add_lists(alloc, violations, document, DocumentKind::Executable)?;
-    add_repeated_names(
-        alloc,
-        violations,
-        Rule::UniqueFragmentNames,
-        definitions,
-        DefinitionKind::Fragment,
-    )?;
+    add_lists(alloc, violations, documents)?;
+    let (rule, kind) = (Rule::UniqueFragmentNames, DefinitionKind::Fragment);
+    add_repeated_names(alloc, violations, rule, definitions, kind)?;
     add_unused_fragments(alloc, violations, parts, &graph, &numbers)?;
     add_undefined_spreads(violations, parts, fragments)?;
     add_cycles(alloc, violations, parts, &graph)?;
-    add_variables(alloc, violations, parts, &graph, &numbers)?;
+    add_variables(alloc, violations, parts, &graph, &numbers, None)?;
     Ok(())
 }
 
-/// The places at which a document of operations and fragments breaks a rule, by the root of its tree: no more than
+/// The places at which documents that are judged together break a rule, by the roots of their trees: no more than
 /// `most` of them, each once, in the order of the text. If there are fewer than `most`, they are all; and there are
-/// none exactly if the document keeps all rules.
-pub fn validate_executable<'t>(
+/// none exactly if the documents keep all rules.
+///
+/// Operations, fragments and variables are those of all documents together. A document that has definitions, but
+/// neither an operation nor a fragment, is judged as one of the type system: by the names that are defined, mentioned
+/// or given twice in one list. Other rules of section 3 are not judged.
+pub fn validate<'t>(
     alloc: Global,
-    document: &SyntaxNode<'t>,
+    documents: &[SyntaxNode<'t>],
     most: usize,
 ) -> Result<Vec<Violation<'t>>, AllocError>
     ensures exact { IfOk result
-        (λ found. AreBreaches most (Breaks (node_place document.now)) (map as_breach found.items)) }
-    ensures valid { IfOk result (λ found. 0 < most → ((found.items ≡ []) ↔ IsValid (node_place document.now))) }
+        (λ found. AreFound most (breaches (map node_place documents.now)) (map as_breach found.items)) }
+    ensures valid { IfOk result (λ found. 0 < most → ((found.items ≡ []) ↔ AreValid (map node_place documents.now))) }
 {
     let mut violations = Violations::new(alloc, most);
-    let definitions = definitions(alloc, document)?;
+    let definitions = definitions(alloc, documents)?;
     let fragments = fragments(alloc, &definitions)?;
     let parts = parts(alloc, &definitions)?;
     add_all(
         alloc,
         &mut violations,
-        document,
+        documents,
         &definitions,
         &parts,
         &fragments,
     )?;
-    Ok(violations.into_text_order())
-}
-
-/// The same for a document of the type system: the names that are defined, mentioned or given twice in one list. Other
-/// rules of section 3 are not judged.
-pub fn validate_type_system<'t>(
-    alloc: Global,
-    document: &SyntaxNode<'t>,
-    most: usize,
-) -> Result<Vec<Violation<'t>>, AllocError>
-    ensures exact { IfOk result
-        (λ found. AreBreaches most (BreaksTypeSystem (node_place document.now)) (map as_breach found.items)) }
-    ensures valid { IfOk result
-        (λ found. 0 < most → ((found.items ≡ []) ↔ IsValidTypeSystem (node_place document.now))) }
-{
-    let mut violations = Violations::new(alloc, most);
-    add_lists(alloc, &mut violations, document, DocumentKind::TypeSystem)?;
-    Ok(violations.into_text_order())
-}
-
-/// The same by the rules for documents of its kind, which `document_kind` says.
-pub fn validate<'t>(
-    alloc: Global,
-    document: &SyntaxNode<'t>,
-    most: usize,
-) -> Result<Vec<Violation<'t>>, AllocError>
-    ensures exact { IfOk result
-        (λ found. AreBreaches most (BreaksAs (kind_of (node_place document.now)) (node_place document.now))
-        (map as_breach found.items)) }
-    ensures valid { IfOk result
-        (λ found. 0 < most → ((found.items ≡ [])
-        ↔ IsValidAs (kind_of (node_place document.now)) (node_place document.now))) }
-{
-    match document_kind(document) {
-        DocumentKind::Executable => validate_executable(alloc, document, most),
-        DocumentKind::TypeSystem => validate_type_system(alloc, document, most),
-    }
+    // bound to a name, so that its clauses on `Ok` are found
+    let found = violations.into_text_order()?;
+    Ok(found)
 }

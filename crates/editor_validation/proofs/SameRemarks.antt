@@ -6,14 +6,15 @@ use Rattle.std.specs.List.{Contains, filter, list_any}
 use Rattle.document_grammar.specs.declared.kind.SyntaxKind.TheVariants.{FRAGMENT_NAME}
 use Rattle.apollo_lexer.specs.Diagnostics.{Diagnostic}
 use Rattle.apollo_tree.specs.Order.{Place}
-use Rattle.document_validation.specs.Lists.{document_kind}
-use Rattle.document_validation.proofs.OneListLemmas.{one-list}
+use Rattle.document_validation.specs.Breaches.{breaches}
+use Rattle.validation_rules.proofs.TextOrderLemmas.{one_order}
+use Rattle.validation_names.specs.Names.{Name}
 use Rattle.validation_names.specs.Mentions.{name_in}
 use Rattle.validation_rules.specs.Violations.{Breach}
 use Rattle.editor_diagnostics.specs.Remarks.{Remarked}
 use Rattle.editor_validation.specs.Fragments.{Fragments}
 use Rattle.editor_validation.specs.Mending.{define, has_name, is_mended, spread}
-use Rattle.editor_validation.specs.Remarks.{AreRemarks, AreRemarksOn, BreaksFew, remark_of}
+use Rattle.editor_validation.specs.Remarks.{AreRemarks, AreRemarksOn, remark_of}
 use Rattle.editor_validation.proofs.Kept.{same_mends}
 
 -- ---- a test that some element passes
@@ -70,30 +71,25 @@ module _ (others same : List Fragments) (alike : (f : Fragments) → Contains ot
       same_mends (define others) (define same) (spread others) (spread same)
       (λ name. same_any (λ (f : Fragments). has_name f.defined name) others same alike)
       (λ name. same_any (λ (f : Fragments). has_name f.spread name) others same alike)
-      b.rule (name_in FRAGMENT_NAME b.place)
+      b.rule (name_in FRAGMENT_NAME b.site.place)
 
-  rule_remarks : (document : Place) (first second : List Remarked) → BreaksFew document
-      → AreRemarks others document first → AreRemarks same document second
-      → second ≡ first
-  rule_remarks document first second few f s =
-      let kind = document_kind document in
-      let of_first : f.breaches ≡ few.breaches =
-      one-list kind document 10000 few.breaches f.breaches few.exact f.exact few.few in
-      let of_second : s.breaches ≡ few.breaches =
-      one-list kind document 10000 few.breaches s.breaches few.exact s.exact few.few in
+  rule_remarks : (document : Place) (first second : List Remarked) → AreRemarks others document first
+      → AreRemarks same document second → second ≡ first
+  rule_remarks document first second f s =
+      let list : s.found ≡ f.found =
+      one_order (take 10000 (breaches (document ∷ []))) s.found f.found s.exact f.exact in
       let stays : (λ (b : Breach). not (is_mended same b)) ≡ (λ (b : Breach). not (is_mended others b)) =
       sym (λ i b. not (same_mended b i)) in
       s.are
-      ∙ ap (λ (bs : List Breach). map remark_of (take 100 (filter (λ b. not (is_mended same b)) bs)))
-      (of_second ∙ sym of_first)
-      ∙ ap (λ (keeps : Breach → Bool). map remark_of (take 100 (filter keeps f.breaches))) stays
+      ∙ ap (λ (bs : List Breach). map remark_of (take 100 (filter (λ b. not (is_mended same b)) bs))) list
+      ∙ ap (λ (keeps : Breach → Bool). map remark_of (take 100 (filter keeps f.found))) stays
       ∙ sym f.are
 
 pub same-remarks : (names_braces : Bool) (others same : List Fragments) (document : Place) (errors : List Diagnostic)
     (first second : List Remarked)
-    → ((f : Fragments) → Contains others f ↔ Contains same f) → BreaksFew document
+    → ((f : Fragments) → Contains others f ↔ Contains same f)
     → AreRemarksOn names_braces others document errors first
     → AreRemarksOn names_braces same document errors second → second ≡ first
-same-remarks names_braces others same document [] first second alike few f s =
-    rule_remarks others same alike document first second few f s
-same-remarks names_braces others same document (error ∷ errors) first second alike few f s = s.0 ∙ sym f.0
+same-remarks names_braces others same document [] first second alike f s =
+    rule_remarks others same alike document first second f s
+same-remarks names_braces others same document (error ∷ errors) first second alike f s = s.0 ∙ sym f.0

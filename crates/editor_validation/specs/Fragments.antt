@@ -1,5 +1,5 @@
 -- The fragments that documents define and spread.
-use Rattle.std.specs.Prelude.{List, map, string_bytes}
+use Rattle.std.specs.Prelude.{List, [], ◌∷◌, map, string_bytes}
 use Rattle.std.specs.List.{flat_map}
 use Rattle.apollo_tree.specs.Order.{Place}
 use Rattle.validation_names.specs.Names.{Name}
@@ -24,8 +24,11 @@ abbrev pub names_of : List Named → List Name
 names_of mentions = map (λ (m : Named). m.name) mentions
 
 abbrev pub spread_by : List Defined → List Name
-spread_by definitions = flat_map (λ (d : Defined). names_of (mentions Spread d.place)) definitions
+spread_by definitions = flat_map (λ (d : Defined). names_of (mentions Spread d.site)) definitions
 
 abbrev pub fragments_in : Place → Fragments
 fragments_in document =
-    record { defined = names_of (named_definitions Fragment (defined document)); spread = spread_by (defined document) }
+    record {
+      defined = names_of (named_definitions Fragment (defined (document ∷ [])));
+      spread = spread_by (defined (document ∷ []));
+    }

@@ -28,7 +28,7 @@ mends_at is_defined is_spread _ (Some name) = false
 
 -- The breach is a spread of a fragment that is defined elsewhere, or a fragment that is spread elsewhere.
 abbrev pub mends : (Name → Bool) → (Name → Bool) → Breach → Bool
-mends is_defined is_spread b = mends_at is_defined is_spread b.rule (name_in FRAGMENT_NAME b.place)
+mends is_defined is_spread b = mends_at is_defined is_spread b.rule (name_in FRAGMENT_NAME b.site.place)
 
 -- whether some other documents mend a breach
 abbrev pub is_mended : List Fragments → Breach → Bool

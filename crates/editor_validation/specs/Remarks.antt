@@ -1,6 +1,6 @@
 -- Remarks on a document: its syntax errors, or the rules of validation that it breaks.
-use Rattle.std.specs.Prelude.{◌≡◌, ◌<◌, ℕ, Bool, not, ◌||◌, if◌then◌else◌, List, [], ◌∷◌, length, map, find, take, None}
-use Rattle.std.specs.Prelude.{Option, unwrap_or}
+use Rattle.std.specs.Prelude.{◌≡◌, ℕ, Bool, not, ◌||◌, if◌then◌else◌, List, [], ◌∷◌, map, find, take, None, Option}
+use Rattle.std.specs.Prelude.{unwrap_or}
 use Rattle.std.specs.List.{filter}
 use Rattle.document_grammar.specs.declared.kind.SyntaxKind.TheVariants.{ENUM_VALUE, FRAGMENT_NAME, NAME, VARIABLE}
 use Rattle.document_grammar.specs.Numbers.{is_kind}
@@ -11,9 +11,8 @@ use Rattle.validation_rules.specs.declared.violations.Rule.TheVariants.{Executab
 use Rattle.validation_rules.specs.declared.violations.Rule.TheVariants.{NoUnusedFragments, NoUnusedVariables}
 use Rattle.validation_rules.specs.RuleNames.{rule_name}
 use Rattle.validation_rules.specs.Violations.{Breach}
-use Rattle.document_validation.specs.Lists.{document_kind}
 use Rattle.document_validation.specs.Messages.{message_of}
-use Rattle.document_validation.specs.Breaches.{AreBreaches, BreaksAs}
+use Rattle.document_validation.specs.Breaches.{AreFound, breaches}
 use Rattle.apollo_lexer.specs.Diagnostics.{Diagnostic}
 use Rattle.editor_diagnostics.specs.Remarks.{Remarked, with_brace}
 use Rattle.editor_diagnostics.specs.Syntax.{IsAboutFirst, syntax_remarks}
@@ -42,8 +41,8 @@ marked p = if is_kind VARIABLE (kind_at p) then p else unwrap_or (find names (ch
 
 abbrev pub remark_of : Breach → Remarked
 remark_of b = record {
-  start = (range_at (marked b.place)).0;
-  end = (range_at (marked b.place)).1;
+  start = (range_at (marked b.site.place)).0;
+  end = (range_at (marked b.site.place)).1;
   code = rule_name b.rule;
   severity = severity_of b.rule;
   message = message_of b;
@@ -51,17 +50,11 @@ remark_of b = record {
 }
 
 -- There is a remark for each breach of a rule that no other document mends, up to a hundred of them; of more than ten
--- thousand breaches some ten thousand are looked at.
+-- thousand breaches the first ten thousand are looked at.
 pub record AreRemarks (others : List Fragments) (document : Place) (remarks : List Remarked) : Type 0 where
-  pub breaches : List Breach
-  pub exact : AreBreaches 10000 (BreaksAs (document_kind document) document) breaches
-  pub are : remarks ≡ map remark_of (take 100 (filter (λ b. not (is_mended others b)) breaches))
-
--- the document breaks fewer than ten thousand rules
-pub record BreaksFew (document : Place) : Type 0 where
-  pub breaches : List Breach
-  pub exact : AreBreaches 10000 (BreaksAs (document_kind document) document) breaches
-  pub few : length breaches < 10000
+  pub found : List Breach
+  pub exact : AreFound 10000 (breaches (document ∷ [])) found
+  pub are : remarks ≡ map remark_of (take 100 (filter (λ b. not (is_mended others b)) found))
 
 -- ---- all remarks
 

@@ -60,7 +60,7 @@ fn marked<'t>(node: &SyntaxNode<'t>) -> SyntaxNode<'t>
 fn remark_of(alloc: Global, violation: &Violation<'_>) -> Result<Remark, AllocError>
     ensures { IfOk result (λ remark. as_remarked remark ≡ remark_of (as_breach violation.now)) }
 {
-    let range = marked(&violation.node).text_range();
+    let range = marked(&violation.site.node).text_range();
     Ok(Remark {
         start: range.start(),
         end: range.end(),
@@ -91,7 +91,7 @@ pub(crate) fn rule_remarks<'t>(
     ensures { IfOk result (λ found. AreRemarks (map (λ f. as_fragments f.now) others.now) (node_place document.now)
         (map as_remarked found.items)) }
 {
-    let violations = validate(alloc, document, MOST_VIOLATIONS)?;
+    let violations = validate(alloc, &[*document], MOST_VIOLATIONS)?;
     let mut kept = unmended(alloc, violations.as_slice(), others)?;
     kept.truncate(MOST);
     // bound to a name, so that its clauses on `Ok` are found

@@ -43,7 +43,7 @@ fn spread_names(
 {
     let mut names = Vec::new(alloc);
     for definition in definitions {
-        let spread = mentions(alloc, &definition.node, MentionKind::Spread)?;
+        let spread = mentions(alloc, &definition.site, MentionKind::Spread)?;
         push_names(alloc, &mut names, spread.as_slice())?;
     }
     Ok(names)
@@ -54,7 +54,7 @@ fn spread_names(
 pub fn fragment_names(alloc: Global, document: &SyntaxNode<'_>) -> Result<FragmentNames, AllocError>
     ensures { IfOk result (λ names. as_fragments names ≡ fragments_in (node_place document.now)) }
 {
-    let definitions = definitions(alloc, document)?;
+    let definitions = definitions(alloc, &[*document])?;
     let named = named_definitions(alloc, definitions.as_slice(), DefinitionKind::Fragment)?;
     let mut defined = Vec::new(alloc);
     push_names(alloc, &mut defined, named.as_slice())?;

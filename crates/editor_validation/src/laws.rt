@@ -5,14 +5,13 @@ ghost use Rattle.apollo_lexer.specs.Diagnostics.{Diagnostic};
 ghost use Rattle.apollo_tree.specs.Order.{Place};
 ghost use Rattle.editor_diagnostics.specs.Remarks.{Remarked};
 ghost use Rattle.editor_validation.specs.Fragments.{Fragments};
-ghost use Rattle.editor_validation.specs.Remarks.{AreRemarksOn, BreaksFew};
+ghost use Rattle.editor_validation.specs.Remarks.{AreRemarksOn};
 
-/// Remarks are a function of the document, its syntax errors, and which fragments the others have, in whatever order. A
-/// document that breaks ten thousand rules or more is left out.
+/// Remarks are a function of the document, its syntax errors, and which fragments the others have, in whatever order.
 pub fn same_remarks()
     ensures { (names_braces : Bool) (others same : List Fragments) (document : Place) (errors : List Diagnostic)
         (first second : List Remarked)
-        → ((f : Fragments) → Contains others f ↔ Contains same f) → BreaksFew document
+        → ((f : Fragments) → Contains others f ↔ Contains same f)
         → AreRemarksOn names_braces others document errors first
         → AreRemarksOn names_braces same document errors second → second ≡ first }
 {}

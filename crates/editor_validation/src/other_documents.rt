@@ -62,7 +62,7 @@ fn is_mended<'t>(
     ensures { result ≡ mends (λ name. is_some (entry_of defined.now name)) (λ name. is_some (entry_of spread.now name))
         (as_breach violation.now) }
 {
-    let Some(name) = name_of_fragment(&violation.node) else {
+    let Some(name) = name_of_fragment(&violation.site.node) else {
         return false;
     };
     match violation.rule {

@@ -1,6 +1,6 @@
 // A linter: the rules that need no schema.
 use apollo_parser::SyntaxNode;
-use document_validation::{message, validate_executable};
+use document_validation::{message, validate};
 use line_index::LineIndex;
 use std::alloc::{AllocError, Global};
 
@@ -12,8 +12,8 @@ pub(crate) fn lint(
 ) -> Result<String, AllocError> {
     let lines = LineIndex::new(alloc, source)?;
     let mut list = String::new(alloc);
-    for violation in &validate_executable(alloc, root, 100)? {
-        let start = violation.node.text_range().start().min(source.len());
+    for violation in &validate(alloc, &[*root], 100)? {
+        let start = violation.site.node.text_range().start().min(source.len());
         let line = lines.line_column(start).line.saturating_add(1);
         let message = message(alloc, violation)?;
         writeln!(list, "{line}: {message}")?;

@@ -13,7 +13,7 @@ use Rattle.embedded_documents.specs.declared.scanner.HostLanguage.{HostLanguage}
 use Rattle.formatter.specs.Comments.{HasNoDefinitions}
 use Rattle.gqlls_server.specs.Files.{OpenFile}
 use Rattle.gqlls_server.specs.Parsing.{IsParse}
-use Rattle.gqlls_server.specs.Same.{BreaksFewRules, HaveSameDiagnostics}
+use Rattle.gqlls_server.specs.Same.{HaveSameDiagnostics}
 use Rattle.gqlls_server.specs.Diagnostics.{AreRemarksOf, IsDiagnosticsNotification}
 
 -- the text that is parsed is the document's own
@@ -51,12 +51,12 @@ remarks_of takes_related uri version file fragments others body plain some notif
 pub same-notice : (takes_related : Bool) (uri : List ℕ) (version : Option ℤ) (file : OpenFile)
     (fragments same_fragments : Fragments)
     (others same : List Fragments) (first second : List ℕ) → file.host ≡ None → (¬ HasNoDefinitions file.content.text)
-    → ((f : Fragments) → Contains others f ↔ Contains same f) → BreaksFewRules file
+    → ((f : Fragments) → Contains others f ↔ Contains same f)
     → IsDiagnosticsNotification takes_related uri version file fragments others first
     → IsDiagnosticsNotification takes_related uri version file same_fragments same second
     → HaveSameDiagnostics uri version file first second
-same-notice takes_related uri version file fragments same_fragments others same first second plain some alike
-    few notification again =
+same-notice takes_related uri version file fragments same_fragments others same first second plain some
+    alike notification again =
     let f = remarks_of takes_related uri version file fragments others first plain some notification in
     let s = remarks_of takes_related uri version file same_fragments same second plain some again in
     let one : s.parsed ≡ f.parsed = one-parse s.parsed f.parsed s.parse.by_rules f.parse.by_rules in
@@ -64,8 +64,7 @@ same-notice takes_related uri version file fragments same_fragments others same 
     subst (λ p. AreRemarksOf takes_related same p s.remarks) one s.are in
     let list : s.remarks ≡ f.remarks =
     same-remarks takes_related others same (record { whole = f.parsed.tree; index = 0 }) f.parsed.errors f.remarks
-    s.remarks alike (few f.parsed f.parse)
-    f.are are in
+    s.remarks alike f.are are in
     record {
       remarks = f.remarks;
       once = f.published;

@@ -4,7 +4,7 @@ ghost use Rattle.std.specs.List.{Contains};
 ghost use Rattle.editor_validation.specs.Fragments.{Fragments};
 ghost use Rattle.formatter.specs.Comments.{HasNoDefinitions};
 ghost use Rattle.gqlls_server.specs.Files.{OpenFile};
-ghost use Rattle.gqlls_server.specs.Same.{BreaksFewRules, HaveSameDiagnostics};
+ghost use Rattle.gqlls_server.specs.Same.{HaveSameDiagnostics};
 ghost use Rattle.gqlls_server.specs.Diagnostics.{IsDiagnosticsNotification};
 
 /// What is published of a GraphQL document depends on its text, its limits, which fragments the other documents have,
@@ -12,14 +12,13 @@ ghost use Rattle.gqlls_server.specs.Diagnostics.{IsDiagnosticsNotification};
 /// about, by one change or by many, nor on the order of the other documents. Two conversations that agree in these
 /// publish the same remarks.
 ///
-/// Left out are documents that break ten thousand rules or more, and texts without definitions, of which nothing is
-/// remarked.
+/// Left out are texts without definitions, of which nothing is remarked.
 pub fn same_notice()
     ensures { (takes_related : Bool) (uri : List ℕ) (version : Option ℤ) (file : OpenFile)
         (fragments same_fragments : Fragments) (others same : List Fragments)
         (first second : List ℕ) → file.host ≡ None → (¬ HasNoDefinitions file.content.text)
         → ((f : Fragments) → Contains others f ↔ Contains same f)
-        → BreaksFewRules file → IsDiagnosticsNotification takes_related uri version file fragments others first
+        → IsDiagnosticsNotification takes_related uri version file fragments others first
         → IsDiagnosticsNotification takes_related uri version file same_fragments same second
         → HaveSameDiagnostics uri version file first second }
 {}

@@ -1,4 +1,4 @@
--- The operations and fragments of a document (GraphQL October 2021, section 2.2).
+-- The operations and fragments of documents that are judged together (GraphQL October 2021, section 2.2).
 use Rattle.std.specs.Prelude.{List, map, if◌then◌else◌, Option, Some, None, option_map}
 use Rattle.std.specs.List.{filter_map}
 use denote.Ref.{Bor}
@@ -6,39 +6,38 @@ use Rattle.document_grammar.specs.declared.kind.SyntaxKind.TheVariants.{FRAGMENT
 use Rattle.document_grammar.specs.declared.kind.SyntaxKind.TheVariants.{OPERATION_DEFINITION}
 use Rattle.document_grammar.specs.Numbers.{is_kind}
 use Rattle.apollo_tree.specs.Order.{Place, kind_at}
-use Rattle.apollo_tree.specs.Children.{child_nodes}
-use Rattle.apollo_tree.specs.References.{node_place}
 use Rattle.validation_names.specs.Names.{Name}
 use Rattle.validation_names.specs.declared.executables.DefinitionKind.{DefinitionKind}
 use Rattle.validation_names.specs.declared.executables.DefinitionKind.TheVariants.{Operation, Fragment}
 use Rattle.validation_names.specs.declared.executables.ExecutableDefinition.{ExecutableDefinition}
 use Rattle.validation_names.specs.Mentions.{Named, name_of, name_in}
+use Rattle.validation_names.specs.Sites.{Located, all_definitions, as_located}
 
--- an operation or a fragment: its element, and its name, which an operation may lack
+-- an operation or a fragment: where it is, and its name, which an operation may lack
 pub record Defined : Type 0 where
   pub kind : DefinitionKind
-  pub place : Place
+  pub site : Located
   pub name : Option Name
 
 abbrev pub as_defined : ExecutableDefinition → Defined
 as_defined d = record {
   kind = d.kind;
-  place = node_place d.node;
+  site = as_located d.site;
   name = option_map (λ (n : Bor (List _)). n.now) d.name;
 }
 
 -- the operation or fragment that an element is
-abbrev pub defined_at : Place → Option Defined
-defined_at p =
-    if is_kind OPERATION_DEFINITION (kind_at p)
-    then Some (record { kind = Operation; place = p; name = name_of p })
-    else (if is_kind FRAGMENT_DEFINITION (kind_at p)
-    then Some (record { kind = Fragment; place = p; name = name_in FRAGMENT_NAME p })
+abbrev pub defined_at : Located → Option Defined
+defined_at site =
+    if is_kind OPERATION_DEFINITION (kind_at site.place)
+    then Some (record { kind = Operation; site = site; name = name_of site.place })
+    else (if is_kind FRAGMENT_DEFINITION (kind_at site.place)
+    then Some (record { kind = Fragment; site = site; name = name_in FRAGMENT_NAME site.place })
     else None)
 
--- those of a document, in order
-abbrev pub defined : Place → List Defined
-defined document = filter_map defined_at (child_nodes document)
+-- those of some documents, by their roots, in order
+abbrev pub defined : List Place → List Defined
+defined documents = filter_map defined_at (all_definitions documents)
 
 -- the name of an operation
 abbrev pub operation_name : Defined → Option Name
@@ -56,7 +55,7 @@ name_as Operation d = operation_name d
 name_as Fragment d = fragment_name d
 
 abbrev pub named : DefinitionKind → Defined → Option Named
-named kind d = option_map (λ name. record { place = d.place; name = name }) (name_as kind d)
+named kind d = option_map (λ name. record { site = d.site; name = name }) (name_as kind d)
 
 -- the operations or the fragments that have a name
 abbrev pub named_definitions : DefinitionKind → List Defined → List Named

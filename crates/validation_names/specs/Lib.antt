@@ -1,3 +1,4 @@
 pub mod Definitions
 pub mod Mentions
 pub mod Names
+pub mod Sites

@@ -1,28 +1,26 @@
 -- The names that nodes mention: fragments that are spread, and variables that are declared or used.
-use Rattle.std.specs.Prelude.{List, Bool, false, not, ◌&&◌, if◌then◌else◌, Option, Some, None, option_map}
+use Rattle.std.specs.Prelude.{List, Bool, false, not, ◌&&◌, if◌then◌else◌, map, Option, Some, None, option_map}
 use Rattle.std.specs.Prelude.{option_and_then}
-use Rattle.std.specs.List.{filter, filter_map}
+use Rattle.std.specs.List.{filter_map}
 use Rattle.document_grammar.specs.declared.kind.SyntaxKind.{SyntaxKind}
 use Rattle.document_grammar.specs.declared.kind.SyntaxKind.TheVariants.{NAME, VARIABLE, VARIABLE_DEFINITION}
 use Rattle.document_grammar.specs.declared.kind.SyntaxKind.TheVariants.{FRAGMENT_NAME, FRAGMENT_SPREAD}
 use Rattle.document_grammar.specs.Numbers.{is_kind}
 use Rattle.apollo_tree.specs.Order.{Place, kind_at, text_at, parent_place}
-use Rattle.apollo_tree.specs.Children.{is_node_place}
-use Rattle.apollo_tree.specs.Below.{at_or_below}
-use Rattle.apollo_tree.specs.References.{node_place}
 use Rattle.apollo_cst_core.specs.Cast.{cast_children, first_of}
 use Rattle.validation_names.specs.Names.{Name}
+use Rattle.validation_names.specs.Sites.{Located, as_located, located, nodes}
 use Rattle.validation_names.specs.declared.name_mentions.Mention.{Mention}
 use Rattle.validation_names.specs.declared.name_mentions.MentionKind.{MentionKind}
 use Rattle.validation_names.specs.declared.name_mentions.MentionKind.TheVariants.{Spread, Declared, Used}
 
--- an element with a name
+-- a node with a name
 pub record Named : Type 0 where
-  pub place : Place
+  pub site : Located
   pub name : Name
 
 abbrev pub as_named : Mention → Named
-as_named m = record { place = node_place m.node; name = m.name.now }
+as_named m = record { site = as_located m.site; name = m.name.now }
 
 -- the text of the name that a node has as a child
 abbrev pub name_of : Place → Option Name
@@ -44,9 +42,9 @@ mentioned_name Spread p = if is_kind FRAGMENT_SPREAD (kind_at p) then name_in FR
 mentioned_name Declared p = if is_kind VARIABLE_DEFINITION (kind_at p) then name_in VARIABLE p else None
 mentioned_name Used p = if is_kind VARIABLE (kind_at p) && not (is_declared (parent_place p)) then name_of p else None
 
-abbrev pub mentioned : MentionKind → Place → Option Named
-mentioned kind p = option_map (λ name. record { place = p; name = name }) (mentioned_name kind p)
+abbrev pub mentioned : MentionKind → Located → Option Named
+mentioned kind site = option_map (λ name. record { site = site; name = name }) (mentioned_name kind site.place)
 
--- all of them at an element and below it, in the order of the text
-abbrev pub mentions : MentionKind → Place → List Named
-mentions kind p = filter_map (mentioned kind) (filter is_node_place (at_or_below p))
+-- all of them at a node and below it, in the order of the text
+abbrev pub mentions : MentionKind → Located → List Named
+mentions kind site = filter_map (mentioned kind) (map (located site.document) (nodes site.place))

@@ -1,13 +1,17 @@
-// The operations and fragments of a document.
-ghost use Rattle.std.specs.Prelude.{◌≡◌, IfOk, map, option_map};
+// The operations and fragments of documents that are judged together.
+ghost use Rattle.std.specs.Prelude.{◌≡◌, ◌++◌, IfOk, OnOk, map, option_map};
+ghost use Rattle.std.specs.List.{filter_map};
+ghost use Rattle.apollo_tree.specs.Children.{child_nodes};
 ghost use Rattle.apollo_tree.specs.References.{node_place};
 ghost use Rattle.validation_names.specs.Names.{AreFirstNumbers};
 ghost use Rattle.validation_names.specs.Definitions.{as_defined, defined, defined_at, fragment_names, named};
 ghost use Rattle.validation_names.specs.Definitions.{named_definitions};
 ghost use Rattle.validation_names.specs.Mentions.{as_named};
+ghost use Rattle.validation_names.specs.Sites.{as_located, located};
 
 use crate::name_mentions::{Mention, name, name_of_fragment};
 use crate::names::enter;
+use crate::sites::Site;
 use apollo_tree::{SyntaxKind, SyntaxNode};
 use std::alloc::{AllocError, Allocator};
 use std::collections::BTreeMap;
@@ -23,12 +27,12 @@ pub enum DefinitionKind {
     Fragment,
 }
 
-/// An operation or a fragment of a document.
+/// An operation or a fragment.
 #[derive(Clone, Copy)]
 pub struct ExecutableDefinition<'t> {
     pub kind: DefinitionKind,
-    /// Its node, of the kind OPERATION_DEFINITION or FRAGMENT_DEFINITION.
-    pub node: SyntaxNode<'t>,
+    /// Its document and its node, which has the kind OPERATION_DEFINITION or FRAGMENT_DEFINITION.
+    pub site: Site<'t>,
     /// Its name. An operation may have none; a fragment has none only after a syntax error.
     pub name: Option<&'t str>,
 }
@@ -59,39 +63,59 @@ impl<'t> ExecutableDefinition<'t> {
 }
 
 // The definition that a node is.
-fn definition<'t>(node: &SyntaxNode<'t>) -> Option<ExecutableDefinition<'t>>
-    ensures { option_map as_defined result ≡ defined_at (node_place node.now) }
+fn definition<'t>(site: Site<'t>) -> Option<ExecutableDefinition<'t>>
+    ensures { option_map as_defined result ≡ defined_at (as_located site.entry) }
 {
-    let kind = node.kind();
+    let kind = site.node.kind();
     if kind.is(SyntaxKind::OPERATION_DEFINITION) {
         return Some(ExecutableDefinition {
             kind: DefinitionKind::Operation,
-            node: *node,
-            name: name(node),
+            site,
+            name: name(&site.node),
         });
     }
     if kind.is(SyntaxKind::FRAGMENT_DEFINITION) {
         return Some(ExecutableDefinition {
             kind: DefinitionKind::Fragment,
-            node: *node,
-            name: name_of_fragment(node),
+            site,
+            name: name_of_fragment(&site.node),
         });
     }
     None
 }
 
-/// The operations and fragments of a document, in order.
-pub fn definitions<'t, A: Allocator + Copy>(
-    alloc: A,
+// Adds the operations and fragments of the document with a number.
+fn push_definitions<'t, A: Allocator>(
+    definitions: &mut Vec<ExecutableDefinition<'t>, A>,
+    number: usize,
     document: &SyntaxNode<'t>,
-) -> Result<Vec<ExecutableDefinition<'t>, A>, AllocError>
-    ensures { IfOk result (λ definitions. map as_defined definitions.items ≡ defined (node_place document.now)) }
+) -> Result<(), AllocError>
+    ensures { OnOk result (map as_defined definitions.new.items
+        ≡ map as_defined definitions.old.items
+        ++ filter_map defined_at (map (located number) (child_nodes (node_place document.now)))) }
 {
-    let mut definitions = Vec::new(alloc);
     for node in document.children() {
-        if let Some(definition) = definition(&node) {
+        let site = Site {
+            document: number,
+            node,
+        };
+        if let Some(definition) = definition(site) {
             definitions.push(definition)?;
         }
+    }
+    Ok(())
+}
+
+/// The operations and fragments of some documents, by the roots of their trees, in order.
+pub fn definitions<'t, A: Allocator + Copy>(
+    alloc: A,
+    documents: &[SyntaxNode<'t>],
+) -> Result<Vec<ExecutableDefinition<'t>, A>, AllocError>
+    ensures { IfOk result (λ definitions. map as_defined definitions.items ≡ defined (map node_place documents.now)) }
+{
+    let mut definitions = Vec::new(alloc);
+    for (number, document) in documents.iter().enumerate() {
+        push_definitions(&mut definitions, number, document)?;
     }
     Ok(definitions)
 }
@@ -105,7 +129,7 @@ fn named<'t>(definition: &ExecutableDefinition<'t>, kind: DefinitionKind) -> Opt
         DefinitionKind::Fragment => definition.fragment_name(),
     };
     Some(Mention {
-        node: definition.node,
+        site: definition.site,
         name: name?,
     })
 }

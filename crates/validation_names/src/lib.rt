@@ -1,5 +1,5 @@
-//! The operations and fragments of a document, and the names that they mention: what rules and limits on executable
-//! documents read of a tree.
+//! The operations and fragments of documents that are judged together, and the names that they mention: what rules and
+//! limits on executable documents read of trees.
 //!
 //! `definitions` gives the operations and fragments in order, `fragments` the first fragment of each name, and
 //! `mentions` the fragments that a definition spreads, and the variables that it declares or uses. Each goes over the
@@ -10,9 +10,11 @@
 mod executables;
 mod name_mentions;
 mod names;
+mod sites;
 
 pub use executables::{
     DefinitionKind, ExecutableDefinition, definitions, fragments, named_definitions,
 };
 pub use name_mentions::{Mention, MentionKind, mentions, name, name_of_fragment};
 pub use names::{enter, is_entered};
+pub use sites::Site;

@@ -5,7 +5,9 @@ ghost use Rattle.apollo_tree.specs.Order.{parent_place};
 ghost use Rattle.apollo_tree.specs.References.{node_place};
 ghost use Rattle.validation_names.specs.Mentions.{as_named, is_declared, mentioned, mentioned_name, mentions, name_in};
 ghost use Rattle.validation_names.specs.Mentions.{name_of};
+ghost use Rattle.validation_names.specs.Sites.{as_located};
 
+use crate::sites::Site;
 use apollo_cst_core::{CstNode, child};
 use apollo_cst_executable::{FragmentName, Name, Variable};
 use apollo_tree::{SyntaxKind, SyntaxNode};
@@ -25,7 +27,7 @@ pub enum MentionKind {
 /// A node that mentions a name.
 #[derive(Clone, Copy)]
 pub struct Mention<'t> {
-    pub node: SyntaxNode<'t>,
+    pub site: Site<'t>,
     /// The name, without the `$` of a variable.
     pub name: &'t str,
 }
@@ -90,24 +92,28 @@ fn mentioned_name<'t>(node: &SyntaxNode<'t>, mention: MentionKind) -> Option<&'t
 }
 
 // The node with the name that it mentions.
-fn mentioned<'t>(node: SyntaxNode<'t>, mention: MentionKind) -> Option<Mention<'t>>
-    ensures { option_map as_named result ≡ mentioned mention (node_place node.entry) }
+fn mentioned<'t>(site: Site<'t>, mention: MentionKind) -> Option<Mention<'t>>
+    ensures { option_map as_named result ≡ mentioned mention (as_located site.entry) }
 {
-    let name = mentioned_name(&node, mention)?;
-    Some(Mention { node, name })
+    let name = mentioned_name(&site.node, mention)?;
+    Some(Mention { site, name })
 }
 
 /// The names that a node and those below it mention, in the order of the text.
 pub fn mentions<'t, A: Allocator + Copy>(
     alloc: A,
-    root: &SyntaxNode<'t>,
+    root: &Site<'t>,
     mention: MentionKind,
 ) -> Result<Vec<Mention<'t>, A>, AllocError>
-    ensures { IfOk result (λ found. map as_named found.items ≡ mentions mention (node_place root.now)) }
+    ensures { IfOk result (λ found. map as_named found.items ≡ mentions mention (as_located root.now)) }
 {
     let mut found = Vec::new(alloc);
-    for node in root.descendants() {
-        if let Some(mention) = mentioned(node, mention) {
+    for node in root.node.descendants() {
+        let site = Site {
+            document: root.document,
+            node,
+        };
+        if let Some(mention) = mentioned(site, mention) {
             found.push(mention)?;
         }
     }

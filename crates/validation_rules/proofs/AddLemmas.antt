@@ -1,152 +1,139 @@
 -- How lists of violations grow.
-use Rattle.std.proofs.Common.{◌≡◌, ◌≢◌, ◌⊎◌, ℕ, ◌+◌, ◌<◌, ◌≤◌, [], ◌∷◌, ◌++◌, length, get_or, arith, refl, sym, ◌∙◌, ap}
-use Rattle.std.proofs.Common.{inl, inr, ⊎_elim}
-use Rattle.std.specs.List.{Contains}
-use Rattle.std.proofs.lemmas.Bool.{cases_eq}
-use Rattle.std.proofs.lemmas.List.{length-append, length-map}
-use Rattle.std.proofs.lemmas.List.Elements.{Contains-append_left, Contains-get_or, Contains-push, Contains-push_cases}
-use Rattle.std.proofs.lemmas.List.Quantifiers.{all_pairs_push}
+use Rattle.std.proofs.Common.{◌≡◌, ℕ, zero, suc, ◌+◌, ◌-◌, ◌<◌, ◌≤◌, min, List, [], ◌∷◌, ◌++◌, length, map, take, drop}
+use Rattle.std.proofs.Common.{get_or, arith, refl, sym, ◌∙◌, ap, ⊎_elim, append_assoc, append-nil, length-append}
+use Rattle.std.proofs.Common.{length-take}
+use Rattle.std.specs.Prelude.{nat_le, true}
+use Rattle.std.specs.List.{flat_map, range_with_len}
+use Rattle.std.proofs.Math.ListN.{get_or-map}
+use Rattle.std.proofs.lemmas.Bool.Decides.{nat_tests}
+use Rattle.std.proofs.lemmas.List.FromFn.{get_or-range_with_len, length-range_with_len}
+use Rattle.std.proofs.lemmas.Bool.{cases_lt}
+use Rattle.std.proofs.lemmas.Grind.{flat_map-append}
+use Rattle.std.proofs.lemmas.List.{length-map, map-append, take-append-drop, take_all, take_more}
 use Rattle.validation_rules.specs.declared.violations.Violations.{Violations}
-use Rattle.validation_rules.specs.Violations.{Breach, as_breach, found, count, Adds}
+use Rattle.validation_rules.specs.Violations.{Adds, Breach, as_breach, found}
 
--- so for one of the first n, and so for all of them
-abbrev pub Below : (ℕ → Breach → Type 0) → ℕ → Breach → Type 0
-Below Breaks n b = (k : ℕ) × (k < n) × Breaks k b
+-- ---- one list after another
+take_both : {X : Type 0} (n : ℕ) (xs ys : List X) → take n (xs ++ ys) ≡ take n xs ++ take (n - length xs) ys
+take_both zero xs ys = let e : 0 - length xs ≡ 0 = omega arith in rw e refl
+take_both (suc n) [] ys = let e : suc n - 0 ≡ suc n = omega arith in rw e refl
+take_both (suc n) (x ∷ xs) ys = let e : suc n - length (x ∷ xs) ≡ n - length xs = omega arith in
+    rw e (ap (λ zs. x ∷ zs) (take_both n xs ys))
 
-abbrev pub AllBelow : (ℕ → Type 0) → ℕ → Type 0
-AllBelow IsWell n = (k : ℕ) → k < n → IsWell k
+-- what room is left
+room : (most old n : ℕ) → most - (old + min (most - old) n) ≡ most - old - n
+room most old n =
+    ⊎_elim
+    (λ (less : most - old < n). let e : min (most - old) n ≡ most - old = omega arith in rw e (omega arith))
+    (λ (le : n ≤ most - old). let e : min (most - old) n ≡ n = omega arith in rw e (omega arith))
+    (cases_lt (most - old) n)
 
-pub adds_nothing : (Breaks : Breach → Type 0) (IsWell : Type 0) (v : Violations) → ((b : Breach) → ¬ Breaks b) → IsWell
-    → Adds Breaks IsWell v v
-adds_nothing Breaks IsWell v none well = record {
+take_nil : {X : Type 0} (n : ℕ) → take {A = X} n [] ≡ []
+take_nil zero = refl
+take_nil (suc n) = refl
+
+pub adds_none : (v : Violations) → Adds [] v v
+adds_none v = record {
   most = refl;
-  kept = λ b there. there;
-  no_others = λ b there. inl there;
-  all = λ less b breaks. absurd (none b breaks);
-  grows = omega arith;
-  few = λ few. few;
-  well = λ less same. well;
-  distinct = λ apart distinct. distinct;
+  are = rw (take_nil {X = Breach} (v.most - length (found v))) (sym (append-nil (found v)));
+}
+
+pub adds_then : (xs ys : List Breach) (old mid new : Violations) → Adds xs old mid → Adds ys mid new
+    → Adds (xs ++ ys) old new
+adds_then xs ys old mid new first second = record {
+  most = second.most ∙ first.most;
+  are =
+      let n = old.most - length (found old) in
+      let long : length (found mid) ≡ length (found old) + min n (length xs) =
+      ap length first.are ∙ length-append (found old) (take n xs)
+      ∙ ap (λ k. length (found old) + k) (length-take n xs) in
+      let left : mid.most - length (found mid) ≡ n - length xs =
+      rw (first.most, long) (room old.most (length (found old)) (length xs)) in
+      second.are ∙ rw (left, first.are, take_both n xs ys)
+      (append_assoc (found old) (take n xs) (take (n - length xs) ys));
 }
 
 -- a list that is full needs no more
-pub adds_full :
-    (Breaks Others : Breach → Type 0) (IsWell AreWell : Type 0) (old new : Violations)
-    → ((b : Breach) → Breaks b → Others b) → new.most ≤ count new
-    → Adds Breaks IsWell old new → Adds Others AreWell old new
-adds_full Breaks Others IsWell AreWell old new to full adds = record {
-  most = adds.most;
-  kept = adds.kept;
-  no_others = λ b there.
-      ⊎_elim (λ (was : Contains (found old) b). inl was) (λ (breaks : Breaks b). inr (to b breaks))
-      (adds.no_others b there);
-  all = λ less. absurd (let e = adds.most in omega arith);
-  grows = adds.grows;
-  few = adds.few;
-  well = λ less. absurd (let e = adds.most in omega arith);
-  distinct = λ apart. adds.distinct (λ b there breaks. apart b there (to b breaks));
-}
+pub adds_full : (xs ys : List Breach) (old new : Violations) → new.most ≤ length (found new) → Adds xs old new
+    → Adds (xs ++ ys) old new
+adds_full xs ys old new full adds = adds_then xs ys old new new adds (record {
+  most = refl;
+  are = let e : new.most - length (found new) ≡ 0 = omega arith in rw e (sym (append-nil (found new)));
+})
+
+pub is_full : (v : Violations) → true ≡ nat_le v.most (length v.list.items) → v.most ≤ length (found v)
+is_full v full = let le : v.most ≤ length v.list.items = grind (arith, nat_tests, full) in rw length-map le
 
 -- one more in a list that is not full
-pub adds_push :
-    (b : Breach) (old new : Violations) → new.most ≡ old.most → found new ≡ found old ++ b ∷ [] → count old < old.most
-    → Adds (λ x. x ≡ b) ⊥ old new
+pub adds_push : (b : Breach) (old new : Violations) → new.most ≡ old.most → found new ≡ found old ++ b ∷ []
+    → length old.list.items < old.most
+    → Adds (b ∷ []) old new
 adds_push b old new same is less = record {
   most = same;
-  kept = λ x there. rw is (Contains-append_left (found old) (b ∷ []) x there);
-  no_others = λ x there.
-      ⊎_elim (λ (was : Contains (found old) x). inl was) (λ (e : b ≡ x). inr (sym e))
-      (Contains-push_cases (found old) b x (rw is at there));
-  all = λ below x e. rw (is, e) (Contains-push (found old) b);
-  grows = let l = longer in omega arith;
-  few = λ few. let l = longer in omega arith;
-  well = λ below le. let l = longer in omega arith;
-  distinct = λ apart distinct.
-      rw is
-      (all_pairs_push (λ x y. x ≢ y) (found old) b distinct
-      (λ k d below. apart (get_or (found old) k d) (Contains-get_or (found old) k d below)));
-}
-  where
-    longer : count new ≡ count old + 1
-    longer = sym (length-map new.list.items as_breach) ∙ ap length is
-        ∙ length-append (found old) (b ∷ []) ∙ ap (λ n. n + 1)
-        (length-map old.list.items as_breach)
-
--- two ways to say it
-pub adds_same :
-    (Breaks Others : Breach → Type 0) (IsWell AreWell : Type 0) (old new : Violations)
-    → ((b : Breach) → Breaks b → Others b) → ((b : Breach) → Others b
-    → Breaks b)
-    → (IsWell → AreWell) → Adds Breaks IsWell old new → Adds Others AreWell old new
-adds_same Breaks Others IsWell AreWell old new to from well adds = record {
-  most = adds.most;
-  kept = adds.kept;
-  no_others = λ b there.
-      ⊎_elim (λ (was : Contains (found old) b). inl was) (λ (breaks : Breaks b). inr (to b breaks))
-      (adds.no_others b there);
-  all = λ less b others. adds.all less b (from b others);
-  grows = adds.grows;
-  few = adds.few;
-  well = λ less same. well (adds.well less same);
-  distinct = λ apart. adds.distinct (λ b there breaks. apart b there (to b breaks));
+  are =
+      let long = length-map old.list.items as_breach in
+      let room : old.most - length (found old) ≡ suc (old.most - length (found old) - 1) = rw long (omega arith) in
+      is ∙ rw (room, take_nil {X = Breach} (old.most - length (found old) - 1)) refl;
 }
 
--- one after the other, where nothing is a breach of both
-pub adds_then :
-    (Breaks Others : Breach → Type 0) (IsWell AreWell : Type 0) (old mid new : Violations)
-    → ((b : Breach) → Breaks b → ¬ Others b)
-    → Adds Breaks IsWell old mid → Adds Others AreWell mid new
-    → Adds (λ b. Breaks b ⊎ Others b) (IsWell × AreWell) old new
-adds_then Breaks Others IsWell AreWell old mid new apart first second = record {
-  most = second.most ∙ first.most;
-  kept = λ b there. second.kept b (first.kept b there);
-  no_others = λ b there.
-      ⊎_elim
-      (λ (before : Contains (found mid) b).
-      ⊎_elim (λ (was : Contains (found old) b). inl was) (λ (breaks : Breaks b). inr (inl breaks))
-      (first.no_others b before))
-      (λ (others : Others b). inr (inr others))
-      (second.no_others b there);
-  all = λ less b either.
-      ⊎_elim (λ (breaks : Breaks b). second.kept b (first.all (below less) b breaks))
-      (λ (others : Others b). second.all (within less) b others) either;
-  grows = let a = first.grows in let b = second.grows in omega arith;
-  few = λ few. let e = first.most in rw (← e) (second.few (rw e (first.few few)));
-  well = λ less same.
-      let a = first.grows in let b = second.grows in
-      (first.well (below less) (omega arith), second.well (within less) (omega arith));
-  distinct = λ none distinct.
-      second.distinct
-      (λ b there others.
-      ⊎_elim
-      (λ (was : Contains (found old) b). none b was (inr others))
-      (λ (breaks : Breaks b). apart b breaks others)
-      (first.no_others b there))
-      (first.distinct (λ b there breaks. none b there (inl breaks)) distinct);
-}
-  where
-    below : count new < old.most → count mid < old.most
-    below less = let b = second.grows in omega arith
+-- ---- what is listed for each of some things, in order
+pub adds_next :
+    {X : Type 0} (f : X → List Breach) (xs : List X) (i : ℕ) (x : X) (old mid new : Violations)
+    → i < length xs → x ≡ get_or xs i x
+    → Adds (flat_map f (take i xs)) old mid → Adds (f x) mid new → Adds (flat_map f (take (i + 1) xs)) old new
+adds_next f xs i x old mid new below is before last =
+    rw (take_more xs i x below, flat_map-append, ← is)
+    (adds_then (flat_map f (take i xs)) (f x ++ []) old mid new before (rw append-nil last))
 
-    within : count new < old.most → count new < mid.most
-    within less = let e = first.most in omega arith
+pub adds_rest :
+    {X : Type 0} (f : X → List Breach) (xs : List X) (i : ℕ) (old new : Violations) → new.most ≤ length (found new)
+    → Adds (flat_map f (take i xs)) old new → Adds (flat_map f xs) old new
+adds_rest f xs i old new full before =
+    let all : flat_map f (take i xs) ++ flat_map f (drop i xs) ≡ flat_map f xs =
+    sym (flat_map-append f (take i xs) (drop i xs)) ∙ ap (flat_map f) (take-append-drop i xs) in
+    rw (← all) (adds_full (flat_map f (take i xs)) (flat_map f (drop i xs)) old new full before)
 
--- one more of several
-pub adds_more :
-    (Breaks : ℕ → Breach → Type 0) (IsWell : ℕ → Type 0) (n : ℕ) (old mid new : Violations)
-    → ((k : ℕ) → k < n → (b : Breach) → Breaks k b → ¬ Breaks n b)
-    → Adds (Below Breaks n) (AllBelow IsWell n) old mid
-    → Adds (Breaks n) (IsWell n) mid new → Adds (Below Breaks (n + 1)) (AllBelow IsWell (n + 1)) old new
-adds_more Breaks IsWell n old mid new apart before last =
-    adds_same (λ b. Below Breaks n b ⊎ Breaks n b) (Below Breaks (n + 1)) (AllBelow IsWell n × IsWell n)
-    (AllBelow IsWell (n + 1)) old new
-    (λ b. ⊎_elim (λ (at : Below Breaks n b). (at.0, let l = at.1 in omega arith, at.2))
-    (λ (is : Breaks n b). (n, omega arith, is)))
-    (λ b (k, below, is).
-    ⊎_elim
-    (λ (e : k ≡ n). inr (rw e at is))
-    (λ (ne : k ≢ n). inl (k, omega arith, is))
-    (cases_eq k n))
-    (λ (all, this) k below. ⊎_elim (λ (e : k ≡ n). rw e this) (λ (ne : k ≢ n). all k (omega arith)) (cases_eq k n))
-    (adds_then (Below Breaks n) (Breaks n) (AllBelow IsWell n) (IsWell n) old mid new
-    (λ b (k, below, was) is. apart k below b was is) before last)
+pub adds_all :
+    {X : Type 0} (f : X → List Breach) (xs : List X) (i : ℕ) (old new : Violations) → length xs ≤ i
+    → Adds (flat_map f (take i xs)) old new
+    → Adds (flat_map f xs) old new
+adds_all f xs i old new end before = rw (← take_all i xs end) before
+
+pub next_of :
+    {A X : Type 0} (f : X → List Breach) (g : A → X) (xs : List A) (i : ℕ) (x : A) (old mid new : Violations)
+    → i < length xs → x ≡ get_or xs i x
+    → Adds (flat_map f (take i (map g xs))) old mid → Adds (f (g x)) mid new
+    → Adds (flat_map f (take (i + 1) (map g xs))) old new
+next_of f g xs i x old mid new below is before last =
+    adds_next f (map g xs) i (g x) old mid new (rw length-map below) (ap g is ∙ sym (get_or-map g xs i x)) before last
+
+pub next_number :
+    (f : ℕ → List Breach) (n i : ℕ) (old mid new : Violations) → i < n
+    → Adds (flat_map f (take i (range_with_len 0 n))) old mid → Adds (f i) mid new
+    → Adds (flat_map f (take (i + 1) (range_with_len 0 n))) old new
+next_number f n i old mid new below before last =
+    let e : 0 + i ≡ i = omega arith in
+    adds_next f (range_with_len 0 n) i i old mid new (rw length-range_with_len below)
+    (sym (get_or-range_with_len 0 n i i below ∙ e)) before last
+
+pub all_numbers :
+    (f : ℕ → List Breach) (n i : ℕ) (old new : Violations) → n ≤ i
+    → Adds (flat_map f (take i (range_with_len 0 n))) old new
+    → Adds (flat_map f (range_with_len 0 n)) old new
+all_numbers f n i old new end before = adds_all f (range_with_len 0 n) i old new (rw length-range_with_len end) before
+
+-- ---- some of them are left
+-- Whoever adds what is listed for those that are left has added what is listed for all.
+abbrev pub IsLeft : {X : Type 0} → (X → List Breach) → List X → List X → Violations → Violations → Type 0
+IsLeft f left all old mid = (new : Violations) → Adds (flat_map f left) mid new → Adds (flat_map f all) old new
+
+pub left_next :
+    {X : Type 0} (f : X → List Breach) (left rest all : List X) (x : X) (old mid new : Violations) → left ≡ x ∷ rest
+    → IsLeft f left all old mid
+    → Adds (f x) mid new → IsLeft f rest all old new
+left_next f left rest all x old mid new e before now end adds =
+    before end (rw e (adds_then (f x) (flat_map f rest) mid new end now adds))
+
+pub left_ends : {X : Type 0} (f : X → List Breach) (left all : List X) (old new : Violations) → left ≡ []
+    → IsLeft f left all old new → Adds (flat_map f all) old new
+left_ends f left all old new e before = before new (rw e (adds_none new))

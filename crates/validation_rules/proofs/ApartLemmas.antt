@@ -1,11 +1,10 @@
--- The definitions of a document, and the names that they mention, are at places of their own.
-use Rattle.std.proofs.Common.{◌≡◌, ◌≢◌, ℕ, ◌<◌, ◌≤◌, List, length, map, Bool, true, false, cond, Option, Some, None}
-use Rattle.std.proofs.Common.{arith, refl, subst, sym, ap, ◌∙◌, ⊎_elim}
+-- The definitions of some documents, and the names that they mention, are at places of their own.
+use Rattle.std.proofs.Common.{◌≡◌, ◌≢◌, ℕ, zero, suc, ◌+◌, ◌<◌, ◌≤◌, List, [], ◌∷◌, ◌++◌, length, map, get_or, Bool}
+use Rattle.std.proofs.Common.{true, false, cond, Option, Some, None, arith, refl, subst, sym, ap, ◌∙◌, ⊎_elim}
 use Rattle.std.specs.Prelude.{option_map}
-use Rattle.std.specs.List.{All, AllPairs, Contains, filter, range_with_len}
+use Rattle.std.specs.List.{AllPairs, Contains, filter}
 use Rattle.std.proofs.lemmas.Bool.{cases_lt}
-use Rattle.std.proofs.lemmas.List.{length-map}
-use Rattle.std.proofs.lemmas.List.Elements.{Contains-get_or}
+use Rattle.std.proofs.lemmas.List.Elements.{Contains-append_cases, Contains-get_or}
 use Rattle.std.proofs.lemmas.List.Kept.{AllPairs-filter}
 use Rattle.document_grammar.specs.declared.kind.SyntaxKind.TheVariants.{FRAGMENT_DEFINITION, OPERATION_DEFINITION}
 use Rattle.document_grammar.specs.Numbers.{is_kind}
@@ -18,133 +17,176 @@ use Rattle.validation_names.specs.declared.name_mentions.MentionKind.{MentionKin
 use Rattle.validation_names.specs.declared.name_mentions.MentionKind.TheVariants.{Spread, Declared, Used}
 use Rattle.validation_names.specs.Definitions.{Defined, defined, defined_at, name_as, named, named_definitions}
 use Rattle.validation_names.specs.Mentions.{Named, mentioned, mentioned_name, mentions}
+use Rattle.validation_names.specs.Sites.{Located, all_definitions, in_documents_from, located, nodes}
 use Rattle.validation_names.proofs.Lists.{in_filter, in_filter_map}
-use Rattle.validation_rules.specs.declared.definition_parts.DefinitionParts.{DefinitionParts}
-use Rattle.validation_rules.specs.Parts.{AreInOneDocument, Parts, as_parts, at, is_operation, nothing, operations}
-use Rattle.validation_rules.specs.Parts.{parts_of, place_at, AreApart}
-use Rattle.validation_rules.proofs.PairLemmas.{in_map, pairs_filter_map, pairs_map, range_rises}
+use Rattle.validation_rules.specs.Parts.{Parts, at, is_operation, nothing, numbers, operations, parts_in, parts_of}
+use Rattle.validation_rules.specs.Parts.{site_at}
+use Rattle.validation_rules.proofs.PairLemmas.{in_map, pairs_append, pairs_filter_map, pairs_map, pairs_none}
+use Rattle.validation_rules.proofs.PairLemmas.{range_rises}
 use Rattle.validation_rules.proofs.TreeLemmas.{IsBefore, below_range, child_nodes_apart, nodes_rise}
 
--- what has a name is at the element that has it
-pub named_place : (p : Place) (o : Option Name) (item : Named)
-    → option_map (λ name. record { place = p; name = name }) o ≡ Some item → item.place ≡ p
-named_place p None item e = absurd (cc)
-named_place p (Some name) item e =
-    let same : record { place = p; name = name } ≡ item = (cc) in
-    ap (λ (i : Named). i.place) (sym same)
+-- ---- places in several documents
+-- In one document the places are so; places in two documents are never the same.
+abbrev pub InOne : (Place → Place → Type 0) → Located → Located → Type 0
+InOne R a b = a.document ≡ b.document → R a.place b.place
+
+-- the subtree of the first ends before the second begins
+abbrev pub ComeApart : Located → Located → Type 0
+ComeApart a b = InOne IsBefore a b
+
+-- no two items are at one place
+abbrev pub AreApart : List Named → Type 0
+AreApart items = AllPairs (λ a b. a.site ≢ b.site) items
+
+pub differ : (a b : Located) → ComeApart a b → a ≢ b
+differ a b apart same =
+    let document : a.document ≡ b.document = ap (λ (s : Located). s.document) same in
+    let index : a.place.index ≡ b.place.index = ap (λ (s : Located). s.place.index) same in
+    let less = apart document in
+    omega arith
+
+later_document : (places : Place → List Place) (n : ℕ) (documents : List Place) (s : Located)
+    → Contains (in_documents_from places n documents) s
+    → n ≤ s.document
+later_document places n [] s (k, below, is) = absurd (omega arith)
+later_document places n (d ∷ ds) s there =
+    ⊎_elim
+    (λ (here : Contains (map (located n) (places d)) s).
+    let (p, among, is) = in_map (located n) (places d) s here in
+    let e : n ≡ s.document = ap (λ (x : Located). x.document) is in
+    omega arith)
+    (λ (later : Contains (in_documents_from places (suc n) ds) s). let l = later_document places (suc n) ds s later in
+    omega arith)
+    (Contains-append_cases (map (located n) (places d)) (in_documents_from places (suc n) ds) s there)
+
+pub documents_apart : (places : Place → List Place) (R : Place → Place → Type 0) → ((d : Place) → AllPairs R (places d))
+    → (n : ℕ) (documents : List Place)
+    → AllPairs (InOne R) (in_documents_from places n documents)
+documents_apart places R each n [] = pairs_none (InOne R)
+documents_apart places R each n (d ∷ ds) =
+    pairs_append (InOne R) (map (located n) (places d)) (in_documents_from places (suc n) ds)
+    (pairs_map R (InOne R) (located n) (λ x y so same. so) (places d) (each d))
+    (documents_apart places R each (suc n) ds)
+    (λ a b at_a at_b same.
+    let (p, among, is) = in_map (located n) (places d) a at_a in
+    let e : n ≡ a.document = ap (λ (x : Located). x.document) is in
+    let l = later_document places (suc n) ds b at_b in
+    absurd (omega arith))
 
 -- ---- names that are mentioned
-mention_place : (kind : MentionKind) (p : Place) (item : Named) → mentioned kind p ≡ Some item → item.place ≡ p
-mention_place kind p item e = named_place p (mentioned_name kind p) item e
+pub named_site : (s : Located) (o : Option Name) (item : Named)
+    → option_map (λ name. record { site = s; name = name }) o ≡ Some item → item.site ≡ s
+named_site s None item e = absurd (cc)
+named_site s (Some name) item e =
+    let same : record { site = s; name = name } ≡ item = (cc) in
+    ap (λ (i : Named). i.site) (sym same)
 
-pub mentions_apart : (kind : MentionKind) (p : Place) → AreApart (mentions kind p)
-mentions_apart kind p =
-    pairs_filter_map (λ (a b : Place). a.index < b.index) (λ (a b : Named). a.place ≢ b.place) (mentioned kind)
+mention_site : (kind : MentionKind) (s : Located) (item : Named) → mentioned kind s ≡ Some item → item.site ≡ s
+mention_site kind s item e = named_site s (mentioned_name kind s.place) item e
+
+pub mentions_apart : (kind : MentionKind) (s : Located) → AreApart (mentions kind s)
+mentions_apart kind s =
+    pairs_filter_map (λ (a b : Located). a.place.index < b.place.index)
+    (λ (a b : Named). a.site ≢ b.site) (mentioned kind)
     (λ x y a b less at_x at_y same.
-    let e : x ≡ y = sym (mention_place kind x a at_x) ∙ same ∙ mention_place kind y b at_y in
-    let i : x.index ≡ y.index = ap (λ (q : Place). q.index) e in
+    let e : x ≡ y = sym (mention_site kind x a at_x) ∙ same ∙ mention_site kind y b at_y in
+    let i : x.place.index ≡ y.place.index = ap (λ (q : Located). q.place.index) e in
     omega arith)
-    (filter is_node_place (at_or_below p))
-    (AllPairs-filter (λ (a b : Place). a.index < b.index) is_node_place (at_or_below p) (nodes_rise p))
+    (map (located s.document) (nodes s.place))
+    (pairs_map (λ (a b : Place). a.index < b.index) (λ (a b : Located). a.place.index < b.place.index)
+    (located s.document) (λ x y less. less) (nodes s.place)
+    (AllPairs-filter (λ (a b : Place). a.index < b.index) is_node_place (at_or_below s.place) (nodes_rise s.place)))
 
-pub mention_below : (kind : MentionKind) (p : Place) (item : Named) → Contains (mentions kind p) item
-    → Contains (at_or_below p) item.place
-mention_below kind p item there =
-    let (q, among, e) = in_filter_map (mentioned kind) (filter is_node_place (at_or_below p)) item there in
-    rw (mention_place kind q item e) (in_filter is_node_place (at_or_below p) q among).0
+-- what is at or below a place of a document
+pub record IsBelow (s : Located) (t : Located) : Type 0 where
+  pub document : t.document ≡ s.document
+  pub below : Contains (at_or_below s.place) t.place
+
+pub mention_below : (kind : MentionKind) (s : Located) (item : Named)
+    → Contains (mentions kind s) item → IsBelow s item.site
+mention_below kind s item there =
+    let (t, among, e) = in_filter_map (mentioned kind) (map (located s.document) (nodes s.place)) item there in
+    let (p, inside, is) = in_map (located s.document) (nodes s.place) t among in
+    rw (mention_site kind t item e, ← is)
+    (record { document = refl; below = (in_filter is_node_place (at_or_below s.place) p inside).0 })
+
+-- what is below two places that come apart differs
+pub below_differ : (s t a b : Located) → ComeApart s t → IsBelow s a → IsBelow t b → a ≢ b
+below_differ s t a b apart first second same =
+    let document : s.document ≡ t.document =
+    sym first.document ∙ ap (λ (x : Located). x.document) same ∙ second.document in
+    let before = apart document in
+    let one = below_range s.place a.place first.below in
+    let other = below_range t.place b.place second.below in
+    let index : a.place.index ≡ b.place.index = ap (λ (x : Located). x.place.index) same in
+    omega (arith, one.1, other.0)
 
 -- ---- definitions
-chosen_place : (p : Place) (first second : Defined) → first.place ≡ p → second.place ≡ p → (a b : Bool) (d : Defined)
-    → cond a (Some first) (cond b (Some second) None) ≡ Some d → d.place ≡ p
-chosen_place p first second is_first is_second true b d e = let same : first ≡ d = (cc) in rw same at is_first
-chosen_place p first second is_first is_second false true d e = let same : second ≡ d = (cc) in rw same at is_second
-chosen_place p first second is_first is_second false false d e = absurd (cc)
+chosen_site : (s : Located) (first second : Defined) → first.site ≡ s → second.site ≡ s → (a b : Bool) (d : Defined)
+    → cond a (Some first) (cond b (Some second) None) ≡ Some d → d.site ≡ s
+chosen_site s first second is_first is_second true b d e = let same : first ≡ d = (cc) in rw same at is_first
+chosen_site s first second is_first is_second false true d e = let same : second ≡ d = (cc) in rw same at is_second
+chosen_site s first second is_first is_second false false d e = absurd (cc)
 
-pub defined_place : (p : Place) (d : Defined) → defined_at p ≡ Some d → d.place ≡ p
-defined_place p d e = chosen_place p _ _ refl refl (is_kind OPERATION_DEFINITION (kind_at p))
-    (is_kind FRAGMENT_DEFINITION (kind_at p)) d e
+defined_site : (s : Located) (d : Defined) → defined_at s ≡ Some d → d.site ≡ s
+defined_site s d e = chosen_site s _ _ refl refl (is_kind OPERATION_DEFINITION (kind_at s.place))
+    (is_kind FRAGMENT_DEFINITION (kind_at s.place)) d e
 
-defined_apart : (document : Place) → AllPairs (λ (a b : Defined). IsBefore a.place b.place) (defined document)
-defined_apart document =
-    pairs_filter_map IsBefore (λ (a b : Defined). IsBefore a.place b.place) defined_at
-    (λ x y a b before at_x at_y. rw (defined_place x a at_x, defined_place y b at_y) before)
-    (child_nodes document) (child_nodes_apart document)
+pub definitions_apart : (documents : List Place) → AllPairs ComeApart (all_definitions documents)
+definitions_apart documents = documents_apart child_nodes IsBefore child_nodes_apart 0 documents
 
-pub named_apart : (kind : DefinitionKind) (document : Place) → AreApart (named_definitions kind (defined document))
-named_apart kind document =
-    pairs_filter_map (λ (a b : Defined). IsBefore a.place b.place) (λ (a b : Named). a.place ≢ b.place) (named kind)
+defined_apart : (documents : List Place) → AllPairs (λ (a b : Defined). ComeApart a.site b.site) (defined documents)
+defined_apart documents =
+    pairs_filter_map ComeApart (λ (a b : Defined). ComeApart a.site b.site) defined_at
+    (λ x y a b before at_x at_y. rw (defined_site x a at_x, defined_site y b at_y) before)
+    (all_definitions documents) (definitions_apart documents)
+
+pub named_apart : (kind : DefinitionKind) (documents : List Place)
+    → AreApart (named_definitions kind (defined documents))
+named_apart kind documents =
+    pairs_filter_map (λ (a b : Defined). ComeApart a.site b.site) (λ (a b : Named). a.site ≢ b.site) (named kind)
     (λ x y a b before at_x at_y same.
-    let e : x.place ≡ y.place =
-    sym (named_place x.place (name_as kind x) a at_x) ∙ same ∙ named_place y.place (name_as kind y) b at_y in
-    let i : x.place.index ≡ y.place.index = ap (λ (q : Place). q.index) e in
-    omega arith)
-    (defined document) (defined_apart document)
+    differ x.site y.site before
+    (sym (named_site x.site (name_as kind x) a at_x) ∙ same ∙ named_site y.site (name_as kind y) b at_y))
+    (defined documents) (defined_apart documents)
 
--- ---- parts of one document
-module _ (ds : List Parts) (all : AreInOneDocument ds) where
-  parts_apart : AllPairs (λ (a b : Parts). IsBefore a.definition.place b.definition.place) ds
+-- ---- the parts of some documents
+module _ (documents : List Place) where
+  abbrev ds : List Parts
+  ds = parts_in documents
+
+  parts_apart : AllPairs (λ (a b : Parts). ComeApart a.definition.site b.definition.site) (parts_in documents)
   parts_apart =
-      rw all.are
-      (pairs_map (λ (a b : Defined). IsBefore a.place b.place)
-      (λ (a b : Parts). IsBefore a.definition.place b.definition.place) parts_of
-      (λ a b before. before) (defined all.document) (defined_apart all.document))
+      pairs_map (λ (a b : Defined). ComeApart a.site b.site)
+      (λ (a b : Parts). ComeApart a.definition.site b.definition.site) parts_of
+      (λ a b before. before) (defined documents) (defined_apart documents)
 
-  -- the subtrees of two definitions have no element in common
-  in_order : (j k : ℕ) → j < k → k < length ds → (p : Place) → Contains (at_or_below (place_at ds j)) p
-      → ¬ Contains (at_or_below (place_at ds k)) p
-  in_order j k less below p first second =
-      let before = parts_apart j k nothing less below in
-      let one = below_range (place_at ds j) p first in
-      let other = below_range (place_at ds k) p second in
-      omega (arith, one.1, other.0)
+  pub sites_apart : (j k : ℕ) → j < k → k < length (parts_in documents)
+      → ComeApart (site_at (parts_in documents) j) (site_at (parts_in documents) k)
+  sites_apart j k less below = parts_apart j k nothing less below
 
-  pub subtrees_apart : (j k : ℕ) → j ≢ k → j < length ds → k < length ds → (p : Place)
-      → Contains (at_or_below (place_at ds j)) p
-      → ¬ Contains (at_or_below (place_at ds k)) p
-  subtrees_apart j k differ inside below p first second =
-      ⊎_elim
-      (λ (less : j < k). in_order j k less below p first second)
-      (λ (le : k ≤ j). in_order k j (omega arith) inside p second first)
-      (cases_lt j k)
-
-  pub own_place : (j k : ℕ) → j ≢ k → j < length ds → k < length ds → place_at ds j ≢ place_at ds k
-  own_place j k differ inside below same =
-      subtrees_apart j k differ inside below (place_at ds j) (0, omega arith, refl) (rw same (0, omega arith, refl))
-
-  pub part_is : (k : ℕ) → k < length ds → at ds k ≡ parts_of (at ds k).definition
+  pub part_is : (k : ℕ) → k < length (parts_in documents)
+      → at (parts_in documents) k ≡ parts_of (at (parts_in documents) k).definition
   part_is k below =
-      let among = subst (λ xs. Contains xs (at ds k)) all.are (Contains-get_or ds k nothing below) in
-      let (d, there, e) = in_map parts_of (defined all.document) (at ds k) among in
+      let (d, there, e) = in_map parts_of (defined documents) (at (parts_in documents) k)
+      (Contains-get_or (parts_in documents) k nothing below) in
       sym e ∙ ap (λ (x : Parts). parts_of x.definition) e
 
-  pub spreads_apart : (k : ℕ) → k < length ds → AreApart (at ds k).spreads
-  spreads_apart k below = rw (ap (λ (d : Parts). d.spreads) (part_is k below)) (mentions_apart Spread (place_at ds k))
+  pub spreads_apart : (k : ℕ) → k < length (parts_in documents) → AreApart (at (parts_in documents) k).spreads
+  spreads_apart k below =
+      rw (ap (λ (d : Parts). d.spreads) (part_is k below)) (mentions_apart Spread (site_at (parts_in documents) k))
 
-  pub declared_apart : (k : ℕ) → k < length ds → AreApart (at ds k).declared
-  declared_apart k below =
-      rw (ap (λ (d : Parts). d.declared) (part_is k below)) (mentions_apart Declared (place_at ds k))
-
-  pub used_apart : (k : ℕ) → k < length ds → AreApart (at ds k).used
-  used_apart k below = rw (ap (λ (d : Parts). d.used) (part_is k below)) (mentions_apart Used (place_at ds k))
-
-  pub spread_below : (k : ℕ) → k < length ds → (item : Named) → Contains (at ds k).spreads item
-      → Contains (at_or_below (place_at ds k)) item.place
+  pub spread_below : (k : ℕ) → k < length (parts_in documents) → (item : Named)
+      → Contains (at (parts_in documents) k).spreads item
+      → IsBelow (site_at (parts_in documents) k) item.site
   spread_below k below item there =
-      mention_below Spread (place_at ds k) item (rw (ap (λ (d : Parts). d.spreads) (part_is k below)) at there)
-
-  pub used_below : (k : ℕ) → k < length ds → (item : Named) → Contains (at ds k).used item
-      → Contains (at_or_below (place_at ds k)) item.place
-  used_below k below item there =
-      mention_below Used (place_at ds k) item (rw (ap (λ (d : Parts). d.used) (part_is k below)) at there)
+      mention_below Spread (site_at (parts_in documents) k) item
+      (rw (ap (λ (d : Parts). d.spreads) (part_is k below)) at there)
 
 -- ---- operations
-pub operations_apart : (ds : List Parts) → AllPairs (λ j k. j ≢ k) (operations ds)
-operations_apart ds i j d less below =
-    let rises = AllPairs-filter (λ x y. x < y) (λ number. is_operation (at ds number)) (range_with_len 0 (length ds))
-    (range_rises 0 (length ds)) in
-    let l = rises i j d less below in
-    λ same. omega arith
+pub numbers_rise : (ds : List Parts) → AllPairs (λ j k. j < k) (numbers ds)
+numbers_rise ds = range_rises 0 (length ds)
 
-pub inside_parts : (parts : List DefinitionParts) (numbers : List ℕ) → All (λ number. number < length parts) numbers
-    → All (λ number. number < length (map as_parts parts)) numbers
-inside_parts parts numbers inside k d below = rw length-map (inside k d below)
+pub operations_rise : (ds : List Parts) → AllPairs (λ j k. j < k) (operations ds)
+operations_rise ds = AllPairs-filter (λ x y. x < y) (λ number. is_operation (at ds number))
+    (numbers ds) (numbers_rise ds)

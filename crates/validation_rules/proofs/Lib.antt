@@ -1,13 +1,8 @@
 pub mod AddLemmas
 pub mod ApartLemmas
-pub mod DistinctLemmas
-pub mod FragmentLemmas
 pub mod NameLemmas
-pub mod OperationLemmas
 pub mod PairLemmas
 pub mod PartsLemmas
 pub mod SpreadLemmas
 pub mod TextOrderLemmas
 pub mod TreeLemmas
-pub mod TreeOfBreach
-pub mod VariableLemmas

@@ -1,8 +1,8 @@
 -- What holds of each two items of a list, and of those of a list made from it.
-use Rattle.std.proofs.Common.{◌≡◌, ℕ, zero, suc, ◌+◌, ◌<◌, ◌≤◌, List, [], ◌∷◌, map, get_or, Option, Some, None, arith}
-use Rattle.std.proofs.Common.{refl}
-use Rattle.std.specs.List.{AllPairs, Contains, cons_option, filter_map, range_with_len}
-use Rattle.std.proofs.lemmas.List.Elements.{Contains-get_or}
+use Rattle.std.proofs.Common.{⊎_elim, ◌++◌, ◌≡◌, ℕ, zero, suc, ◌+◌, ◌<◌, ◌≤◌, List, [], ◌∷◌, map, get_or, Option, Some}
+use Rattle.std.proofs.Common.{None, arith, refl}
+use Rattle.std.specs.List.{AllPairs, Contains, cons_option, filter_map, flat_map, range_with_len}
+use Rattle.std.proofs.lemmas.List.Elements.{Contains-append_cases, Contains-get_or}
 use Rattle.std.proofs.lemmas.List.Kept.{AllPairs-cons}
 use Rattle.validation_names.proofs.Lists.{in_filter_map}
 
@@ -68,3 +68,43 @@ range_rises a (suc n) =
     (Contains-get_or (range_with_len (a + 1) n) k d below) in
     omega arith)
     (range_rises (a + 1) n)
+
+-- ---- lists made of lists
+later : {A : Type 0} (x y : A) (xs : List A) → Contains xs y → Contains (x ∷ xs) y
+later x y xs (k, below, is) = (suc k, omega arith, is)
+
+pub pairs_append : {A : Type 0} (R : A → A → Type 0) (xs ys : List A) → AllPairs R xs → AllPairs R ys
+    → ((x y : A) → Contains xs x → Contains ys y → R x y) → AllPairs R (xs ++ ys)
+pairs_append R [] ys first second apart = second
+pairs_append {A} R (x ∷ xs) ys first second apart =
+    AllPairs-cons R x (xs ++ ys)
+    (λ k d below.
+    ⊎_elim
+    (λ (at : Contains xs (get_or (xs ++ ys) k d)). first_pairs R x xs first (get_or (xs ++ ys) k d) at)
+    (λ (at : Contains ys (get_or (xs ++ ys) k d)). apart x (get_or (xs ++ ys) k d) (0, omega arith, refl) at)
+    (Contains-append_cases xs ys (get_or (xs ++ ys) k d) (Contains-get_or (xs ++ ys) k d below)))
+    (pairs_append R xs ys (later_pairs R x xs first) second (λ z y there. apart z y (later x z xs there)))
+
+pub in_flat_map : {A B : Type 0} (f : A → List B) (xs : List A) (y : B) → Contains (flat_map f xs) y
+    → (x : A) × Contains xs x × Contains (f x) y
+in_flat_map f [] y (k, below, is) = absurd (omega arith)
+in_flat_map f (x ∷ xs) y there =
+    ⊎_elim
+    (λ (first : Contains (f x) y). (x, (0, omega arith, refl), first))
+    (λ (rest : Contains (flat_map f xs) y). let at = in_flat_map f xs y rest in (at.0, later x at.0 xs at.1, at.2))
+    (Contains-append_cases (f x) (flat_map f xs) y there)
+
+pub pairs_flat_map : {A B : Type 0} (S : A → A → Type 0) (R : B → B → Type 0) (f : A → List B) (xs : List A)
+    → AllPairs S xs
+    → ((x : A) → Contains xs x → AllPairs R (f x))
+    → ((x y : A) → Contains xs x → Contains xs y → S x y → (a b : B) → Contains (f x) a → Contains (f y) b → R a b)
+    → AllPairs R (flat_map f xs)
+pairs_flat_map S R f [] pairs each apart = pairs_none R
+pairs_flat_map S R f (x ∷ xs) pairs each apart =
+    pairs_append R (f x) (flat_map f xs)
+    (each x (0, omega arith, refl))
+    (pairs_flat_map S R f xs (later_pairs S x xs pairs) (λ y there. each y (later x y xs there))
+    (λ y z at_y at_z. apart y z (later x y xs at_y) (later x z xs at_z)))
+    (λ a b at_a at_b.
+    let (y, there, has) = in_flat_map f xs b at_b in
+    apart x y (0, omega arith, refl) (later x y xs there) (first_pairs S x xs pairs y there) a b at_a has)

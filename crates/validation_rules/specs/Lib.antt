@@ -1,9 +1,7 @@
 pub mod Broken
 pub mod Graphs
-pub mod Known
 pub mod Parts
 pub mod RuleNames
 pub mod RuleNumbers
-pub mod Rules
 pub mod TextOrder
 pub mod Violations

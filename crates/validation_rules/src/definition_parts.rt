@@ -1,4 +1,4 @@
-// What the rules ask of a document's definitions.
+// What the rules ask of definitions.
 ghost use Rattle.std.specs.Prelude.{◌≡◌, ◌<◌, IfOk, length, map};
 ghost use Rattle.directed_graph.specs.Graph.{IsClosed};
 ghost use Rattle.validation_names.specs.Names.{AreFirstNumbers};
@@ -37,10 +37,10 @@ impl<'t> DefinitionParts<'t> {
     ) -> Result<DefinitionParts<'t>, AllocError>
         ensures { IfOk result (λ d. as_parts d ≡ parts_of (as_defined definition.entry)) }
     {
-        let node = definition.node;
-        let spreads = mentions(alloc, &node, MentionKind::Spread)?;
-        let declared = mentions(alloc, &node, MentionKind::Declared)?;
-        let used = mentions(alloc, &node, MentionKind::Used)?;
+        let site = definition.site;
+        let spreads = mentions(alloc, &site, MentionKind::Spread)?;
+        let declared = mentions(alloc, &site, MentionKind::Declared)?;
+        let used = mentions(alloc, &site, MentionKind::Used)?;
         Ok(DefinitionParts {
             definition,
             spreads,
@@ -82,11 +82,8 @@ pub fn parts<'t>(
     Ok(parts)
 }
 
-// The definition with a number.
-pub(crate) fn part_at<'p, 't>(
-    parts: &'p [DefinitionParts<'t>],
-    number: usize,
-) -> &'p DefinitionParts<'t>
+/// The definition with a number.
+pub fn part_at<'p, 't>(parts: &'p [DefinitionParts<'t>], number: usize) -> &'p DefinitionParts<'t>
     requires { number < length parts.now }
     ensures { as_parts result.now ≡ at (map as_parts parts.now) number }
 {

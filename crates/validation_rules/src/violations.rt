@@ -1,6 +1,10 @@
 // Violations of rules, collected up to a bound.
-use apollo_tree::SyntaxNode;
+ghost use Rattle.std.specs.Prelude.{◌≡◌};
+ghost use Rattle.validation_names.specs.Sites.{as_located};
+ghost use Rattle.validation_rules.specs.TextOrder.{site_key};
+
 use std::alloc::{AllocError, Global};
+use validation_names::Site;
 
 /// A rule of validation, under the name that graphql-js gives it, with its sections (GraphQL October 2021). The last
 /// two have no name there.
@@ -85,9 +89,16 @@ impl Rule {
 pub struct Violation<'t> {
     pub rule: Rule,
     /// What breaks the rule.
-    pub node: SyntaxNode<'t>,
+    pub site: Site<'t>,
     /// The other party: the first of the name, the operation, or another operation or fragment.
-    pub other: Option<SyntaxNode<'t>>,
+    pub other: Option<Site<'t>>,
+}
+
+// A place in the order of the text: the number of the document, and the number of the node in it.
+fn site_key(site: Site<'_>) -> (usize, usize)
+    ensures { result ≡ site_key (as_located site.entry) }
+{
+    (site.document, site.node.index())
 }
 
 impl<'t> Violation<'t> {
@@ -96,13 +107,13 @@ impl<'t> Violation<'t> {
     ghost use Rattle.validation_rules.specs.Violations.{as_breach};
 
     // Its place in the order of the text.
-    fn text_key(&self) -> (usize, u32, Option<usize>)
+    fn text_key(&self) -> ((usize, usize), u32, Option<(usize, usize)>)
         ensures { result ≡ text_key (as_breach self.now) }
     {
         (
-            self.node.index(),
+            site_key(self.site),
             self.rule.number(),
-            self.other.map(|node| node.index()),
+            self.other.map(|site| site_key(site)),
         )
     }
 }
@@ -115,10 +126,9 @@ pub struct Violations<'t> {
 }
 
 impl<'t> Violations<'t> {
-    ghost use Rattle.std.specs.Prelude.{◌≡◌, [], OnOk, map, option_map, length, nat_le};
-    ghost use Rattle.std.specs.List.Sorted.{IsPermutation};
-    ghost use Rattle.apollo_tree.specs.References.{node_place};
-    ghost use Rattle.validation_rules.specs.TextOrder.{AreInTextOrder};
+    ghost use Rattle.std.specs.Prelude.{◌≡◌, [], ◌∷◌, IfOk, OnOk, map, option_map, length, nat_le};
+    ghost use Rattle.validation_names.specs.Sites.{as_located};
+    ghost use Rattle.validation_rules.specs.TextOrder.{IsInTextOrder};
     ghost use Rattle.validation_rules.specs.Violations.{Adds, as_breach, breach, found};
 
     /// None yet, and room for a number of them.
@@ -143,25 +153,25 @@ impl<'t> Violations<'t> {
     pub fn add(
         &mut self,
         rule: Rule,
-        node: SyntaxNode<'t>,
-        other: Option<SyntaxNode<'t>>,
+        site: Site<'t>,
+        other: Option<Site<'t>>,
     ) -> Result<(), AllocError>
-        ensures { OnOk result (Adds (λ b. b ≡ breach rule (node_place node.entry) (option_map node_place other.entry))
-            ⊥ self.old self.new) }
+        ensures { OnOk result (Adds (breach rule (as_located site.entry) (option_map as_located other.entry) ∷ [])
+            self.old self.new) }
     {
         if !self.is_full() {
-            self.list.push(Violation { rule, node, other })?;
+            self.list.push(Violation { rule, site, other })?;
         }
         Ok(())
     }
 
-    /// The list in the order of the text: by the node, then by the rule's number, and then by the other party.
-    pub fn into_text_order(self) -> Vec<Violation<'t>>
-        ensures same { IsPermutation (found self.entry) (map as_breach result.items) }
-        ensures in_order { AreInTextOrder (map as_breach result.items) }
+    /// The list in the order of the text: by the document and the node, then by the rule's number, and then by the
+    /// other party. It fails only where memory is refused.
+    pub fn into_text_order(self) -> Result<Vec<Violation<'t>>, AllocError>
+        ensures { IfOk result (λ list. IsInTextOrder (found self.entry) (map as_breach list.items)) }
     {
         let Violations { mut list, most: _ } = self;
-        list.sort_unstable_by_key(|violation| violation.text_key());
-        list
+        list.sort_by_key(|violation| violation.text_key())?;
+        Ok(list)
     }
 }

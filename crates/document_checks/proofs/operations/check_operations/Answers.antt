@@ -1,4 +1,4 @@
-use Rattle.std.proofs.Common.{map, subst, sym}
+use Rattle.std.proofs.Common.{map, subst, sym, [], ◌∷◌}
 use Rattle.std.proofs.lemmas.Result.{IfOk-weaker}
 use Rattle.apollo_tree.specs.References.{node_place}
 use Rattle.validation_names.specs.Definitions.{defined}
@@ -10,7 +10,7 @@ use Rattle.document_checks.proofs.operations.check_operations.Goals as goal
 pub returns-in-Ok-clause-judged : goal.returns-in-Ok-clause-judged
 returns-in-Ok-clause-judged c =
     let document = node_place c.args.document.now in
-    let figures = subst (λ os. AreMeasures (defined document) (map as_measure os)) (sym c.as_slice.ensures.value)
+    let figures = subst (λ os. AreMeasures (defined (document ∷ [])) (map as_measure os)) (sym c.as_slice.ensures.value)
     c.in-Ok.ensures.figures in
     let measures = map as_measure c.as_slice.result.now in
     IfOk-weaker c.limited.result _ _

@@ -1,12 +1,10 @@
-use Rattle.apollo_tree.specs.Children.{child_nodes}
+use Rattle.std.proofs.Common.{drop, map}
 use Rattle.apollo_tree.specs.References.{node_place}
-use Rattle.apollo_tree.specs.Yields.{rest_nodes}
-use Rattle.document_validation.specs.Validity.{IsExecutable}
-use Rattle.document_validation.specs.Breaches.{IsForeign}
-use Rattle.document_validation.proofs.WalkLemmas.{Walked}
+use Rattle.document_validation.specs.Breaches.{foreign_in}
+use Rattle.document_validation.proofs.EachLemmas.{AreLeft}
 use Rattle.document_validation.proofs.lists.add_foreign.Given as goal
 
-abbrev pub invariant-loop-node : goal.invariant-loop-node
-invariant-loop-node l =
-    Walked IsForeign IsExecutable (rest_nodes l.node-iterator) (child_nodes (node_place l.document))
+abbrev pub invariant-loop-number : goal.invariant-loop-number
+invariant-loop-number l =
+    AreLeft foreign_in l.number (map node_place (drop l.number l.documents)) (map node_place l.documents)
     l.initial.violations l.violations

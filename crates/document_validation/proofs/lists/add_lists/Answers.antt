@@ -1,21 +1,26 @@
-use Rattle.std.proofs.Common.{ap, ◌∙◌}
+use Rattle.std.proofs.Common.{◌≡◌, ◌+◌, ◌≤◌, length, ◌∷◌, arith, drop, drop_of_length-le, map, ap}
+use Rattle.std.proofs.lemmas.List.{drop_more}
 use Rattle.apollo_tree.specs.References.{node_place}
-use Rattle.apollo_tree.specs.Yields.{rest_descendant_nodes}
-use Rattle.document_validation.specs.Breaches.{RepeatsIn}
-use Rattle.document_validation.specs.Unique.{UniqueIn}
-use Rattle.document_validation.proofs.ListLemmas.{lists_apart}
-use Rattle.document_validation.proofs.WalkLemmas.{walk_begins, walk_ends, walk_goes_on}
+use Rattle.document_validation.specs.Breaches.{repeats_in}
+use Rattle.document_validation.proofs.EachLemmas.{each_ends, each_next}
 use Rattle.document_validation.proofs.lists.add_lists.Goals as goal
 
-pub loop-node-init : goal.loop-node-init
-loop-node-init c = walk_begins (RepeatsIn c.args.kind) (UniqueIn c.args.kind) _ _ _
-    (ap rest_descendant_nodes c.into_iter-node-iterator.ensures.into_iter_gives ∙ c.descendants-node-items.ensures)
-
-pub loop-node-preserved : goal.loop-node-preserved
-loop-node-preserved c = walk_goes_on (RepeatsIn c.args.kind) (UniqueIn c.args.kind) _ _ _ _ _ c.loop-node.violations _
-    (lists_apart c.args.kind (node_place c.args.root.now)) c.in-Some.ensures.steps
-    c.loop-node.invariant c.in_ok-add_list.ensures
+pub loop-number-preserved : goal.loop-number-preserved
+loop-number-preserved c =
+    let documents = c.args.documents.now in
+    let n = c.loop-number.number in
+    let document = c.index-documents-number.result in
+    let more : drop n documents ≡ document ∷ drop (n + 1) documents =
+    rw (← c.index-documents-number.is) at (drop_more documents n document c.loop-number-test.true) in
+    each_next repeats_in n (map node_place (drop n documents)) (map node_place (drop (n + 1) documents))
+    (map node_place documents) (node_place document) _
+    c.loop-number.violations _ (ap (map node_place) more) c.loop-number.invariant
+    (rw c.document_kind.ensures at c.in_ok-add_lists_as.ensures)
 
 pub returns : goal.returns
-returns c = walk_ends (RepeatsIn c.args.kind) (UniqueIn c.args.kind) _ _ _ _
-    c.in-None.ensures.steps.0 c.loop-node.invariant
+returns c =
+    let end : length c.args.documents.now ≤ c.loop-number.number = omega arith in
+    let none = drop_of_length-le c.args.documents.now end in
+    each_ends repeats_in c.loop-number.number (map node_place (drop c.loop-number.number c.args.documents.now))
+    (map node_place c.args.documents.now) _
+    c.loop-number.violations (ap (map node_place) none) c.loop-number.invariant

@@ -1,42 +1,43 @@
-use Rattle.std.proofs.Common.{◌≡◌, ◌<◌, [], IfOk, map, subst, sym, ◌∙◌}
-use Rattle.std.specs.Prelude.{◌↔◌}
+use Rattle.std.proofs.Common.{◌≡◌, List, map, ap, subst, sym, ◌∙◌}
+use Rattle.validation_names.specs.Names.{AreFirstNumbers}
+use Rattle.validation_names.specs.Definitions.{Defined, as_defined, fragment_names}
+use Rattle.validation_rules.specs.Parts.{as_parts, definitions, parts_of}
+use Rattle.document_validation.proofs.ReadLemmas.{definitions_are, parts_are}
 use Rattle.apollo_tree.specs.References.{node_place}
-use Rattle.validation_rules.specs.Violations.{as_breach}
-use Rattle.document_validation.specs.declared.lists.DocumentKind.{DocumentKind}
-use Rattle.document_validation.specs.declared.lists.DocumentKind.TheVariants.{Executable, TypeSystem}
-use Rattle.document_validation.specs.Lists.{document_kind}
-use Rattle.document_validation.specs.Breaches.{AreBreaches, BreaksAs}
-use Rattle.document_validation.specs.Validity.{IsValidAs}
+use Rattle.document_validation.specs.Breaches.{breaches}
+use Rattle.document_validation.proofs.FoundLemmas.{added, found_none}
 use Rattle.document_validation.proofs.validation.validate.Goals as goal
 
-pub returns-in-Executable-clause-exact : goal.returns-in-Executable-clause-exact
-returns-in-Executable-clause-exact c =
-    let d = node_place c.args.document.now in
-    let is : Executable ≡ document_kind d = sym c.in-Executable.is ∙ c.document_kind.ensures in
-    let P : DocumentKind → Type 0 = λ kind. IfOk c.validate_executable.result (λ found. AreBreaches c.args.most
-    (BreaksAs kind d) (map as_breach found.items)) in
-    subst P is c.validate_executable.ensures.exact
+pub add_all-requires-clause-parts : goal.add_all-requires-clause-parts
+add_all-requires-clause-parts c =
+    let ds = c.in_ok-definitions.definitions.items in
+    let read = ap (map as_parts) c.deref-4.ensures.value ∙ c.in_ok-parts.ensures
+    ∙ ap (map (λ e. parts_of (as_defined e))) c.deref-2.ensures.value in
+    parts_are (map node_place c.args.documents.now) ds (map as_parts c.deref-4.result.now)
+    c.in_ok-definitions.ensures read
 
-pub returns-in-Executable-clause-valid : goal.returns-in-Executable-clause-valid
-returns-in-Executable-clause-valid c =
-    let d = node_place c.args.document.now in
-    let is : Executable ≡ document_kind d = sym c.in-Executable.is ∙ c.document_kind.ensures in
-    let P : DocumentKind → Type 0 =
-    λ kind. IfOk c.validate_executable.result (λ found. 0 < c.args.most → (found.items ≡ []) ↔ IsValidAs kind d) in
-    subst P is c.validate_executable.ensures.valid
+pub add_all-requires-clause-fragments : goal.add_all-requires-clause-fragments
+add_all-requires-clause-fragments c =
+    let ds = c.in_ok-definitions.definitions.items in
+    let read = ap (map as_parts) c.deref-4.ensures.value ∙ c.in_ok-parts.ensures
+    ∙ ap (map (λ e. parts_of (as_defined e))) c.deref-2.ensures.value in
+    let same : definitions (map as_parts c.deref-4.result.now) ≡ map as_defined c.deref.result.now =
+    definitions_are ds (map as_parts c.deref-4.result.now) read ∙ ap (map as_defined) (sym c.deref.ensures.value) in
+    let P : List Defined → Type 0 =
+    λ definitions. AreFirstNumbers c.in_ok-fragments.fragments (fragment_names definitions) in
+    subst P (sym same) c.in_ok-fragments.ensures
 
-pub returns-in-TypeSystem-clause-exact : goal.returns-in-TypeSystem-clause-exact
-returns-in-TypeSystem-clause-exact c =
-    let d = node_place c.args.document.now in
-    let is : TypeSystem ≡ document_kind d = sym c.in-TypeSystem.is ∙ c.document_kind.ensures in
-    let P : DocumentKind → Type 0 = λ kind. IfOk c.validate_type_system.result (λ found. AreBreaches c.args.most
-    (BreaksAs kind d) (map as_breach found.items)) in
-    subst P is c.validate_type_system.ensures.exact
+pub returns-clause-exact : goal.returns-clause-exact
+returns-clause-exact c =
+    let is = added (breaches (map node_place c.args.documents.now)) _ _ c.args.most c.new-violations.ensures.none
+    c.new-violations.ensures.most
+    c.in_ok-add_all.ensures in
+    rw is at c.in_ok-found.ensures
 
-pub returns-in-TypeSystem-clause-valid : goal.returns-in-TypeSystem-clause-valid
-returns-in-TypeSystem-clause-valid c =
-    let d = node_place c.args.document.now in
-    let is : TypeSystem ≡ document_kind d = sym c.in-TypeSystem.is ∙ c.document_kind.ensures in
-    let P : DocumentKind → Type 0 =
-    λ kind. IfOk c.validate_type_system.result (λ found. 0 < c.args.most → (found.items ≡ []) ↔ IsValidAs kind d) in
-    subst P is c.validate_type_system.ensures.valid
+pub returns-clause-valid : goal.returns-clause-valid
+returns-clause-valid c =
+    let is = added (breaches (map node_place c.args.documents.now)) _ _ c.args.most c.new-violations.ensures.none
+    c.new-violations.ensures.most
+    c.in_ok-add_all.ensures in
+    found_none c.args.most (breaches (map node_place c.args.documents.now)) c.in_ok-found.found.items
+    (rw is at c.in_ok-found.ensures).same

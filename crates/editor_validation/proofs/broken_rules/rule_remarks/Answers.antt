@@ -15,7 +15,7 @@ returns c =
     let kept = c.in_ok-kept.kept.items in
     let breaches : List Violation → List Breach = λ violations. map as_breach violations in
     record {
-      breaches = breaches c.in_ok-violations.violations.items;
+      found = breaches c.in_ok-violations.violations.items;
       exact = c.in_ok-violations.ensures.exact;
       are = c.in_ok-found.ensures
           ∙ ap (λ (bs : List Breach). map remark_of bs)

@@ -21,7 +21,7 @@ loop-violation-preserved c =
     let inside = c.loop-violation-test.true in
     let mended : c.is_mended.result ≡ is_mended others breach = c.is_mended.ensures
     ∙ same_mends _ (define others) _ (spread others) c.in_ok-defined.ensures c.in_ok-spread.ensures breach.rule
-    (name_in FRAGMENT_NAME breach.place) in
+    (name_in FRAGMENT_NAME breach.site.place) in
     elim c.if-not-is_mended.branch [
       | then-not-is_mended+in_ok-push w ↦
           let more = kept_more stays as_breach violations n item inside c.violation-item.is

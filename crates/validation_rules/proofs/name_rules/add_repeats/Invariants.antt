@@ -1,17 +1,17 @@
-use Rattle.std.proofs.Common.{map, take}
+use Rattle.std.proofs.Common.{length, map, take}
+use Rattle.std.specs.List.{flat_map, range_with_len}
 use Rattle.validation_names.specs.Mentions.{as_named}
 use Rattle.validation_names.specs.Names.{AreFirstNumbers}
-use Rattle.validation_rules.specs.Broken.{names}
+use Rattle.validation_rules.specs.Broken.{repeat_at}
+use Rattle.validation_rules.specs.Parts.{names}
 use Rattle.validation_rules.specs.Violations.{Adds}
-use Rattle.validation_rules.proofs.AddLemmas.{AllBelow, Below}
-use Rattle.validation_rules.proofs.NameLemmas.{RepeatAt, UniqueAt}
 use Rattle.validation_rules.proofs.name_rules.add_repeats.Given as goal
 
 abbrev pub invariant-loop-number : goal.invariant-loop-number
 invariant-loop-number l = record {
-  first : AreFirstNumbers l.numbers (take l.number (names (map as_named l.items)));
+  first : AreFirstNumbers l.numbers (names (take l.number (map as_named l.items)));
   adds :
-      Adds (Below (RepeatAt l.rule (map as_named l.items)) l.number)
-      (AllBelow (UniqueAt (map as_named l.items)) l.number) l.initial.violations
+      Adds (flat_map (repeat_at l.rule (map as_named l.items))
+      (take l.number (range_with_len 0 (length (map as_named l.items))))) l.initial.violations
       l.violations;
 }

@@ -1,11 +1,11 @@
-use Rattle.std.proofs.Common.{map}
-use Rattle.validation_rules.specs.Parts.{as_parts}
+use Rattle.std.proofs.Common.{map, take}
+use Rattle.std.specs.List.{flat_map}
+use Rattle.validation_rules.specs.Broken.{on_cycle_at}
+use Rattle.validation_rules.specs.Parts.{as_parts, numbers}
 use Rattle.validation_rules.specs.Violations.{Adds}
-use Rattle.validation_rules.proofs.AddLemmas.{AllBelow, Below}
-use Rattle.validation_rules.proofs.FragmentLemmas.{CycleAt, NoCycleAt}
 use Rattle.validation_rules.proofs.spread_rules.add_cycles.Given as goal
 
 abbrev pub invariant-loop-number : goal.invariant-loop-number
 invariant-loop-number l =
-    Adds (Below (CycleAt (map as_parts l.parts)) l.number) (AllBelow (NoCycleAt (map as_parts l.parts)) l.number)
+    Adds (flat_map (on_cycle_at (map as_parts l.parts)) (take l.number (numbers (map as_parts l.parts))))
     l.initial.violations l.violations

@@ -1,13 +1,11 @@
-use Rattle.std.proofs.Common.{map}
-use Rattle.validation_rules.specs.Parts.{as_parts, at, IsFragmentName}
-use Rattle.validation_rules.specs.Rules.{AreKnown}
-use Rattle.validation_rules.specs.Broken.{IsUndefinedSpreadOf}
+use Rattle.std.proofs.Common.{map, take}
+use Rattle.std.specs.List.{flat_map}
+use Rattle.validation_rules.specs.Broken.{undefined_spreads_at}
+use Rattle.validation_rules.specs.Parts.{as_parts, numbers}
 use Rattle.validation_rules.specs.Violations.{Adds}
-use Rattle.validation_rules.proofs.AddLemmas.{AllBelow, Below}
 use Rattle.validation_rules.proofs.spread_rules.add_undefined_spreads.Given as goal
 
 abbrev pub invariant-loop-number : goal.invariant-loop-number
 invariant-loop-number l =
-    Adds (Below (IsUndefinedSpreadOf (map as_parts l.parts)) l.number)
-    (AllBelow (λ k. AreKnown (IsFragmentName (map as_parts l.parts)) (at (map as_parts l.parts) k).spreads) l.number)
+    Adds (flat_map (undefined_spreads_at (map as_parts l.parts)) (take l.number (numbers (map as_parts l.parts))))
     l.initial.violations l.violations

@@ -1,0 +1,4 @@
+pub mod KnownLemmas
+pub mod ReachLemmas
+pub mod RowLemmas
+pub mod WalkLemmas

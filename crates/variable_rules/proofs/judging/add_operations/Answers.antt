@@ -1,0 +1,46 @@
+use Rattle.std.proofs.Common.{arith, map, get_or, subst}
+use Rattle.std.specs.List.Sorted.{IsPermutation}
+use Rattle.std.proofs.lemmas.List.{get_or_default}
+use Rattle.std.proofs.lemmas.List.Sums.{sum_by_more}
+use Rattle.validation_rules.specs.Broken.{variables_of}
+use Rattle.validation_rules.specs.Parts.{as_parts}
+use Rattle.validation_rules.proofs.AddLemmas.{adds_all, adds_next, adds_rest, is_full}
+use Rattle.variable_rules.specs.Steps.{steps_of}
+use Rattle.variable_rules.proofs.ReachLemmas.{same_reached}
+use Rattle.variable_rules.proofs.judging.add_operations.Goals as goal
+
+pub add_operation-requires-clause-numbers : goal.add_operation-requires-clause-numbers
+add_operation-requires-clause-numbers c =
+    subst (λ xs. IsPermutation c.in_ok-numbers.numbers.items xs)
+    (same_reached (map as_parts c.args.parts.now) c.args.graph.now
+    (get_or c.args.operations.now c.loop-number.number 0) c.requires.graph)
+    c.in_ok-numbers.ensures.found
+
+pub loop-number-preserved : goal.loop-number-preserved
+loop-number-preserved c =
+    let ds = map as_parts c.args.parts.now in
+    let operations = c.args.operations.now in
+    let n = c.loop-number.number in
+    let below = c.loop-number-test.true in
+    let inv = c.loop-number.invariant in
+    let sums = sum_by_more (steps_of ds) operations n 0 below in
+    record {
+      as_many = c.in_ok-numbers.ensures.as_many;
+      unmarked = c.in_ok-numbers.ensures.unmarked;
+      adds = adds_next (variables_of ds) operations n (get_or operations n 0) _ _ _ below
+          (get_or_default operations n 0 (get_or operations n 0) below) inv.adds
+          c.in_ok-more.ensures.adds;
+      taken = let i = inv.taken in let m = c.in_ok-more.ensures.steps in let t = c.saturating_add-taken.ensures in
+          omega arith;
+    }
+
+pub returns-then-is_full-clause-adds : goal.returns-then-is_full-clause-adds
+returns-then-is_full-clause-adds c =
+    let violations = c.loop-number.violations in
+    adds_rest (variables_of (map as_parts c.args.parts.now)) c.args.operations.now c.loop-number.number _ violations
+    (is_full violations c.if-is_full.ensures) c.loop-number.invariant.adds
+
+pub returns-clause-adds : goal.returns-clause-adds
+returns-clause-adds c =
+    adds_all (variables_of (map as_parts c.args.parts.now)) c.args.operations.now c.loop-number.number _ _ (omega arith)
+    c.loop-number.invariant.adds
