@@ -1,5 +1,5 @@
 -- A second call, with the room that the first one counted.
-use Rattle.std.proofs.Common.{◌≡◌, ◌∙◌, ℕ, suc, List, [], ◌∷◌, length, map, refl, sym, ap, subst, arith}
+use Rattle.std.proofs.Common.{◌≡◌, ◌∙◌, ℕ, suc, List, [], ◌∷◌, length, map, refl, sym, ap, arith}
 use Rattle.std.specs.Prelude.{filter}
 use Rattle.apollo_parser.specs.Filled.{filled}
 use Rattle.apollo_parser.specs.Parsed.{Parsed}

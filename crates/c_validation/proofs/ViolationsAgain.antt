@@ -1,6 +1,5 @@
 -- A second validation, with the room that the first one counted.
 use Rattle.std.proofs.Common.{◌≡◌, ◌∙◌, [], ◌∷◌, ap, sym, ℕ, List, length, refl, subst, take}
-use Rattle.apollo_parser.specs.Filled.{filled}
 use Rattle.apollo_parser.specs.Parsed.{Parsed}
 use Rattle.apollo_parser.proofs.OneParse.{one-parse}
 use Rattle.validation_rules.specs.Violations.{Breach}

@@ -1,8 +1,8 @@
 // The figures of a document's operations as rows.
-ghost use Rattle.std.specs.Prelude.{◌≡◌, IfOk, map};
+ghost use Rattle.std.specs.Prelude.{◌≡◌, [], ◌∷◌, IfErr, IfOk, map};
 ghost use Rattle.apollo_tree.specs.References.{node_place};
-ghost use Rattle.validation_names.specs.Definitions.{as_defined};
-ghost use Rattle.cost_limits.specs.Measures.{as_measure};
+ghost use Rattle.validation_names.specs.Definitions.{defined};
+ghost use Rattle.cost_limits.specs.Measures.{AreMeasures, IsMeasureError, as_measure};
 ghost use Rattle.c_validation.specs.Rows.{name_range, operation_row};
 ghost use Rattle.c_validation.specs.Outcomes.{MeasureOutcome, fault_counts, no_measures};
 
@@ -59,6 +59,18 @@ fn rows_of<A: Allocator + Copy>(
         rows.push(row_of(measured))?;
     }
     Ok(rows)
+}
+
+// The figures of the operations of one document, by the root of its tree.
+fn measure_document<'t, A: Allocator + Copy>(
+    alloc: A,
+    document: &SyntaxNode<'t>,
+) -> Result<Vec<OperationFigures<'t>, A>, MeasureError<'t>>
+    ensures figures { IfOk result
+        (λ v. AreMeasures (defined (node_place document.now ∷ [])) (map as_measure v.items)) }
+    ensures error { IfErr result (IsMeasureError (defined (node_place document.now ∷ []))) }
+{
+    measure(alloc, &[*document])
 }
 
 fn refused(status: u32) -> MeasureCounts
@@ -121,7 +133,7 @@ pub fn measure_into<A: Allocator + Copy>(
         Ok(tree) => tree,
         Err(status) => return refused(status),
     };
-    let measured = match measure(alloc, &tree.root()) {
+    let measured = match measure_document(alloc, &tree.root()) {
         Ok(measured) => measured,
         Err(error) => return fault(error),
     };

@@ -1,7 +1,7 @@
 -- What it means to expand a definition (GraphQL October 2021, section 2.8): to put what the fragment selects in place
 -- of each fragment spread.
 --
--- `d` are the definitions of a document, each the list of its items. A spread names a definition by its number.
+-- `d` are the definitions of some documents, each the list of its items. A spread names a definition by its number.
 use Rattle.std.specs.Prelude.{ℕ, ◌+◌, ◌<◌, ◌≡◌, Bool, true, false, List, [], ◌∷◌, ◌++◌, length, map, slice_index_or}
 use Rattle.std.specs.Prelude.{Contains}
 use Rattle.cost_figures.specs.declared.items.Item.{Item}

@@ -1,7 +1,11 @@
-/// The byte offsets at which a text begins and ends.
+/// Where a text is in one of some documents.
 #[derive(Clone, Copy)]
 pub struct Span {
+    /// The number of the document, from 0.
+    pub document: usize,
+    /// The byte offset at which the text begins.
     pub start: usize,
+    /// The byte offset at which it has ended.
     pub end: usize,
 }
 

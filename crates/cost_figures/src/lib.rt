@@ -4,7 +4,7 @@
 //! the text. The figures are those of the expanded list, which may be exponentially long; time and memory are linear in
 //! the lists that are given.
 //!
-//! `cost_limits`, the crate above, calls `measure` with the lists of a document's definitions.
+//! `cost_limits`, the crate above, calls `measure` with the lists of the definitions of some documents.
 #![tactic(auto)]
 
 mod figures;

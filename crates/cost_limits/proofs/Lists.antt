@@ -23,6 +23,7 @@ use Rattle.document_grammar.specs.Numbers.{is_kind}
 use Rattle.apollo_tree.specs.Order.{Place, tree_at, tree_kids, kind_at}
 use Rattle.apollo_tree.specs.References.{node_place}
 use Rattle.validation_names.specs.Names.{Name, Entries, AreFirstNumbers}
+use Rattle.validation_names.specs.Sites.{Located, as_located, located}
 use Rattle.validation_names.specs.Mentions.{name_in}
 use Rattle.validation_names.specs.Definitions.{Defined, as_defined, fragment_names}
 use Rattle.validation_names.specs.declared.executables.ExecutableDefinition.{ExecutableDefinition}
@@ -73,38 +74,39 @@ is_within limits m e l =
 -- ---- the same items by another numbering of the fragments
 
 module _ (f g : Option Name → ℕ) (same : (o : Option Name) → f o ≡ g o) where
-  own_same : (n : ℕ) (seen : List Name) (p : Place) → own_items f n seen p ≡ own_items g n seen p
-  own_same n seen p =
+  own_same : (n : ℕ) (seen : List Name) (s : Located) → own_items f n seen s ≡ own_items g n seen s
+  own_same n seen s =
+      let p : Place = s.place in
       ap (λ m. cond (is_kind FIELD (kind_at p)) (field_items n (is_new seen (response_name p)))
       (cond (is_kind ALIAS (kind_at p)) (Alias ∷ []) (cond (is_kind DIRECTIVE (kind_at p)) (Directive ∷ [])
-      (cond (is_kind FRAGMENT_SPREAD (kind_at p)) (Spread n m (span_at p) ∷ []) [])))) (same (name_in FRAGMENT_NAME p))
+      (cond (is_kind FRAGMENT_SPREAD (kind_at p)) (Spread n m (span_at s) ∷ []) [])))) (same (name_in FRAGMENT_NAME p))
 
   joined : (xs ys zs us vs ws : List Item) → xs ≡ us → ys ≡ vs → zs ≡ ws → xs ++ (ys ++ zs) ≡ us ++ (vs ++ ws)
   joined xs ys zs us vs ws a b c = cc
 
-  below_same : (whole : Forest) (n i : ℕ) (seen : List Name) (t : Forest)
-      → items_below whole f n i seen t ≡ items_below whole g n i seen t
-  below_same whole n i seen no_tree = refl
-  below_same whole n i seen (leaf k s rest) = below_same whole n (suc i) seen rest
-  below_same whole n i seen (node k kids rest) =
+  below_same : (d : ℕ) (whole : Forest) (n i : ℕ) (seen : List Name) (t : Forest)
+      → items_below d whole f n i seen t ≡ items_below d whole g n i seen t
+  below_same d whole n i seen no_tree = refl
+  below_same d whole n i seen (leaf k s rest) = below_same d whole n (suc i) seen rest
+  below_same d whole n i seen (node k kids rest) =
       let p : Place = record { whole = whole; index = i } in
-      joined (own_items f n seen p) (items_below whole f (inside n p) (suc i) [] kids)
-      (items_below whole f n (suc (i + count kids)) (seen_after seen p) rest)
-      (own_items g n seen p) (items_below whole g (inside n p) (suc i) [] kids)
-      (items_below whole g n (suc (i + count kids)) (seen_after seen p) rest)
-      (own_same n seen p) (below_same whole (inside n p) (suc i) [] kids)
-      (below_same whole n (suc (i + count kids)) (seen_after seen p) rest)
+      joined (own_items f n seen (located d p)) (items_below d whole f (inside n p) (suc i) [] kids)
+      (items_below d whole f n (suc (i + count kids)) (seen_after seen p) rest)
+      (own_items g n seen (located d p)) (items_below d whole g (inside n p) (suc i) [] kids)
+      (items_below d whole g n (suc (i + count kids)) (seen_after seen p) rest)
+      (own_same n seen (located d p)) (below_same d whole (inside n p) (suc i) [] kids)
+      (below_same d whole n (suc (i + count kids)) (seen_after seen p) rest)
 
   all_same : (vs : List ExecutableDefinition)
-      → map (λ (d : ExecutableDefinition). definition_items f (node_place d.site.node)) vs
-      ≡ map (λ (d : Defined). definition_items g d.site.place) (map as_defined vs)
+      → map (λ (d : ExecutableDefinition). definition_items f (as_located d.site)) vs
+      ≡ map (λ (d : Defined). definition_items g d.site) (map as_defined vs)
   all_same [] = refl
   all_same (v ∷ vs) =
       let p = node_place v.site.node in
-      ap (λ xs. xs ∷ map (λ (d : ExecutableDefinition). definition_items f (node_place d.site.node)) vs)
-      (below_same p.whole 0 (suc p.index) [] (tree_kids
+      ap (λ xs. xs ∷ map (λ (d : ExecutableDefinition). definition_items f (as_located d.site)) vs)
+      (below_same v.site.document p.whole 0 (suc p.index) [] (tree_kids
       (tree_at p)))
-      ∙ ap (λ xss. definition_items g p ∷ xss) (all_same vs)
+      ∙ ap (λ xss. definition_items g (as_located v.site) ∷ xss) (all_same vs)
 
 same_number : (entries : Entries ℕ) (names : List (Option Name)) → AreFirstNumbers entries names → (o : Option Name)
     → number_of entries o ≡ number_in names o
@@ -113,7 +115,7 @@ same_number entries names are (Some s) = ap (λ o. unwrap_or o (2 ^ 64 - 1)) (ar
 
 pub items_are : (entries : Entries ℕ) (vs : List ExecutableDefinition)
     → AreFirstNumbers entries (fragment_names (map as_defined vs))
-    → map (λ (d : ExecutableDefinition). definition_items (number_of entries) (node_place d.site.node)) vs
+    → map (λ (d : ExecutableDefinition). definition_items (number_of entries) (as_located d.site)) vs
     ≡ items_of (map as_defined vs)
 items_are entries vs are =
     all_same (number_of entries) (number_in (fragment_names (map as_defined vs)))
@@ -212,7 +214,7 @@ in_range f vs ds roots e is =
       length-map vs f,
       ap (λ xs. length xs) e,
       length-map ds
-          (λ (d : Defined). definition_items (number_in (fragment_names ds)) d.site.place),
+          (λ (d : Defined). definition_items (number_in (fragment_names ds)) d.site),
     )))
 
 either_length : (b : Bool) (k : ℕ) (ks : List ℕ) (d : Defined) (ds : List Defined) → length ks ≡ length ds

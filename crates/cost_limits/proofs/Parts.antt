@@ -16,8 +16,9 @@ use Rattle.apollo_tree.specs.declared.node.SyntaxNode.{SyntaxNode}
 use Rattle.apollo_tree.proofs.Parts.{part}
 use Rattle.apollo_tree.proofs.Places.{length-order}
 use Rattle.validation_names.specs.Names.{Name, Entries}
+use Rattle.validation_names.specs.Sites.{Located, located}
 use Rattle.cost_figures.specs.declared.items.Item.{Item}
-use Rattle.cost_limits.specs.Items.{spot as at, items_of, inside, seen_after, items_below}
+use Rattle.cost_limits.specs.Items.{spot as at, items_of, inside, seen_after, items_below, items_inside}
 use Rattle.cost_limits.specs.Items.{is_among, is_new, with_name, response_name, field_items, other_items}
 use Rattle.cost_limits.specs.Collecting.{ArePart, nodes_from, AreNames, IsLeft, IsNoted, Adds}
 
@@ -149,10 +150,11 @@ in_range n =
       length-order 0 0 None (node_place n).whole,
     )
 
-module _ (p : Place) (number : Option Name → ℕ) (n : ℕ) where
+-- `d` is the number of the document
+module _ (d : ℕ) (p : Place) (number : Option Name → ℕ) (n : ℕ) where
   pub left_first : (old : List Item) (names : Entries (Unit {0})) (left : List Place)
       → p.index < length (order p.whole) → left ≡ child_nodes p → AreNames names []
-      → IsLeft p number n (old ++ items_below p.whole number n (suc p.index) [] (tree_kids (tree_at p))) old names left
+      → IsLeft d p number n (old ++ items_inside number n (located d p)) old names left
   left_first old names left h e none_yet = record {
     rest = tree_kids (tree_at p);
     index = suc p.index;
@@ -175,9 +177,9 @@ module _ (p : Place) (number : Option Name → ℕ) (n : ℕ) where
     pub more_are : more ≡ nodes_from p.whole index rest
     pub whole : q.whole ≡ p.whole
     pub later : p.index < q.index
-    pub same : found ++ (items_of number n seen q
-        ++ (items_below p.whole number (inside n q) (suc q.index) [] (tree_kids (tree_at q))
-        ++ items_below p.whole number n index (seen_after seen q) rest)) ≡ all
+    pub same : found ++ (items_of number n seen (located d q)
+        ++ (items_below d p.whole number (inside n q) (suc q.index) [] (tree_kids (tree_at q))
+        ++ items_below d p.whole number n index (seen_after seen q) rest)) ≡ all
 
   heads : (x y : Place) (xs ys : List Place) → ◌≡◌ {A = List Place} (x ∷ xs) (y ∷ ys) → x ≡ y
   heads x y xs ys e = cc
@@ -190,7 +192,7 @@ module _ (p : Place) (number : Option Name → ℕ) (n : ℕ) where
 
   next_of : (all found : List Item) (seen : List Name) (q : Place) (more : List Place) (i end : ℕ) (rest : Forest)
       → ArePart p.whole i end rest → p.index < i
-      → q ∷ more ≡ nodes_from p.whole i rest → found ++ items_below p.whole number n i seen rest ≡ all
+      → q ∷ more ≡ nodes_from p.whole i rest → found ++ items_below d p.whole number n i seen rest ≡ all
       → Next all found seen q more
   next_of all found seen q more i end none s b e h = absurd (none_more q more e)
   next_of all found seen q more i end (leaf k t rest) s b e h =
@@ -208,9 +210,9 @@ module _ (p : Place) (number : Option Name → ℕ) (n : ℕ) where
         more_are = tails q (at p.whole i) more r e;
         whole = refl;
         later = b;
-        same = ap (λ ts. found ++ (items_of number n seen (at p.whole i)
-            ++ (items_below p.whole number (inside n (at p.whole i)) (suc i) [] ts
-            ++ items_below p.whole number n (suc (i + count kids)) (seen_after seen (at p.whole i)) rest))) its_kids
+        same = ap (λ ts. found ++ (items_of number n seen (located d (at p.whole i))
+            ++ (items_below d p.whole number (inside n (at p.whole i)) (suc i) [] ts
+            ++ items_below d p.whole number n (suc (i + count kids)) (seen_after seen (at p.whole i)) rest))) its_kids
             ∙ h;
       })
 
@@ -218,7 +220,7 @@ module _ (p : Place) (number : Option Name → ℕ) (n : ℕ) where
   regroup_items xs ys zs us = simp append_assoc
 
   module _ (all found : List Item) (names : Entries (Unit {0})) (q : Place) (more left : List Place)
-      (l : IsLeft p number n all found names left)
+      (l : IsLeft d p number n all found names left)
       (e : left ≡ q ∷ more) where
     next : Next all found l.seen q more
     next = next_of all found l.seen q more l.index l.end l.rest l.part l.further (sym e ∙ l.left_are) l.same
@@ -230,17 +232,17 @@ module _ (p : Place) (number : Option Name → ℕ) (n : ℕ) where
     next_later = next.later
 
     pub left_on : (one two : List Item) (after : Entries (Unit {0}))
-        → ((seen : List Name) → AreNames names seen → Adds number n q seen found one after)
-        → two ≡ one ++ items_below q.whole number (inside n q) (suc q.index) [] (tree_kids (tree_at q))
-        → IsLeft p number n all two after more
+        → ((seen : List Name) → AreNames names seen → Adds number n (located d q) seen found one after)
+        → two ≡ one ++ items_inside number (inside n q) (located d q)
+        → IsLeft d p number n all two after more
     left_on one two after adds two_is =
         let x = next in
         let a = adds l.seen l.names_are in
-        let own = items_of number n l.seen q in
-        let below = items_below p.whole number (inside n q) (suc q.index) [] (tree_kids (tree_at q)) in
-        let others = items_below p.whole number n x.index (seen_after l.seen q) x.rest in
+        let own = items_of number n l.seen (located d q) in
+        let below = items_below d p.whole number (inside n q) (suc q.index) [] (tree_kids (tree_at q)) in
+        let others = items_below d p.whole number n x.index (seen_after l.seen q) x.rest in
         let together : two ≡ (found ++ own) ++ below =
-        two_is ∙ ap (λ w. one ++ items_below w number (inside n q) (suc q.index) [] (tree_kids (tree_at q))) x.whole
+        two_is ∙ ap (λ w. one ++ items_below d w number (inside n q) (suc q.index) [] (tree_kids (tree_at q))) x.whole
         ∙ ap (λ ys. ys ++ below) a.items_are in
         record {
           rest = x.rest;
@@ -255,30 +257,29 @@ module _ (p : Place) (number : Option Name → ℕ) (n : ℕ) where
         }
 
   no_nodes : (i end : ℕ) (seen : List Name) (rest : Forest) → [] ≡ nodes_from p.whole i rest
-      → items_below p.whole number n i seen rest ≡ []
+      → items_below d p.whole number n i seen rest ≡ []
   no_nodes i end seen none e = refl
   no_nodes i end seen (leaf k t rest) e = no_nodes (suc i) end seen rest e
   no_nodes i end seen (node k kids rest) e =
       absurd (none_more (at p.whole i) (nodes_from p.whole (suc (i + count kids)) rest) (sym e))
 
   pub left_none : (all found : List Item) (names : Entries (Unit {0})) (left : List Place)
-      → IsLeft p number n all found names left → left ≡ [] → found ≡ all
+      → IsLeft d p number n all found names left → left ≡ [] → found ≡ all
   left_none all found names left l e =
       sym (append-nil found) ∙ ap (λ xs. found ++ xs) (sym (no_nodes l.index l.end l.seen l.rest (sym e ∙ l.left_are)))
       ∙ l.same
 
 -- one field
-pub adds_field : (number : Option Name
-    → ℕ) (n : ℕ) (p : Place) (seen : List Name) (old new : List Item) (names : Entries (Unit {0}))
-    (name : Option Name) (b : Bool)
-    → is_kind FIELD (kind_at p) ≡ true → name ≡ response_name p → IsNoted name seen names b
+pub adds_field : (number : Option Name → ℕ) (n : ℕ) (s : Located) (seen : List Name) (old new : List Item)
+    (names : Entries (Unit {0})) (name : Option Name) (b : Bool)
+    → is_kind FIELD (kind_at s.place) ≡ true → name ≡ response_name s.place → IsNoted name seen names b
     → new ≡ old ++ field_items n b
-    → Adds number n p seen old new names
-adds_field number n p seen old new names name b k e r h = record {
+    → Adds number n s seen old new names
+adds_field number n s seen old new names name b k e r h = record {
   items_are = h ∙ ap (λ x. old ++ field_items n x) (r.new_is ∙ ap (is_new seen) e)
-      ∙ ap (λ x. old ++ cond x (field_items n (is_new seen (response_name p))) (other_items number n p)) (sym k);
-  names_are = λ s. r.names_are s ∙ ap (λ m. is_among (with_name m seen) s) e
-      ∙ ap (λ x. is_among (cond x (with_name (response_name p) seen) seen) s) (sym k);
+      ∙ ap (λ x. old ++ cond x (field_items n (is_new seen (response_name s.place))) (other_items number n s)) (sym k);
+  names_are = λ t. r.names_are t ∙ ap (λ m. is_among (with_name m seen) t) e
+      ∙ ap (λ x. is_among (cond x (with_name (response_name s.place) seen) seen) t) (sym k);
 }
 
 pub inside-le : (n : ℕ) (p : Place) → inside n p ≤ n + 1

@@ -4,6 +4,7 @@ use Rattle.std.specs.Prelude.{None, unwrap_or}
 use Rattle.document_grammar.specs.Forests.{Forest, none, leaf, node, count}
 use Rattle.apollo_tree.specs.Order.{Element, Place, order, order_from}
 use Rattle.validation_names.specs.Names.{Name, Entries, entry_of}
+use Rattle.validation_names.specs.Sites.{Located}
 use Rattle.cost_figures.specs.declared.items.Item.{Item}
 use Rattle.cost_limits.specs.Items.{spot, is_among, is_new, with_name, items_of, seen_after, items_below}
 
@@ -22,10 +23,10 @@ pub record IsNoted (name : Option Name) (seen : List Name) (names : Entries (Uni
   pub names_are : AreNames names (with_name name seen)
 
 -- one more node
-pub record Adds (number : Option Name → ℕ) (n : ℕ) (p : Place) (seen : List Name) (old new : List Item)
+pub record Adds (number : Option Name → ℕ) (n : ℕ) (s : Located) (seen : List Name) (old new : List Item)
     (names : Entries (Unit {0})) : Type 0 where
-  pub items_are : new ≡ old ++ items_of number n seen p
-  pub names_are : AreNames names (seen_after seen p)
+  pub items_are : new ≡ old ++ items_of number n seen s
+  pub names_are : AreNames names (seen_after seen s.place)
 
 -- the elements from `i` up to `end` are those of the trees `f`
 pub record ArePart (whole : Forest) (i end : ℕ) (f : Forest) : Type 0 where
@@ -43,10 +44,10 @@ nodes_from whole i none = []
 nodes_from whole i (leaf k s rest) = nodes_from whole (suc i) rest
 nodes_from whole i (node k kids rest) = spot whole i ∷ nodes_from whole (suc (i + count kids)) rest
 
--- what is left of the children of the element `p`: `left` are the nodes among them, `all` is what there is to be found,
--- and `found` what has been
-pub record IsLeft (p : Place) (number : Option Name → ℕ) (n : ℕ) (all found : List Item) (names : Entries (Unit {0}))
-    (left : List Place) : Type 0 where
+-- what is left of the children of the element `p` of the document with the number `d`: `left` are the nodes among them,
+-- `all` is what there is to be found, and `found` what has been
+pub record IsLeft (d : ℕ) (p : Place) (number : Option Name → ℕ) (n : ℕ) (all found : List Item)
+    (names : Entries (Unit {0})) (left : List Place) : Type 0 where
   pub rest : Forest
   pub index : ℕ
   pub end : ℕ
@@ -55,4 +56,4 @@ pub record IsLeft (p : Place) (number : Option Name → ℕ) (n : ℕ) (all foun
   pub further : p.index < index
   pub left_are : left ≡ nodes_from p.whole index rest
   pub names_are : AreNames names seen
-  pub same : found ++ items_below p.whole number n index seen rest ≡ all
+  pub same : found ++ items_below d p.whole number n index seen rest ≡ all

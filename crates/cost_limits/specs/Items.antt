@@ -1,4 +1,4 @@
--- The items of an operation or a fragment, in the order of the text.
+-- The items of an operation or a fragment of one of some documents, in the order of the text.
 use Rattle.std.specs.Prelude.{ℕ, suc, ◌+◌, List, [], ◌∷◌, ◌++◌, Bool, true, not, if◌then◌else◌, Option, Some, None}
 use Rattle.std.specs.Prelude.{bytes_eq}
 use Rattle.std.specs.List.{list_any}
@@ -9,6 +9,7 @@ use Rattle.document_grammar.specs.Numbers.{is_kind}
 use Rattle.apollo_tree.specs.Order.{Place, tree_at, tree_kids, kind_at, range_at}
 use Rattle.apollo_cst_core.specs.Cast.{cast_children, first_of}
 use Rattle.validation_names.specs.Names.{Name}
+use Rattle.validation_names.specs.Sites.{Located, located}
 use Rattle.validation_names.specs.Mentions.{name_of, name_in}
 use Rattle.cost_figures.specs.declared.items.Item.{Item}
 use Rattle.cost_figures.specs.declared.items.Item.TheVariants.{Field, ResponseName, Alias, Directive, Spread}
@@ -38,22 +39,25 @@ with_name (Some s) seen = s ∷ seen
 abbrev pub field_items : ℕ → Bool → List Item
 field_items n new = Field n ∷ (if new then ResponseName n ∷ [] else [])
 
-abbrev pub span_at : Place → Span
-span_at p = record { start = (range_at p).0; end = (range_at p).1 }
+abbrev pub span_at : Located → Span
+span_at s = record { document = s.document; start = (range_at s.place).0; end = (range_at s.place).1 }
 
 -- the items of another node; `number` has the number of the definition of each fragment
-abbrev pub other_items : (Option Name → ℕ) → ℕ → Place → List Item
-other_items number n p =
-    if is_kind ALIAS (kind_at p) then Alias ∷ []
-    else (if is_kind DIRECTIVE (kind_at p) then Directive ∷ []
-    else (if is_kind FRAGMENT_SPREAD (kind_at p) then Spread n (number (name_in FRAGMENT_NAME p)) (span_at p) ∷ []
+abbrev pub other_items : (Option Name → ℕ) → ℕ → Located → List Item
+other_items number n s =
+    if is_kind ALIAS (kind_at s.place) then Alias ∷ []
+    else (if is_kind DIRECTIVE (kind_at s.place) then Directive ∷ []
+    else (if is_kind FRAGMENT_SPREAD (kind_at s.place)
+    then Spread n (number (name_in FRAGMENT_NAME s.place)) (span_at s) ∷ []
     else []))
 
 -- The items of a node itself. `n` fields of the definition enclose it, and `seen` are the response names of the fields
 -- before it in its parent.
-abbrev pub items_of : (Option Name → ℕ) → ℕ → List Name → Place → List Item
-items_of number n seen p =
-    if is_kind FIELD (kind_at p) then field_items n (is_new seen (response_name p)) else other_items number n p
+abbrev pub items_of : (Option Name → ℕ) → ℕ → List Name → Located → List Item
+items_of number n seen s =
+    if is_kind FIELD (kind_at s.place)
+    then field_items n (is_new seen (response_name s.place))
+    else other_items number n s
 
 abbrev pub seen_after : List Name → Place → List Name
 seen_after seen p = if is_kind FIELD (kind_at p) then with_name (response_name p) seen else seen
@@ -62,15 +66,21 @@ seen_after seen p = if is_kind FIELD (kind_at p) then with_name (response_name p
 abbrev pub inside : ℕ → Place → ℕ
 inside n p = if is_kind FIELD (kind_at p) then n + 1 else n
 
--- the items of the trees of `whole` from the element `i` on, and of all below them
-abbrev pub items_below : Forest → (Option Name → ℕ) → ℕ → ℕ → List Name → Forest → List Item
-items_below whole number n i seen none = []
-items_below whole number n i seen (leaf k s rest) = items_below whole number n (suc i) seen rest
-items_below whole number n i seen (node k kids rest) =
-    items_of number n seen (spot whole i)
-    ++ (items_below whole number (inside n (spot whole i)) (suc i) [] kids
-    ++ items_below whole number n (suc (i + count kids)) (seen_after seen (spot whole i)) rest)
+-- the items of the trees of the document with the number `d`, whose trees are `whole`, from the element `i` on, and of
+-- all below them
+abbrev pub items_below : ℕ → Forest → (Option Name → ℕ) → ℕ → ℕ → List Name → Forest → List Item
+items_below d whole number n i seen none = []
+items_below d whole number n i seen (leaf k s rest) = items_below d whole number n (suc i) seen rest
+items_below d whole number n i seen (node k kids rest) =
+    items_of number n seen (located d (spot whole i))
+    ++ (items_below d whole number (inside n (spot whole i)) (suc i) [] kids
+    ++ items_below d whole number n (suc (i + count kids)) (seen_after seen (spot whole i)) rest)
 
--- those of a definition: of all below its node
-abbrev pub definition_items : (Option Name → ℕ) → Place → List Item
-definition_items number p = items_below p.whole number 0 (suc p.index) [] (tree_kids (tree_at p))
+-- those of all below a node
+abbrev pub items_inside : (Option Name → ℕ) → ℕ → Located → List Item
+items_inside number n s =
+    items_below s.document s.place.whole number n (suc s.place.index) [] (tree_kids (tree_at s.place))
+
+-- those of a definition
+abbrev pub definition_items : (Option Name → ℕ) → Located → List Item
+definition_items number s = items_inside number 0 s

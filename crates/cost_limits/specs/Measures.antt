@@ -1,4 +1,4 @@
--- The figures of a document's operations, and why there are none.
+-- The figures of the operations of some documents, and why there are none.
 use Rattle.std.specs.Prelude.{◌≡◌, ℕ, suc, ◌-◌, ◌^◌, ◌<◌, List, [], ◌∷◌, length, map, Bool, true, false, if◌then◌else◌}
 use Rattle.std.specs.Prelude.{Option, Some, None, unwrap_or, slice_index_or, Contains}
 use Rattle.std.specs.List.{filter}
@@ -20,7 +20,7 @@ number_in names (Some s) = unwrap_or (first_number names s) (2 ^ 64 - 1)
 
 -- the items of each definition
 abbrev pub items_of : List Defined → List (List Item)
-items_of ds = map (λ d. definition_items (number_in (fragment_names ds)) d.site.place) ds
+items_of ds = map (λ d. definition_items (number_in (fragment_names ds)) d.site) ds
 
 abbrev pub is_operation : Defined → Bool
 is_operation d = elim d.kind [ Operation ↦ true | Fragment ↦ false ]

@@ -1,9 +1,9 @@
 // The walk over the nodes of a definition.
-ghost use Rattle.std.specs.Prelude.{◌≡◌, ◌<◌, ◌≤◌, suc, [], ◌++◌, List, OnOk, IfOk};
-ghost use Rattle.apollo_tree.specs.Order.{tree_at, tree_kids};
+ghost use Rattle.std.specs.Prelude.{◌≡◌, ◌<◌, ◌≤◌, ◌++◌, List, OnOk, IfOk};
 ghost use Rattle.apollo_tree.specs.References.{node_place};
 ghost use Rattle.validation_names.specs.Names.{Name};
-ghost use Rattle.cost_limits.specs.Items.{definition_items, field_items, other_items, items_below, inside};
+ghost use Rattle.validation_names.specs.Sites.{as_located};
+ghost use Rattle.cost_limits.specs.Items.{definition_items, field_items, items_inside, other_items, inside};
 ghost use Rattle.cost_limits.specs.Collecting.{AreNames, Adds, number_of};
 
 use crate::response_names::{is_new, number_of, response_name};
@@ -11,7 +11,7 @@ use apollo_tree::{SyntaxKind, SyntaxNode};
 use cost_figures::{Item, Span};
 use std::alloc::{AllocError, Allocator};
 use std::collections::BTreeMap;
-use validation_names::name_of_fragment;
+use validation_names::{Site, name_of_fragment};
 
 // How many fields of a definition enclose the nodes below one of its nodes.
 fn inside(enclosing: usize, node: SyntaxNode<'_>) -> usize
@@ -42,15 +42,15 @@ fn add_field<A: Allocator + Copy>(
 
 // Adds the item of another node. Most have none.
 fn add_other<A: Allocator + Copy>(
-    node: &SyntaxNode<'_>,
+    site: &Site<'_>,
     fragments: &BTreeMap<&str, usize, A>,
     enclosing: usize,
     found: &mut Vec<Item, A>,
 ) -> Result<(), AllocError>
     ensures { OnOk result (found.new.items ≡ found.old.items
-        ++ other_items (number_of fragments.now) enclosing (node_place node.now)) }
+        ++ other_items (number_of fragments.now) enclosing (as_located site.now)) }
 {
-    let kind = node.kind();
+    let kind = site.node.kind();
     if kind.is(SyntaxKind::ALIAS) {
         found.push(Item::Alias)?;
         return Ok(());
@@ -60,9 +60,10 @@ fn add_other<A: Allocator + Copy>(
         return Ok(());
     }
     if kind.is(SyntaxKind::FRAGMENT_SPREAD) {
-        let number = number_of(fragments, name_of_fragment(node));
-        let range = node.text_range();
+        let number = number_of(fragments, name_of_fragment(&site.node));
+        let range = site.node.text_range();
         let span = Span {
+            document: site.document,
             start: range.start(),
             end: range.end(),
         };
@@ -74,42 +75,45 @@ fn add_other<A: Allocator + Copy>(
 
 // Adds the items of a node itself.
 fn add<'t, A: Allocator + Copy>(
-    node: &SyntaxNode<'t>,
+    site: &Site<'t>,
     fragments: &BTreeMap<&str, usize, A>,
     enclosing: usize,
     names: &mut BTreeMap<&'t str, (), A>,
     found: &mut Vec<Item, A>,
 ) -> Result<(), AllocError>
     ensures { OnOk result ((seen : List Name) → AreNames names.old seen
-        → Adds (number_of fragments.now) enclosing (node_place node.now) seen found.old.items
+        → Adds (number_of fragments.now) enclosing (as_located site.now) seen found.old.items
         found.new.items names.new) }
 {
-    if node.kind().is(SyntaxKind::FIELD) {
-        let is_new = is_new(response_name(node), names)?;
+    if site.node.kind().is(SyntaxKind::FIELD) {
+        let is_new = is_new(response_name(&site.node), names)?;
         add_field(enclosing, is_new, found)?;
         return Ok(());
     }
-    add_other(node, fragments, enclosing, found)?;
+    add_other(site, fragments, enclosing, found)?;
     Ok(())
 }
 
 // Adds the items of all nodes below a node.
 fn collect<'t, A: Allocator + Copy>(
     alloc: A,
-    node: &SyntaxNode<'t>,
+    site: &Site<'t>,
     fragments: &BTreeMap<&str, usize, A>,
     enclosing: usize,
     found: &mut Vec<Item, A>,
 ) -> Result<(), AllocError>
-    requires { enclosing ≤ (node_place node.now).index }
+    requires { enclosing ≤ (node_place site.now.node).index }
     ensures { OnOk result (found.new.items ≡ found.old.items
-        ++ items_below (node_place node.now).whole (number_of fragments.now) enclosing
-        (suc (node_place node.now).index) [] (tree_kids (tree_at (node_place node.now)))) }
+        ++ items_inside (number_of fragments.now) enclosing (as_located site.now)) }
 {
     let mut names: BTreeMap<&'t str, (), A> = BTreeMap::new(alloc);
-    for child in node.children() {
+    for node in site.node.children() {
+        let child = Site {
+            document: site.document,
+            node,
+        };
         add(&child, fragments, enclosing, &mut names, found)?;
-        collect(alloc, &child, fragments, inside(enclosing, child), found)?;
+        collect(alloc, &child, fragments, inside(enclosing, node), found)?;
     }
     Ok(())
 }
@@ -118,11 +122,11 @@ fn collect<'t, A: Allocator + Copy>(
 /// A spread of no fragment names the definition with the number `usize::MAX`.
 pub fn items<A: Allocator + Copy>(
     alloc: A,
-    definition: &SyntaxNode<'_>,
+    definition: &Site<'_>,
     fragments: &BTreeMap<&str, usize, A>,
 ) -> Result<Vec<Item, A>, AllocError>
     ensures { IfOk result (λ items. items.items
-        ≡ definition_items (number_of fragments.now) (node_place definition.now)) }
+        ≡ definition_items (number_of fragments.now) (as_located definition.now)) }
 {
     let mut found = Vec::new(alloc);
     collect(alloc, definition, fragments, 0, &mut found)?;

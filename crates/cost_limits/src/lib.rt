@@ -1,11 +1,12 @@
-//! How large the operations of a document are with their fragments expanded, and whether that is within limits.
+//! How large the operations of documents that are judged together are with their fragments expanded, and whether that
+//! is within limits.
 //!
-//! `measure` gives the figures of each operation of a parsed document, and `within` the first limit that one of them
-//! exceeds. A small document can expand to an exponentially large one: here time and memory are linear in the document,
-//! but for the look-up of names.
+//! `measure` gives the figures of each operation of some parsed documents, and `within` the first limit that one of
+//! them exceeds. A fragment may be in another document than its spread. A small document can expand to an exponentially
+//! large one: here time and memory are linear in the documents, but for the look-up of names.
 //!
 //!     let tree = Parser::new(text).parse(alloc)?;
-//!     let operations = measure(alloc, &tree.root())?;
+//!     let operations = measure(alloc, &[tree.root()])?;
 //!     let limits = Figures { depth: 10, fields: 500, ..Figures::UNLIMITED };
 //!     within(operations.as_slice(), &limits)?;
 //!

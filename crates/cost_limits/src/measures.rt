@@ -1,5 +1,5 @@
-// The figures of the operations of a document.
-ghost use Rattle.std.specs.Prelude.{◌≡◌, ◌<◌, [], ◌∷◌, map, length, IfOk, IfErr, IfSome, IfNone};
+// The figures of the operations of documents that are judged together.
+ghost use Rattle.std.specs.Prelude.{◌≡◌, ◌<◌, map, length, IfOk, IfErr, IfSome, IfNone};
 ghost use Rattle.std.specs.List.{filter};
 ghost use Rattle.apollo_tree.specs.References.{node_place};
 ghost use Rattle.validation_names.specs.Names.{AreFirstNumbers};
@@ -21,7 +21,7 @@ pub struct OperationFigures<'t> {
     pub figures: Figures,
 }
 
-/// Why the operations of a document have no figures.
+/// Why the operations of some documents have no figures.
 #[derive(Clone, Copy)]
 pub enum MeasureError<'t> {
     /// Two fragments have one name (GraphQL October 2021, section 5.5.1.1): the first one of the name, and another.
@@ -79,7 +79,7 @@ fn all_items<'t, A: Allocator + Copy>(
 {
     let mut found = Vec::new(alloc);
     for definition in definitions {
-        found.push(items(alloc, &definition.site.node, fragments)?)?;
+        found.push(items(alloc, &definition.site, fragments)?)?;
     }
     Ok(found)
 }
@@ -163,20 +163,22 @@ fn measure_distinct<'t, A: Allocator + Copy>(
     }
 }
 
-/// The figures of the operations of a document, in order. `document` is the root of its tree, which should have no
-/// syntax errors: a field or a fragment without a name counts by these rules too.
+/// The figures of the operations of some documents, by the roots of their trees, in order. The trees should have no
+/// syntax errors: a field or a fragment without a name counts by these rules too. Fragments are those of all documents
+/// together.
 ///
 /// Unless memory is refused, there are figures exactly if no two fragments have one name, and no operation leads to a
 /// cycle of fragments or to a spread of no fragment. Fragments that no operation leads to may have both. If several
 /// errors apply, names come first, and then the first wrong spread, fragments expanded.
 pub fn measure<'t, A: Allocator + Copy>(
     alloc: A,
-    document: &SyntaxNode<'t>,
+    documents: &[SyntaxNode<'t>],
 ) -> Result<Vec<OperationFigures<'t>, A>, MeasureError<'t>>
-    ensures figures { IfOk result (λ v. AreMeasures (defined (node_place document.now ∷ [])) (map as_measure v.items)) }
-    ensures error { IfErr result (IsMeasureError (defined (node_place document.now ∷ []))) }
+    ensures figures { IfOk result
+        (λ v. AreMeasures (defined (map node_place documents.now)) (map as_measure v.items)) }
+    ensures error { IfErr result (IsMeasureError (defined (map node_place documents.now))) }
 {
-    let Ok(definitions) = definitions(alloc, &[*document]) else {
+    let Ok(definitions) = definitions(alloc, documents) else {
         return Err(MeasureError::Memory);
     };
     let Ok(fragments) = fragments(alloc, definitions.as_slice()) else {

@@ -12,7 +12,7 @@ const LIMITS: Figures = Figures {
 
 /// Why a gateway does not run the operations of a document, or `None` where it runs them.
 pub(crate) fn refusal(alloc: Global, root: &SyntaxNode<'_>) -> Result<Option<String>, AllocError> {
-    let reason = match measure(alloc, root) {
+    let reason = match measure(alloc, &[*root]) {
         Ok(operations) => match within(operations.as_slice(), &LIMITS) {
             Ok(()) => return Ok(None),
             Err(over) => {

@@ -12,24 +12,24 @@ use Rattle.c_validation.proofs.operation_rows.measure_into.Goals as goal
 pub returns-in-Err : goal.returns-in-Err
 returns-in-Err g c = no-measure _ _ _ c.in-Err.status _ c.refused.result c.refused.ensures c.in-Err.ensures.refusal
 
-pub returns-in-Err-measure : goal.returns-in-Err-measure
-returns-in-Err-measure g c =
-    of-fault _ _ _ c.in-Ok.tree c.in-Err-measure.error _ c.fault.result c.in-Ok.ensures.document
-    (subst (λ (p : Place). IsMeasureError (defined (p ∷ [])) c.in-Err-measure.error) c.root.ensures.place
-    c.in-Err-measure.ensures.error) c.fault.ensures
+pub returns-in-Err-measure_document : goal.returns-in-Err-measure_document
+returns-in-Err-measure_document g c =
+    of-fault _ _ _ c.in-Ok.tree c.in-Err-measure_document.error _ c.fault.result c.in-Ok.ensures.document
+    (subst (λ (p : Place). IsMeasureError (defined (p ∷ [])) c.in-Err-measure_document.error) c.root.ensures.place
+    c.in-Err-measure_document.ensures.error) c.fault.ensures
 
 pub returns-in_default : goal.returns-in_default
 returns-in_default g c = no-measure _ _ _ _ _ c.refused-in_default.result c.refused-in_default.ensures no_memory
 
 pub returns : goal.returns
 returns g c =
-    let rows : c.as_slice-rows.result.now ≡ map operation_row (map as_measure c.in-Ok-measure.measured.items) =
+    let rows : c.as_slice-rows.result.now ≡ map operation_row (map as_measure c.in-Ok-measure_document.measured.items) =
     c.as_slice-rows.ensures.value ∙ c.in-Ok-rows_of.ensures
     ∙ ap (λ xs. map operation_row (map as_measure xs)) c.as_slice.ensures.value in
-    let measures : List Measure = map as_measure c.in-Ok-measure.measured.items in
+    let measures : List Measure = map as_measure c.in-Ok-measure_document.measured.items in
     let are : AreMeasures (defined (root c.in-Ok.tree ∷ [])) measures =
     subst (λ (p : Place). AreMeasures (defined (p ∷ [])) measures) c.root.ensures.place
-    c.in-Ok-measure.ensures.figures in
+    c.in-Ok-measure_document.ensures.figures in
     rw c.refused-2.ensures (of-figures _ _ _ c.in-Ok.tree measures c.args.operations.now c.write.new.buffer
     (length c.as_slice-rows.result.now) c.in-Ok.ensures.document are
     (c.write.ensures ∙ ap (λ (xs : List OperationRow). filled c.args.operations.now xs) rows)

@@ -1,17 +1,17 @@
-use Rattle.std.proofs.Common.{◌++◌, ◌-◌, suc, [], length}
-use Rattle.apollo_tree.specs.Order.{tree_at, tree_kids, order}
+use Rattle.std.proofs.Common.{◌++◌, ◌-◌, length}
+use Rattle.apollo_tree.specs.Order.{order}
 use Rattle.apollo_tree.specs.References.{node_place}
 use Rattle.apollo_tree.specs.Yields.{rest_nodes}
-use Rattle.cost_limits.specs.Items.{items_below}
+use Rattle.validation_names.specs.Sites.{as_located}
+use Rattle.cost_limits.specs.Items.{items_inside}
 use Rattle.cost_limits.specs.Collecting.{IsLeft, number_of}
 use Rattle.cost_limits.proofs.definition_walk.+collect.Given as goal
 
 abbrev pub decreases-collect : goal.decreases-collect
-decreases-collect g l = length (order (node_place l.node.now).whole) - (node_place l.node.now).index
+decreases-collect g l = length (order (node_place l.site.now.node).whole) - (node_place l.site.now.node).index
 
-abbrev pub invariant-loop-child : goal.invariant-loop-child
-invariant-loop-child g l =
-    IsLeft (node_place l.node) (number_of l.fragments) l.enclosing
-    (l.initial.found.items ++ items_below (node_place l.node).whole (number_of l.fragments) l.enclosing
-    (suc (node_place l.node).index) []
-    (tree_kids (tree_at (node_place l.node)))) l.found.items l.names (rest_nodes l.child-iterator)
+abbrev pub invariant-loop-node : goal.invariant-loop-node
+invariant-loop-node g l =
+    IsLeft l.site.document (node_place l.site.node) (number_of l.fragments) l.enclosing
+    (l.initial.found.items ++ items_inside (number_of l.fragments) l.enclosing (as_located l.site))
+    l.found.items l.names (rest_nodes l.node-iterator)
