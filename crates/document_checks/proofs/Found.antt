@@ -1,5 +1,5 @@
 -- What is found of a text that does not pass.
-use Rattle.std.proofs.Common.{◌≡◌, ◌<◌, ◌≤◌, ℕ, List, [], ◌∷◌, length, map, take, ap, sym, ◌∙◌, arith}
+use Rattle.std.proofs.Common.{◌≡◌, ◌<◌, ◌≤◌, ℕ, List, [], ◌∷◌, length, map, take, ap, ◌∙◌, arith}
 use Rattle.std.proofs.lemmas.List.{take-map}
 use Rattle.apollo_lexer.specs.declared.limits.Limits.{Limits}
 use Rattle.apollo_parser.specs.Diagnostics.{Diagnostic}
@@ -30,18 +30,9 @@ pub of_errors : (limits : Limits) (source : List ℕ) (t : Parsed) (errors : Lis
 of_errors limits source t [] findings promise are some first = absurd (omega (arith, some))
 of_errors limits source t (e ∷ es) [] promise are some first = absurd (let r : ⊥ = cc in r)
 of_errors limits source t (e ∷ es) (f ∷ fs) promise are some first = λ error is.
-    let same : t ≡ is.parsed = one-parse t is.parsed promise.by_rules is.promise.by_rules in
-    let list : e ∷ es ≡ error ∷ is.others = are ∙ ap (λ (u : Parsed). u.errors) same ∙ is.first in
+    let refused = is.first in
+    let same : t ≡ refused.parsed = one-parse t refused.parsed promise.by_rules refused.promise.by_rules in
+    let list : e ∷ es ≡ error ∷ refused.others = are ∙ ap (λ (u : Parsed). u.errors) same ∙ refused.first in
     let it : e ≡ error = cc in
     let at : f.start ≡ shown_at source e = cc in
     at ∙ ap (shown_at source) it
-
--- and of one without
-pub of_no_errors : (limits : Limits) (source : List ℕ) (t : Parsed) (findings : List Finding)
-    → Promise source limits.recursion limits.tokens t
-    → t.errors ≡ [] → 0 < length findings → AreFindings limits source findings
-of_no_errors limits source t [] promise none some = absurd (omega (arith, some))
-of_no_errors limits source t (f ∷ fs) promise none some = λ error is.
-    let same : t ≡ is.parsed = one-parse t is.parsed promise.by_rules is.promise.by_rules in
-    let list : [] ≡ error ∷ is.others = sym none ∙ ap (λ (u : Parsed). u.errors) same ∙ is.first in
-    absurd (let r : ⊥ = cc in r)

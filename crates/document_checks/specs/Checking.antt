@@ -1,6 +1,6 @@
 -- Which texts pass.
 use Rattle.std.specs.Prelude.{◌≡◌, ◌≢◌, ◌⊎◌, ℕ, Bool, true, false, List, [], ◌∷◌, All, bytes_eq, Option, Some, None}
-use Rattle.std.specs.Prelude.{option_map}
+use Rattle.std.specs.Prelude.{map, option_map}
 use Rattle.std.specs.List.{filter}
 use denote.Ref.{Bor}
 use Rattle.apollo_lexer.specs.declared.limits.Limits.{Limits}
@@ -30,6 +30,9 @@ as_asked checks = record {
   operation = option_map (λ (name : Bor (List ℕ)). name.now) checks.operation;
 }
 
+abbrev pub texts_of : List (Bor (List ℕ)) → List (List ℕ)
+texts_of sources = map (λ source. source.now) sources
+
 -- ---- limits
 
 abbrev pub has_name : Name → Option Name → Bool
@@ -46,34 +49,39 @@ pub record IsChosenWithin (asked : Asked) (measures : List Measure) : Type 0 whe
   pub within : All (IsWithin asked.most) (filter (is_chosen asked.operation) measures)
   pub there : asked.operation ≢ None → filter (is_chosen asked.operation) measures ≢ []
 
--- The operations of a document have figures, and are so.
-pub record AreWithin (asked : Asked) (document : Place) : Type 0 where
+-- The operations of some documents have figures, and are so.
+pub record AreWithin (asked : Asked) (documents : List Place) : Type 0 where
   pub measures : List Measure
-  pub figures : AreMeasures (defined (document ∷ [])) measures
+  pub figures : AreMeasures (defined documents) measures
   pub chosen : IsChosenWithin asked measures
 
 -- ---- texts
 
--- The document is valid by the rules for its kind, and its operations are within the limits.
-pub record IsSound (asked : Asked) (document : Place) : Type 0 where
-  pub valid : AreValid (document ∷ [])
-  pub within : AreWithin asked document
-
--- The text is a document that is so.
-pub record IsSoundText (asked : Asked) (source : List ℕ) : Type 0 where
+-- A text is a document within both limits, and this is the root of its tree.
+pub record IsDocument (limits : Limits) (source : List ℕ) (document : Place) : Type 0 where
   -- its parse: the law `one_parse` says that there is no other
   pub parsed : Parsed
-  pub promise : Promise source asked.limits.recursion asked.limits.tokens parsed
+  pub promise : Promise source limits.recursion limits.tokens parsed
   -- it is a document within both limits, as `Promise` has it
   pub no_errors : parsed.errors ≡ []
-  pub sound : IsSound asked (record { whole = parsed.tree; index = 0 })
+  pub root : document ≡ record { whole = parsed.tree; index = 0 }
 
--- The text has nothing to check: no definition, within the token limit, and no operation is named that would have to be
--- there.
-pub record HasNothing (asked : Asked) (source : List ℕ) : Type 0 where
-  pub comments : HasCommentsAlone asked.limits source
-  pub unnamed : asked.operation ≡ None
+-- Each text is a document, and these are their roots in order; but a text without a definition has none.
+abbrev pub HaveDocuments : Limits → List (List ℕ) → List Place → Type 0
+HaveDocuments limits [] documents = documents ≡ []
+HaveDocuments limits (source ∷ sources) documents =
+    (HasCommentsAlone limits source × HaveDocuments limits sources documents)
+    ⊎ ((document : Place) × (others : List Place) × IsDocument limits source document
+    × (documents ≡ document ∷ others) × HaveDocuments limits sources others)
 
--- The text passes.
-abbrev pub Passes : Asked → List ℕ → Type 0
-Passes asked source = IsSoundText asked source ⊎ HasNothing asked source
+-- The documents of some texts are valid together, and their operations are within the limits.
+pub record AreSound (asked : Asked) (sources : List (List ℕ)) : Type 0 where
+  pub documents : List Place
+  pub are_documents : HaveDocuments asked.limits sources documents
+  pub valid : AreValid documents
+  pub within : AreWithin asked documents
+
+-- Some texts pass together. Where there is no text, nothing is wrong.
+abbrev pub PassTogether : Asked → List (List ℕ) → Type 0
+PassTogether asked [] = Unit {0}
+PassTogether asked (source ∷ sources) = AreSound asked (source ∷ sources)

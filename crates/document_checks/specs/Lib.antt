@@ -1,2 +1,4 @@
 pub mod Checking
+pub mod Documents
 pub mod Findings
+pub mod Passing

@@ -5,6 +5,7 @@
 //! it is proved without the code of the parser.
 #![tactic(auto)]
 
+mod documents;
 mod operations;
 mod report;
 mod text_check;

@@ -1,12 +1,16 @@
 // Checking the operations of a valid document: their figures, and which limits they exceed.
-ghost use Rattle.std.specs.Prelude.{◌≡◌, ◌≢◌, ◌↔◌, ◌<◌, All, IfOk, OnOk, map, true, false, option_map, vec_len};
+ghost use Rattle.std.specs.Prelude.{◌≡◌, ◌∷◌, [], ◌≢◌, ◌↔◌, ◌<◌, All, IfOk, OnOk, map, true, false, length, option_map};
+ghost use Rattle.std.specs.Prelude.{ℕ, vec_len};
 ghost use Rattle.std.specs.List.{filter};
 ghost use Rattle.apollo_tree.specs.References.{node_place};
 ghost use Rattle.cost_limits.specs.Limits.{IsWithin};
 ghost use Rattle.cost_limits.specs.Measures.{as_measure};
 ghost use Rattle.cost_limits.specs.declared.measures.MeasureError.TheVariants.{Memory};
-ghost use Rattle.document_checks.specs.Checking.{AreWithin, IsChosenWithin, as_asked, is_chosen};
+ghost use Rattle.document_checks.specs.Checking.{as_asked, is_chosen};
+ghost use Rattle.document_checks.specs.Documents.{AllPass, AreInside, AreJudged, AreMeasured, IsFounded, numbers_of};
+ghost use Rattle.document_checks.specs.Passing.{HasWithin, IsThere};
 
+use crate::documents::{Document, text_of};
 use crate::report::{Checks, ExceededLimit, Finding, OperationReport, Report};
 use apollo_tree::SyntaxNode;
 use cost_figures::{Figures, Limit, Span};
@@ -49,19 +53,15 @@ fn name_of<'t>(measured: &OperationFigures<'t>) -> &'t str {
     measured.operation.operation_name().unwrap_or("")
 }
 
-fn figures_of(
+fn operation_report(
     alloc: Global,
-    operations: &[OperationFigures<'_>],
-) -> Result<Vec<OperationReport>, AllocError> {
-    let mut reports = Vec::new(alloc);
-    for measured in operations {
-        reports.push(OperationReport {
-            start: measured.operation.site.node.text_range().start(),
-            name: String::from_str(alloc, name_of(measured))?,
-            figures: measured.figures,
-        })?;
-    }
-    Ok(reports)
+    measured: &OperationFigures<'_>,
+) -> Result<OperationReport, AllocError> {
+    Ok(OperationReport {
+        start: measured.operation.site.node.text_range().start(),
+        name: String::from_str(alloc, name_of(measured))?,
+        figures: measured.figures,
+    })
 }
 
 // The words for a limit.
@@ -92,60 +92,95 @@ fn limit_finding(alloc: Global, exceeded: &Exceeded<'_>) -> Result<Finding, Allo
     Ok(finding)
 }
 
-// A finding for each operation that exceeds a limit: the first that it exceeds.
-fn exceeded_limits(
+// Adds a limit that is exceeded to the report of the operation's text.
+fn add_exceeded(
     alloc: Global,
-    operations: &[OperationFigures<'_>],
-    most: &Figures,
-) -> Result<Vec<Finding>, AllocError>
-    ensures { IfOk result (λ findings. (vec_len findings ≡ 0)
-        ↔ All (IsWithin most.now) (map as_measure operations.now)) }
+    exceeded: &Exceeded<'_>,
+    most: usize,
+    report: &mut Report,
+) -> Result<(), AllocError>
+    ensures passes { OnOk result (report.new.passes ≡ false) }
+    ensures found { OnOk result (0 < vec_len report.new.findings) }
 {
-    let mut findings = Vec::new(alloc);
-    for measured in operations {
-        if let Err(exceeded) = within(&[*measured], most) {
-            findings.push(limit_finding(alloc, &exceeded)?)?;
-        }
+    if !report.has_room(most) {
+        report.count_another();
+        return Ok(());
     }
-    Ok(findings)
+    let finding = limit_finding(alloc, exceeded)?;
+    report.add(finding)
 }
 
-// The report of a document that has no operation of the name.
-fn unknown_operation(alloc: Global, name: &str) -> Result<Report, AllocError>
-    ensures passes { IfOk result (λ report. report.passes ≡ false) }
-    ensures found { IfOk result (λ report. 0 < vec_len report.findings) }
+// Adds an operation to the report of its text, and the first limit that it exceeds, if it exceeds one.
+fn add_operation(
+    alloc: Global,
+    measured: &OperationFigures<'_>,
+    checks: &Checks<'_>,
+    report: &mut Report,
+) -> Result<(), AllocError>
+    ensures passes { OnOk result ((report.new.passes ≡ true)
+        ↔ ((report.old.passes ≡ true) × All (IsWithin checks.now.most) (as_measure measured.now ∷ []))) }
+    ensures found { OnOk result (IsFounded report.old → IsFounded report.new) }
 {
+    report.operations.push(operation_report(alloc, measured)?)?;
+    if let Err(exceeded) = within(&[*measured], &checks.most) {
+        add_exceeded(alloc, &exceeded, checks.findings, report)?;
+    }
+    Ok(())
+}
+
+// Adds operations to the reports of their texts.
+fn add_operations(
+    alloc: Global,
+    operations: &[OperationFigures<'_>],
+    documents: &[Document<'_>],
+    checks: &Checks<'_>,
+    reports: &mut [Report],
+) -> Result<(), AllocError>
+    requires inside { AreInside documents.now (length reports.old) }
+    requires passing { AllPass reports.old }
+    ensures { OnOk result
+        (AreJudged (HasWithin (numbers_of documents.now) checks.now.most (map as_measure operations.now))
+        reports.old reports.new) }
+{
+    for measured in operations {
+        let text = text_of(documents, measured.operation.site.document);
+        let report = &mut reports[text];
+        add_operation(alloc, measured, checks, report)?;
+    }
+    Ok(())
+}
+
+// What is found where no operation has the name.
+fn unknown_operation(alloc: Global, name: &str) -> Result<Finding, AllocError> {
     let message = format!(in alloc; "Unknown operation named \"{name}\".")?;
     let mut finding = Finding::of(0, 0, "KnownOperation", message);
     finding.operation = Some(String::from_str(alloc, name)?);
-    Report::of(alloc, finding)
+    Ok(finding)
 }
 
-// The report on operations that have these figures.
-#[tactic(auto, using(crate::proofs::Verdicts::missing, crate::proofs::Verdicts::judged))]
-fn limited(
+// Judges operations that have these figures.
+fn judge_figures(
     alloc: Global,
     operations: &[OperationFigures<'_>],
+    documents: &[Document<'_>],
     checks: &Checks<'_>,
-) -> Result<Report, AllocError>
-    ensures judged { IfOk result
-        (λ report. (report.passes ≡ true) ↔ IsChosenWithin (as_asked checks.now) (map as_measure operations.now)) }
-    ensures found { IfOk result (λ report. report.passes ≡ false → 0 < vec_len report.findings) }
+    reports: &mut [Report],
+) -> Result<(), AllocError>
+    requires inside { AreInside documents.now (length reports.old) }
+    requires passing { AllPass reports.old }
+    ensures within { OnOk result (IsThere (as_asked checks.now) (map as_measure operations.now)
+        → AreJudged (HasWithin (numbers_of documents.now) checks.now.most
+        (filter (is_chosen (as_asked checks.now).operation) (map as_measure operations.now)))
+        reports.old reports.new) }
+    ensures missing { OnOk result ((¬ IsThere (as_asked checks.now) (map as_measure operations.now))
+        → AreJudged (λ text. text ≢ 0) reports.old reports.new) }
 {
     let chosen = chosen(alloc, operations, checks.operation)?;
     if checks.operation.is_some() && chosen.is_empty() {
-        let report = unknown_operation(alloc, checks.operation.unwrap_or(""))?;
-        return Ok(report);
+        let finding = unknown_operation(alloc, checks.operation.unwrap_or(""))?;
+        return reports[0].add(finding);
     }
-    let findings = exceeded_limits(alloc, chosen.as_slice(), &checks.most)?;
-    let operations = figures_of(alloc, chosen.as_slice())?;
-    Ok(Report {
-        passes: findings.is_empty(),
-        findings,
-        more: 0,
-        at_least: false,
-        operations,
-    })
+    add_operations(alloc, chosen.as_slice(), documents, checks, reports)
 }
 
 // The place of an error, and what is wrong there; or memory was refused.
@@ -156,6 +191,7 @@ fn fault_of(error: MeasureError<'_>) -> Result<(Span, &'static str), AllocError>
         MeasureError::SameName(_, second) => {
             let range = second.site.node.text_range();
             let span = Span {
+                document: second.site.document,
                 start: range.start(),
                 end: range.end(),
             };
@@ -167,34 +203,41 @@ fn fault_of(error: MeasureError<'_>) -> Result<(Span, &'static str), AllocError>
     }
 }
 
-// The report of a document whose operations have no figures.
-fn unmeasured(alloc: Global, error: MeasureError<'_>) -> Result<Report, AllocError>
-    ensures passes { IfOk result (λ report. report.passes ≡ false) }
-    ensures found { IfOk result (λ report. 0 < vec_len report.findings) }
+// Adds why operations have no figures to the report of the text where that is.
+fn add_fault(
+    alloc: Global,
+    error: MeasureError<'_>,
+    documents: &[Document<'_>],
+    reports: &mut [Report],
+) -> Result<(), AllocError>
+    requires inside { AreInside documents.now (length reports.old) }
+    requires passing { AllPass reports.old }
     ensures memory { OnOk result (error.entry ≢ Memory) }
+    ensures failed { OnOk result ((k : ℕ) × (k < length reports.new)
+        × AreJudged (λ text. text ≢ k) reports.old reports.new) }
 {
     let (span, words) = fault_of(error)?;
     let message = String::from_str(alloc, words)?;
-    let finding = Finding::of(span.start, span.end, "Limits", message);
-    let report = Report::of(alloc, finding)?;
-    Ok(report)
+    let text = text_of(documents, span.document);
+    reports[text].add(Finding::of(span.start, span.end, "Limits", message))
 }
 
-/// The report on the operations of a document without errors, by the root of its tree.
-pub(crate) fn check_operations(
+/// Judges the operations of documents, whose roots are given too.
+pub(crate) fn judge_operations(
     alloc: Global,
-    document: &SyntaxNode<'_>,
+    roots: &[SyntaxNode<'_>],
+    documents: &[Document<'_>],
     checks: &Checks<'_>,
-) -> Result<Report, AllocError>
-    ensures judged { IfOk result
-        (λ report. (report.passes ≡ true) ↔ AreWithin (as_asked checks.now) (node_place document.now)) }
-    ensures found { IfOk result (λ report. report.passes ≡ false → 0 < vec_len report.findings) }
+    reports: &mut [Report],
+) -> Result<(), AllocError>
+    requires inside { AreInside documents.now (length reports.old) }
+    requires passing { AllPass reports.old }
+    ensures { OnOk result
+        (AreMeasured (as_asked checks.now) (map node_place roots.now) (numbers_of documents.now)
+        reports.old reports.new) }
 {
-    match measure(alloc, document) {
-        Ok(operations) => limited(alloc, operations.as_slice(), checks),
-        Err(error) => {
-            let report = unmeasured(alloc, error)?;
-            Ok(report)
-        }
+    match measure(alloc, roots) {
+        Ok(operations) => judge_figures(alloc, operations.as_slice(), documents, checks, reports),
+        Err(error) => add_fault(alloc, error, documents, reports),
     }
 }

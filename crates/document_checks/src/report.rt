@@ -1,5 +1,5 @@
 // What a text is checked against, and what is found.
-ghost use Rattle.std.specs.Prelude.{◌≡◌, ◌<◌, IfOk, true, false, vec_len};
+ghost use Rattle.std.specs.Prelude.{◌≡◌, ◌<◌, [], OnOk, true, false, vec_len};
 
 use apollo_parser::{BorrowedError, Limits};
 use apollo_tree::SyntaxNode;
@@ -22,6 +22,8 @@ pub struct Checks<'a> {
 /// A second place that a finding is about, as the first definition of a name.
 #[derive(Clone, Copy)]
 pub struct OtherPlace {
+    /// The number of the text that it is in, from 0.
+    pub text: usize,
     /// The byte offset at which it begins.
     pub start: usize,
     /// The byte offset behind it.
@@ -68,12 +70,12 @@ pub struct OperationReport {
     pub figures: Figures,
 }
 
-/// What is found of a text.
+/// What is found of a text among those that are judged together.
 #[derive(Drop)]
 pub struct Report {
-    /// Whether the text passes.
+    /// Whether nothing is found in it that keeps the texts from passing.
     pub passes: bool,
-    /// The first things that keep it from passing, in the order in which they are found: of errors the first of each
+    /// The first things that keep them from passing, in the order in which they are found: of errors the first of each
     /// definition.
     pub findings: Vec<Finding>,
     /// How many more there are.
@@ -87,7 +89,8 @@ pub struct Report {
 impl Report {
     /// The report of a text with nothing to check.
     pub(crate) fn of_nothing(alloc: Global) -> Report
-        ensures { result.passes ≡ true }
+        ensures passes { result.passes ≡ true }
+        ensures findings { result.findings.items ≡ [] }
     {
         Report {
             passes: true,
@@ -112,14 +115,30 @@ impl Report {
         }
     }
 
-    /// A report of one finding alone, for a text that does not pass.
-    pub(crate) fn of(alloc: Global, finding: Finding) -> Result<Report, AllocError>
-        ensures passes { IfOk result (λ report. report.passes ≡ false) }
-        ensures found { IfOk result (λ report. 0 < vec_len report.findings) }
+    /// Whether one more finding is listed, where `most` are at most, and the first always is.
+    pub(crate) fn has_room(&self, most: usize) -> bool
+        ensures { result ≡ false → 0 < vec_len self.now.findings }
     {
-        let mut findings = Vec::new(alloc);
-        findings.push(finding)?;
-        Ok(Report::failed(alloc, findings, 0))
+        self.findings.len() < most.max(1)
+    }
+
+    /// Adds a finding, with which the text does not pass.
+    pub(crate) fn add(&mut self, finding: Finding) -> Result<(), AllocError>
+        ensures passes { OnOk result (self.new.passes ≡ false) }
+        ensures found { OnOk result (0 < vec_len self.new.findings) }
+    {
+        self.passes = false;
+        self.findings.push(finding)?;
+        Ok(())
+    }
+
+    /// Counts a finding that is not listed.
+    pub(crate) fn count_another(&mut self)
+        ensures passes { self.new.passes ≡ false }
+        ensures found { self.new.findings.items ≡ self.old.findings.items }
+    {
+        self.passes = false;
+        self.more = self.more.saturating_add(1);
     }
 }
 

@@ -1,5 +1,5 @@
-//! `gqlcheck` checks GraphQL documents before they run: that each is a document, valid by the rules of `validate`, and
-//! within limits.
+//! `gqlcheck` checks GraphQL documents before they run: that each is a document, that all of them together are valid by
+//! the rules of `validate`, and that their operations are within limits.
 //!
 //! Here are only the words, the standard devices and the exit status. What is done between them is `run` of
 //! `gqlcheck_run`.

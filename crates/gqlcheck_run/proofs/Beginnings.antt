@@ -10,7 +10,7 @@ use Rattle.document_checks.specs.Findings.{AreFindings}
 use Rattle.document_checks.specs.declared.report.Finding.{Finding}
 use Rattle.command_lines.specs.declared.gqlcheck.Format.{Format}
 use Rattle.command_lines.specs.declared.gqlcheck.Format.TheVariants.{Sarif}
-use Rattle.gqlcheck_run.specs.Places.{BeginsWithJson, BeginsWithLine, BeginsWithResult, IsAboutFirst}
+use Rattle.gqlcheck_run.specs.Places.{BeginsWithLine, BeginsWithResult, IsAboutFirst}
 use Rattle.gqlcheck_run.specs.Rendering.{BeginsAtFirst}
 use Rattle.gqlcheck_run.specs.SarifResults.{artifact_uri}
 
@@ -29,11 +29,6 @@ line_kept before value old new grown first = record {
       ∙ append_assoc before (first.line ++ 10 ∷ first.rest) grown.rest
       ∙ ap (λ (t : List ℕ). before ++ t) (append_assoc first.line (10 ∷ first.rest) grown.rest);
 }
-
-pub json_kept : (name source : List ℕ) (offset : ℕ) (old new : List ℕ) → BeginsWith new old
-    → BeginsWithJson name source offset old
-    → BeginsWithJson name source offset new
-json_kept name source offset old new grown first = (first.0, line_kept _ _ old new grown first.1)
 
 pub result_kept : (uri source : List ℕ) (offset : ℕ) (old new : List ℕ) → BeginsWith new old
     → BeginsWithResult uri source offset old

@@ -3,3 +3,4 @@ pub mod Beginnings
 pub mod Openings
 pub mod Lines
 pub mod Quiet
+pub mod Judged

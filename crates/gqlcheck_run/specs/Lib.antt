@@ -1,10 +1,13 @@
 pub mod Ending
 pub mod Framing
 pub mod GithubCommands
+pub mod Inputs
 pub mod JsonLines
+pub mod Judging
 pub mod Numbers
 pub mod Places
 pub mod Program
+pub mod Reading
 pub mod Rendering
 pub mod SarifResults
 pub mod Titles

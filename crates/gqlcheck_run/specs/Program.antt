@@ -1,28 +1,24 @@
 -- What a run of the program does, by the request in its words.
-use Rattle.std.specs.Prelude.{◌≡◌, ◌⊎◌, ℕ, zero, suc, Bool, List, [], ◌∷◌, codes, Option, Some, None, Result, Err}
+use Rattle.std.specs.Prelude.{◌≡◌, ◌⊎◌, ℕ, zero, suc, max, List, [], codes, Option, Some, None, Result}
 use Rattle.std.specs.declared.io.Error.{Error}
 use Rattle.byte_streams.specs.Devices.{Account}
-use Rattle.byte_streams.specs.Runs.{Reads, Writes}
-use Rattle.byte_streams.specs.declared.fault.Fault.{Fault}
 use Rattle.document_checks.specs.Checking.{Asked}
 use Rattle.file_access.specs.Listing.{Listing}
-use Rattle.named_files.specs.Finding.{FoundPath, file, unreadable, path_of}
-use Rattle.named_files.specs.Handling.{Desk, HandlesNamed, InTurn, ReadsAndWrites, State, desk, streams}
+use Rattle.named_files.specs.Handling.{State, streams}
 use Rattle.command_lines.specs.Gqlcheck.{format_of, most_of, operation_of, request_of}
 use Rattle.command_lines.specs.Misuse.{IsAmong}
 use Rattle.command_lines.specs.Options.{Given, is_set, limits_of}
-use Rattle.command_lines.specs.Streams.{Streams, OnlyPrints, OnlySays, OnlyExplains, no_memory}
-use Rattle.command_lines.specs.declared.complaints.FileFault.{FileFault}
-use Rattle.command_lines.specs.declared.complaints.FileFault.TheVariants.{NotRead}
+use Rattle.command_lines.specs.Streams.{OnlyPrints, OnlySays, OnlyExplains, no_memory}
 use Rattle.command_lines.specs.declared.information.Request.{Request}
 use Rattle.command_lines.specs.declared.information.Request.TheVariants.{Print, Process}
 use Rattle.command_lines.specs.declared.information.Information.{Information}
 use Rattle.command_lines.specs.declared.information.Information.TheVariants.{Help, Version}
 use Rattle.gqlcheck_run.specs.declared.command.TheConstants.{PROGRAM, USAGE, HELP, VERSION}
 use Rattle.gqlcheck_run.specs.declared.job.Printing.{Printing}
-use Rattle.gqlcheck_run.specs.declared.texts.TheConstants.{INPUT}
-use Rattle.gqlcheck_run.specs.Ending.{IsOutput, Says, SaysOfFile, status_of}
 use Rattle.gqlcheck_run.specs.Framing.{Closes, opening}
+use Rattle.gqlcheck_run.specs.Inputs.{Input}
+use Rattle.gqlcheck_run.specs.Judging.{JudgesTexts}
+use Rattle.gqlcheck_run.specs.Reading.{ReadsTexts}
 
 abbrev pub information_text : Information → List ℕ
 information_text Help = HELP.now
@@ -36,46 +32,22 @@ asked_by given = record { limits = limits_of given; most = most_of given; operat
 abbrev pub printing_of : Given → Printing
 printing_of given = record { figures = is_set (codes "--figures") given; format = format_of given }
 
--- Standard input is read and checked, what comes of that is written, and why it was not checked is said.
-pub record ChecksInput (asked : Asked) (printing : Printing) (status : ℕ) (old new : Streams) : Type 0 where
-  pub ended : Result Bool Fault
-  pub input : List ℕ
-  pub reads : Reads ended input old.input new.input
-  pub writes : Writes (IsOutput asked printing INPUT.now) ended input old.output new.output
-  pub says : Says INPUT.now ended old.complaints new.complaints
-  pub counted : status ≡ status_of ended
-
--- the files, as a trait tells what reading one does
-module _ {S : Type 0} (reads : S → List ℕ → Result (List ℕ) Error → S → Type 0) (asked : Asked)
-    (printing : Printing) where
-  -- A file that was found is checked, and a path that could not be read is left alone.
-  abbrev pub HandlesFound : FoundPath → Result Bool FileFault → S → Account → S → Account → Type 0
-  HandlesFound (file path) ended old output new output' =
-      ReadsAndWrites (IsOutput asked printing path) reads path ended old output new output'
-  HandlesFound (unreadable path) (Err (NotRead error)) old output new output' = (new ≡ old) × (output' ≡ output)
-  HandlesFound found_path ended old output new output' = ⊥
-
-  -- That is done, and why it was not checked is said.
-  pub record ChecksFound (found_path : FoundPath) (status : ℕ) (old new : Desk S) : Type 0 where
-    pub ended : Result Bool FileFault
-    pub handles : HandlesFound found_path ended old.files old.output new.files new.output
-    pub says : SaysOfFile (path_of found_path) ended old.complaints new.complaints
-    pub counted : status ≡ status_of ended
-
--- the same, as a trait tells what listing a folder does, too
+-- the files, as a trait tells what listing a folder and reading a file do
 module _ {S : Type 0} (lists : S → List ℕ → Listing → S → Type 0)
     (reads : S → List ℕ → Result (List ℕ) Error → S → Type 0) where
-  -- the files that these paths name are checked, one path after the other
-  abbrev pub ChecksPaths : Asked → Printing → List (List ℕ) → ℕ → Desk S → Desk S → Type 0
-  ChecksPaths asked printing paths status old new =
-      InTurn (HandlesNamed lists PROGRAM.now (ChecksFound reads asked printing)) paths status old new
-
-  -- or standard input where there are none
-  abbrev pub ChecksTexts : Asked → Printing → List (List ℕ) → ℕ → State S → State S → Type 0
-  ChecksTexts asked printing [] status old new =
-      ChecksInput asked printing status (streams old) (streams new) × (new.files ≡ old.files)
-  ChecksTexts asked printing (path ∷ paths) status old new =
-      ChecksPaths asked printing (path ∷ paths) status (desk old) (desk new) × (new.input ≡ old.input)
+  -- The texts are read, and those that were are judged together. The status is the greater of both.
+  pub record ChecksTexts (asked : Asked) (printing : Printing) (paths : List (List ℕ)) (status : ℕ)
+      (old new : State S) : Type 0 where
+    pub inputs : List Input
+    pub complaints : Account
+    pub read : ℕ
+    pub reads_all : ReadsTexts lists reads paths read old.input new.input
+        (record { files = old.files; complaints = old.complaints; inputs = [] })
+        (record { files = new.files; complaints = complaints; inputs = inputs })
+    pub found : ℕ
+    pub judges : JudgesTexts asked printing inputs found (record { output = old.output; complaints = complaints })
+        (record { output = new.output; complaints = new.complaints })
+    pub greater : status ≡ max read found
 
   -- That is done, and what comes after the texts is printed.
   pub record ChecksAndCloses (asked : Asked) (printing : Printing) (paths : List (List ℕ)) (status : ℕ)

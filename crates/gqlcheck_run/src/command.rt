@@ -12,14 +12,16 @@ pub const USAGE: &str = "usage: gqlcheck [OPTION..] [FILE..]\n";
 /// What it does, and its options.
 pub const HELP: &str = "usage: gqlcheck [OPTION..] [FILE..]
 
-Checks GraphQL documents before they run: that each is a document, keeps the
-rules that need no schema, and has operations within limits. Of a schema it
-checks only that no definition has two fields, arguments, values, members or
-interfaces of one name. Without FILE, or where FILE is -, it reads standard
-input. A FILE that is a folder means the files below it that end in .graphql,
-.graphqls or .gql, but for hidden names, node_modules and symbolic links. It
-prints what it finds and changes no file. A FILE without definitions passes,
-unless an operation is named.
+Checks GraphQL documents before they run: that each is a document, that all of
+them together keep the rules that need no schema, and that their operations are
+within limits. So an operation may spread a fragment of another FILE, and two
+FILEs must not define one name. Where a FILE is no document, only errors of that
+sort are found. Of a schema it checks only that no definition has two fields,
+arguments, values, members or interfaces of one name. Without FILE, or where
+FILE is -, it reads standard input. A FILE that is a folder means the files
+below it that end in .graphql, .graphqls or .gql, but for hidden names,
+node_modules and symbolic links. It prints what it finds and changes no file.
+Files without definitions pass, unless an operation is named.
 
   --max-depth N       fields in one another
   --max-fields N      fields, with each fragment counted where it is spread

@@ -1,66 +1,57 @@
-// Checking the files that paths of the command line name.
-ghost use Rattle.std.specs.Prelude.{◌≡◌};
-ghost use Rattle.document_checks.specs.Checking.{as_asked};
+// Reading the files that paths of the command line name.
+ghost use Rattle.std.specs.Prelude.{◌≡◌, map};
 ghost use Rattle.command_lines.specs.Words.{texts};
-ghost use Rattle.named_files.specs.Handling.{HandlesNamed};
-ghost use Rattle.gqlcheck_run.specs.Program.{ChecksFound, ChecksPaths};
+ghost use Rattle.named_files.specs.Handling.{InTurn};
+ghost use Rattle.gqlcheck_run.specs.Inputs.{as_input};
+ghost use Rattle.gqlcheck_run.specs.Reading.{ReadsPath};
 
 use crate::command::PROGRAM;
-use crate::job::Job;
-use crate::tally::Tally;
+use crate::files::read_files;
+use crate::inputs::Input;
 use byte_streams::{Fault, Sink};
 use command_lines::complaints::tell;
-use document_checks::DocumentChecker;
 use file_access::Files;
 use named_files::named_files;
 use std::alloc::Allocator;
 
-impl<A: Allocator + Copy, C: DocumentChecker> Job<'_, '_, A, C> {
-    // Checks the files that a path names, and gives the greatest of their statuses.
-    fn check_path<F: Files, W: Sink, E: Sink>(
-        &self,
-        files: &mut F,
-        writer: &mut W,
-        complaints: &mut E,
-        tally: &mut Tally,
-        path: &str,
-    ) -> u8
-        ensures checks { HandlesNamed F.lists PROGRAM.now
-            (ChecksFound F.reads (as_asked self.now.checks) self.now.printing) path.now result
-            (record { files = files.old; output = W.account writer.old; complaints = E.account complaints.old })
-            (record { files = files.new; output = W.account writer.new; complaints = E.account complaints.new }) }
-        ensures quiet { result ≡ 0 → tally.new.errors ≡ tally.old.errors }
-    {
-        match named_files(self.alloc, files, path) {
-            Ok(found) => self.check_files(files, writer, complaints, tally, found.as_slice()),
-            Err(_) => {
-                tell(self.alloc, PROGRAM, complaints, path, Fault::Memory);
-                2
-            }
+// Reads the files that a path names, and gives the greatest of their statuses.
+fn read_path<A: Allocator + Copy, F: Files, E: Sink>(
+    alloc: A,
+    files: &mut F,
+    complaints: &mut E,
+    inputs: &mut Vec<Input<A>, A>,
+    path: &str,
+) -> u8
+    ensures { ReadsPath F.lists F.reads path.now result
+        (record { files = files.old; complaints = E.account complaints.old; inputs = map as_input inputs.old.items })
+        (record { files = files.new; complaints = E.account complaints.new; inputs = map as_input inputs.new.items }) }
+{
+    match named_files(alloc, files, path) {
+        Ok(found) => read_files(alloc, files, complaints, inputs, found.as_slice()),
+        Err(_) => {
+            tell(alloc, PROGRAM, complaints, path, Fault::Memory);
+            2
         }
     }
+}
 
-    /// Checks the files that these paths name in order, also after one that is not read, and gives the greatest of
-    /// their statuses.
-    pub fn check_paths<F: Files, W: Sink, E: Sink>(
-        &self,
-        files: &mut F,
-        writer: &mut W,
-        complaints: &mut E,
-        tally: &mut Tally,
-        paths: &[&str],
-    ) -> u8
-        ensures checks { ChecksPaths F.lists F.reads (as_asked self.now.checks) self.now.printing
-            (texts paths.now) result
-            (record { files = files.old; output = W.account writer.old; complaints = E.account complaints.old })
-            (record { files = files.new; output = W.account writer.new; complaints = E.account complaints.new }) }
-        ensures quiet { result ≡ 0 → tally.new.errors ≡ tally.old.errors }
-    {
-        let mut status = 0;
-        for path in paths {
-            let one = self.check_path(files, writer, complaints, tally, path);
-            status = status.max(one);
-        }
-        status
+/// Reads the files that these paths name in order, also after one that is not read, adds their texts, and gives the
+/// greatest of their statuses, of which each is 0 or 2.
+pub fn read_paths<A: Allocator + Copy, F: Files, E: Sink>(
+    alloc: A,
+    files: &mut F,
+    complaints: &mut E,
+    inputs: &mut Vec<Input<A>, A>,
+    paths: &[&str],
+) -> u8
+    ensures { InTurn (ReadsPath F.lists F.reads) (texts paths.now) result
+        (record { files = files.old; complaints = E.account complaints.old; inputs = map as_input inputs.old.items })
+        (record { files = files.new; complaints = E.account complaints.new; inputs = map as_input inputs.new.items }) }
+{
+    let mut status = 0;
+    for path in paths {
+        let one = read_path(alloc, files, complaints, inputs, path);
+        status = status.max(one);
     }
+    status
 }

@@ -7,6 +7,7 @@ ghost use Rattle.gqlcheck_run.specs.GithubCommands.{property_byte};
 ghost use Rattle.gqlcheck_run.specs.Numbers.{capped};
 ghost use Rattle.gqlcheck_run.specs.Rendering.{BeginsAtFirst};
 
+use crate::others::Others;
 use crate::places::{column_of, line_of, offset_within, part_between};
 use crate::tally::words_before;
 use document_checks::{Finding, OtherPlace, Report};
@@ -107,21 +108,18 @@ fn push_message<A: Allocator + Copy>(
     Ok(())
 }
 
-// The other place, if there is one, on a line of its own in the message.
-fn push_other<A: Allocator + Copy>(
+// The other place of a finding, in the text of this name, on a line of its own in the message.
+fn push_place_in<A: Allocator + Copy>(
     alloc: A,
     lines: &mut Vec<u8, A>,
     name: &str,
     source: &str,
     index: &LineIndex<'_, A>,
-    other: Option<OtherPlace>,
+    other: OtherPlace,
 ) -> Result<(), AllocError>
     requires { index.now ≡ source.now }
     ensures { OnOk result (BeginsWith lines.new.items lines.old.items) }
 {
-    let Some(other) = other else {
-        return Ok(());
-    };
     let start = offset_within(source, other.start);
     let (line, column) = (
         line_of(source, index, start),
@@ -135,11 +133,43 @@ fn push_other<A: Allocator + Copy>(
     Ok(())
 }
 
+// The other place, if there is one, in the text of this name or in another.
+fn push_other<A: Allocator + Copy>(
+    lines: &mut Vec<u8, A>,
+    others: &Others<'_, A>,
+    name: &str,
+    source: &str,
+    index: &LineIndex<'_, A>,
+    other: Option<OtherPlace>,
+) -> Result<(), AllocError>
+    requires { index.now ≡ source.now }
+    ensures { OnOk result (BeginsWith lines.new.items lines.old.items) }
+{
+    let Some(other) = other else {
+        return Ok(());
+    };
+    match others.elsewhere(other) {
+        Some(input) => {
+            let source = input.text.as_str();
+            let index = LineIndex::new(others.alloc, source)?;
+            push_place_in(
+                others.alloc,
+                lines,
+                input.name.as_str(),
+                source,
+                &index,
+                other,
+            )
+        }
+        None => push_place_in(others.alloc, lines, name, source, index, other),
+    }
+}
+
 // The line of a finding.
 #[tactic(auto, using(marked_lines::proofs::Fronts::begins_through))]
 fn push_finding<A: Allocator + Copy>(
-    alloc: A,
     lines: &mut Vec<u8, A>,
+    others: &Others<'_, A>,
     name: &str,
     source: &str,
     index: &LineIndex<'_, A>,
@@ -154,9 +184,9 @@ fn push_finding<A: Allocator + Copy>(
     let part = part_between(source, finding.start, finding.end);
     let line = line_of(source, index, part.start);
     let column = column_of(source, index, part.start);
-    push_error_at(alloc, lines, name, line, column)?;
-    push_message(alloc, lines, source, index, part.end, finding)?;
-    push_other(alloc, lines, name, source, index, finding.other)?;
+    push_error_at(others.alloc, lines, name, line, column)?;
+    push_message(others.alloc, lines, source, index, part.end, finding)?;
+    push_other(lines, others, name, source, index, finding.other)?;
     lines.push(b'\n')?;
     Ok(())
 }
@@ -181,20 +211,21 @@ fn push_more<A: Allocator + Copy>(
     Ok(())
 }
 
-/// The report on a text of this name: a command for each finding, and a notice of those that are left out, if some are.
+/// The report on a text of this name, one of several: a command for each finding, and a notice of those that are left
+/// out, if some are.
 pub fn commands<A: Allocator + Copy>(
-    alloc: A,
+    others: &Others<'_, A>,
     name: &str,
     source: &str,
     report: &Report,
 ) -> Result<Vec<u8, A>, AllocError>
     ensures { IfOk result (λ output. BeginsAtFirst Github name.now source.now report.now.findings.items output.items) }
 {
-    let index = LineIndex::new(alloc, source)?;
-    let mut lines = Vec::new(alloc);
+    let index = LineIndex::new(others.alloc, source)?;
+    let mut lines = Vec::new(others.alloc);
     for finding in &report.findings {
-        push_finding(alloc, &mut lines, name, source, &index, finding)?;
+        push_finding(&mut lines, others, name, source, &index, finding)?;
     }
-    push_more(alloc, &mut lines, name, report)?;
+    push_more(others.alloc, &mut lines, name, report)?;
     Ok(lines)
 }

@@ -9,6 +9,7 @@ ghost use Rattle.gqlcheck_run.specs.Rendering.{BeginsAtFirst};
 use crate::json_members::{
     begun, close_object, ended, open_object, put_end, put_flag, put_number, put_text,
 };
+use crate::others::Others;
 use crate::places::{Part, column_of, line_of, offset_within, part_between};
 use document_checks::{ExceededLimit, Finding, Limit, OperationReport, OtherPlace, Report};
 use json::Writer;
@@ -65,9 +66,31 @@ fn put_extent<A: Allocator>(
     Ok(())
 }
 
-// The other place, if there is one.
-fn put_other<A: Allocator>(
+// The other place of a finding, in the text of this name.
+fn put_place_in<A: Allocator>(
     out: &mut Writer<A>,
+    name: &str,
+    source: &str,
+    index: &LineIndex<'_, A>,
+    other: OtherPlace,
+) -> Result<(), AllocError>
+    requires { index.now ≡ source.now }
+    ensures { IfOk result (λ _. AddsMembers out.old out.new) }
+{
+    let part = part_between(source, other.start, other.end);
+    open_object(out, "other")?;
+    put_position(out, name, source, index, part.start)?;
+    put_extent(out, source, index, part)?;
+    put_text(out, "message", other.words)?;
+    close_object(out)?;
+    Ok(())
+}
+
+// The other place, if there is one, in the text of this name or in another.
+#[tactic(auto, using(crate::proofs::Members::none))]
+fn put_other<A: Allocator + Copy>(
+    out: &mut Writer<A>,
+    others: &Others<'_, A>,
     name: &str,
     source: &str,
     index: &LineIndex<'_, A>,
@@ -79,13 +102,14 @@ fn put_other<A: Allocator>(
     let Some(other) = other else {
         return Ok(());
     };
-    let part = part_between(source, other.start, other.end);
-    open_object(out, "other")?;
-    put_position(out, name, source, index, part.start)?;
-    put_extent(out, source, index, part)?;
-    put_text(out, "message", other.words)?;
-    close_object(out)?;
-    Ok(())
+    match others.elsewhere(other) {
+        Some(input) => {
+            let source = input.text.as_str();
+            let index = LineIndex::new(others.alloc, source)?;
+            put_place_in(out, input.name.as_str(), source, &index, other)
+        }
+        None => put_place_in(out, name, source, index, other),
+    }
 }
 
 // The operation, if the finding concerns one.
@@ -118,8 +142,9 @@ fn put_limit<A: Allocator>(
 }
 
 // What is found.
-fn put_finding<A: Allocator>(
+fn put_finding<A: Allocator + Copy>(
     out: &mut Writer<A>,
+    others: &Others<'_, A>,
     name: &str,
     source: &str,
     index: &LineIndex<'_, A>,
@@ -131,15 +156,16 @@ fn put_finding<A: Allocator>(
     put_text(out, "rule", finding.rule)?;
     put_text(out, "severity", "error")?;
     put_text(out, "message", finding.message.as_str())?;
-    put_other(out, name, source, index, finding.other)?;
+    put_other(out, others, name, source, index, finding.other)?;
     put_operation(out, finding)?;
     put_limit(out, finding.limit)?;
     Ok(())
 }
 
 // The line of a finding.
-fn finding_line<A: Allocator>(
+fn finding_line<A: Allocator + Copy>(
     lines: Vec<u8, A>,
+    others: &Others<'_, A>,
     name: &str,
     source: &str,
     index: &LineIndex<'_, A>,
@@ -155,7 +181,7 @@ fn finding_line<A: Allocator>(
     let mut out = begun(lines)?;
     put_position(&mut out, name, source, index, part.start)?;
     put_extent(&mut out, source, index, part)?;
-    put_finding(&mut out, name, source, index, finding)?;
+    put_finding(&mut out, others, name, source, index, finding)?;
     ended(out)
 }
 
@@ -210,8 +236,8 @@ fn operation_line<A: Allocator>(
 }
 
 // A line for each finding.
-fn finding_lines<A: Allocator>(
-    alloc: A,
+fn finding_lines<A: Allocator + Copy>(
+    others: &Others<'_, A>,
     name: &str,
     source: &str,
     index: &LineIndex<'_, A>,
@@ -220,9 +246,9 @@ fn finding_lines<A: Allocator>(
     requires { index.now ≡ source.now }
     ensures { IfOk result (λ lines. BeginsAtFirst Json name.now source.now findings.now lines.items) }
 {
-    let mut lines = Vec::new(alloc);
+    let mut lines = Vec::new(others.alloc);
     for finding in findings {
-        lines = finding_line(lines, name, source, index, finding)?;
+        lines = finding_line(lines, others, name, source, index, finding)?;
     }
     Ok(lines)
 }
@@ -245,10 +271,10 @@ fn operation_lines<A: Allocator>(
     Ok(lines)
 }
 
-/// The report on a text of this name: a line for each finding, one with the number of those that are left out, if some
-/// are, and, if they are wanted, one for the figures of each operation.
+/// The report on a text of this name, one of several: a line for each finding, one with the number of those that are
+/// left out, if some are, and, if they are wanted, one for the figures of each operation.
 pub fn json_lines<A: Allocator + Copy>(
-    alloc: A,
+    others: &Others<'_, A>,
     name: &str,
     source: &str,
     report: &Report,
@@ -256,8 +282,8 @@ pub fn json_lines<A: Allocator + Copy>(
 ) -> Result<Vec<u8, A>, AllocError>
     ensures { IfOk result (λ output. BeginsAtFirst Json name.now source.now report.now.findings.items output.items) }
 {
-    let index = LineIndex::new(alloc, source)?;
-    let mut lines = finding_lines(alloc, name, source, &index, report.findings.as_slice())?;
+    let index = LineIndex::new(others.alloc, source)?;
+    let mut lines = finding_lines(others, name, source, &index, report.findings.as_slice())?;
     if report.more > 0 {
         lines = more_line(lines, name, report)?;
     }

@@ -1,12 +1,16 @@
 // A run of the program.
-ghost use Rattle.std.specs.Prelude.{◌≡◌};
+ghost use Rattle.std.specs.Prelude.{◌≡◌, map};
 ghost use Rattle.document_checks.specs.Checking.{as_asked};
 ghost use Rattle.command_lines.specs.Words.{texts};
 ghost use Rattle.command_lines.specs.Reading.{as_given};
+ghost use Rattle.gqlcheck_run.specs.Inputs.{as_input};
+ghost use Rattle.gqlcheck_run.specs.Reading.{ReadsTexts};
 ghost use Rattle.gqlcheck_run.specs.Program.{ChecksAll, ChecksTexts, Runs, asked_by, information_text, printing_of};
 
 use crate::command::{HELP, PROGRAM, USAGE, VERSION};
+use crate::folders::read_paths;
 use crate::framing::{close, opening};
+use crate::inputs::{Input, read_input};
 use crate::job::{Job, Printing};
 use crate::tally::Tally;
 use byte_streams::{Sink, Source};
@@ -36,6 +40,26 @@ fn information_text(page: Information) -> &'static str
     }
 }
 
+// Reads the files that these paths name, or standard input where there are none, and gives the status.
+fn read_texts<A: Allocator + Copy, R: Source, E: Sink, F: Files>(
+    alloc: A,
+    reader: &mut R,
+    complaints: &mut E,
+    files: &mut F,
+    inputs: &mut Vec<Input<A>, A>,
+    paths: &[&str],
+) -> u8
+    ensures { ReadsTexts F.lists F.reads (texts paths.now) result
+        (R.account reader.old) (R.account reader.new)
+        (record { files = files.old; complaints = E.account complaints.old; inputs = map as_input inputs.old.items })
+        (record { files = files.new; complaints = E.account complaints.new; inputs = map as_input inputs.new.items }) }
+{
+    match paths {
+        [] => read_input(alloc, reader, complaints, inputs),
+        _ => read_paths(alloc, files, complaints, inputs, paths),
+    }
+}
+
 impl<'c, 'w, A: Allocator + Copy, C: DocumentChecker> Job<'c, 'w, A, C> {
     // What a run of this plan does with each text.
     fn of(alloc: A, checker: &'c C, plan: &Plan<'w, A>) -> Job<'c, 'w, A, C>
@@ -58,7 +82,8 @@ impl<'c, 'w, A: Allocator + Copy, C: DocumentChecker> Job<'c, 'w, A, C> {
         }
     }
 
-    // Checks the files that these paths name, or standard input where there are none, and gives the status.
+    // Reads the files that these paths name, or standard input where there are none, checks them together, and gives
+    // the status.
     fn check_texts<R: Source, W: Sink, E: Sink, F: Files>(
         &self,
         reader: &mut R,
@@ -84,10 +109,10 @@ impl<'c, 'w, A: Allocator + Copy, C: DocumentChecker> Job<'c, 'w, A, C> {
             }) }
         ensures quiet { result ≡ 0 → tally.new.errors ≡ tally.old.errors }
     {
-        match paths {
-            [] => self.check_input(reader, writer, complaints, tally),
-            _ => self.check_paths(files, writer, complaints, tally, paths),
-        }
+        let mut inputs = Vec::new(self.alloc);
+        let read = read_texts(self.alloc, reader, complaints, files, &mut inputs, paths);
+        let found = self.check_inputs(writer, complaints, tally, inputs.as_slice());
+        read.max(found)
     }
 
     // Does that between what comes before the texts and what comes after them, and gives the status of the run.
@@ -124,11 +149,11 @@ impl<'c, 'w, A: Allocator + Copy, C: DocumentChecker> Job<'c, 'w, A, C> {
     }
 }
 
-/// Carries out the request in the words after the program's name, and gives the status: 0 when all texts pass, 1 when
-/// one does not, 2 when something could not be read or written, memory was refused, or the program is not called so.
-/// Nothing is said on standard error but with status 2, and a text that passes prints nothing but its figures, if they
-/// are wanted. A SARIF log is one object for all texts: it is begun before the first and ended after the last. No file
-/// is changed.
+/// Carries out the request in the words after the program's name, and gives the status: 0 when all texts are read and
+/// pass together, 1 when they do not, 2 when something could not be read or written, memory was refused, or the program
+/// is not called so. Texts that are not read do not keep the others from being judged. Nothing is said on standard
+/// error but with status 2, and a text in which nothing is found prints nothing but its figures, if they are wanted. A
+/// SARIF log is one object for all texts: it is begun before the first and ended after the last. No file is changed.
 pub fn run<A: Allocator + Copy, C: DocumentChecker, R: Source, W: Sink, E: Sink, F: Files>(
     alloc: A,
     checker: &C,

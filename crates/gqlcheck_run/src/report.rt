@@ -5,6 +5,7 @@ ghost use Rattle.command_lines.specs.declared.gqlcheck.Format.TheVariants.{Text}
 ghost use Rattle.gqlcheck_run.specs.Rendering.{BeginsAtFirst};
 ghost use Rattle.gqlcheck_run.specs.Titles.{title_of};
 
+use crate::others::Others;
 use crate::places::{offset_within, part_between};
 use crate::tally::words_before;
 use document_checks::{Figures, Finding, Limit, OperationReport, OtherPlace, Report};
@@ -12,20 +13,17 @@ use line_index::LineIndex;
 use marked_lines::{Remark, push_escaped, push_message, push_place};
 use std::alloc::{AllocError, Allocator};
 
-// The other place, if there is one, and the line of the text with it marked.
-fn push_other<'t, A: Allocator>(
+// The other place of a finding, in the text of this name, and the line of the text with it marked.
+fn push_place_in<'t, A: Allocator>(
     text: &mut String<A>,
     name: &str,
     source: &'t str,
     index: &LineIndex<'_, A>,
-    other: Option<OtherPlace>,
+    other: OtherPlace,
 ) -> Result<(), AllocError>
     requires { index.now ≡ source.now }
     ensures { IfOk result (λ _. BeginsWith (string_bytes text.new) (string_bytes text.old)) }
 {
-    let Some(other) = other else {
-        return Ok(());
-    };
     let part = part_between(source, other.start, other.end);
     let remark = Remark {
         offset: part.start,
@@ -36,10 +34,36 @@ fn push_other<'t, A: Allocator>(
     Ok(())
 }
 
+// The other place, if there is one, in the text of this name or in another.
+fn push_other<A: Allocator + Copy>(
+    text: &mut String<A>,
+    others: &Others<'_, A>,
+    name: &str,
+    source: &str,
+    index: &LineIndex<'_, A>,
+    other: Option<OtherPlace>,
+) -> Result<(), AllocError>
+    requires { index.now ≡ source.now }
+    ensures { IfOk result (λ _. BeginsWith (string_bytes text.new) (string_bytes text.old)) }
+{
+    let Some(other) = other else {
+        return Ok(());
+    };
+    match others.elsewhere(other) {
+        Some(input) => {
+            let source = input.text.as_str();
+            let index = LineIndex::new(others.alloc, source)?;
+            push_place_in(text, input.name.as_str(), source, &index, other)
+        }
+        None => push_place_in(text, name, source, index, other),
+    }
+}
+
 // The finding with its rule, and the line of the text with its place marked; then the same of the other place.
 #[tactic(auto, using(marked_lines::proofs::Fronts::begins_through))]
-fn push_finding<'t, A: Allocator>(
+fn push_finding<'t, A: Allocator + Copy>(
     text: &mut String<A>,
+    others: &Others<'_, A>,
     name: &str,
     source: &'t str,
     index: &LineIndex<'_, A>,
@@ -56,7 +80,7 @@ fn push_finding<'t, A: Allocator>(
         marked: source.get(part.start..part.end).unwrap_or(""),
     };
     push_message(text, name, index, &remark)?;
-    push_other(text, name, source, index, finding.other)?;
+    push_other(text, others, name, source, index, finding.other)?;
     Ok(())
 }
 
@@ -78,8 +102,8 @@ fn push_more<A: Allocator>(
 }
 
 // The findings, and how many more there are.
-fn findings_text<A: Allocator>(
-    alloc: A,
+fn findings_text<A: Allocator + Copy>(
+    others: &Others<'_, A>,
     name: &str,
     source: &str,
     index: &LineIndex<'_, A>,
@@ -89,9 +113,9 @@ fn findings_text<A: Allocator>(
     ensures { IfOk result (λ text. BeginsAtFirst Text name.now source.now report.now.findings.items
         (string_bytes text)) }
 {
-    let mut text = String::new(alloc);
+    let mut text = String::new(others.alloc);
     for finding in &report.findings {
-        push_finding(&mut text, name, source, index, finding)?;
+        push_finding(&mut text, others, name, source, index, finding)?;
     }
     push_more(&mut text, name, report)?;
     Ok(text)
@@ -158,10 +182,10 @@ fn push_operations<A: Allocator>(
     Ok(())
 }
 
-/// The report on a text of this name: for each finding a line `NAME:LINE:COLUMN: MESSAGE`, and below it the line of the
-/// text with the place marked; then, if they are wanted, a line with the figures of each operation.
+/// The report on a text of this name, one of several: for each finding a line `NAME:LINE:COLUMN: MESSAGE`, and below it
+/// the line of the text with the place marked; then, if they are wanted, a line with the figures of each operation.
 pub fn rendered<A: Allocator + Copy>(
-    alloc: A,
+    others: &Others<'_, A>,
     name: &str,
     source: &str,
     report: &Report,
@@ -169,8 +193,8 @@ pub fn rendered<A: Allocator + Copy>(
 ) -> Result<Vec<u8, A>, AllocError>
     ensures { IfOk result (λ output. BeginsAtFirst Text name.now source.now report.now.findings.items output.items) }
 {
-    let index = LineIndex::new(alloc, source)?;
-    let mut text = findings_text(alloc, name, source, &index, report)?;
+    let index = LineIndex::new(others.alloc, source)?;
+    let mut text = findings_text(others, name, source, &index, report)?;
     if figures {
         push_operations(
             &mut text,

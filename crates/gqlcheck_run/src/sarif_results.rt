@@ -12,6 +12,7 @@ ghost use Rattle.gqlcheck_run.specs.SarifResults.{region, scheme_of, separator};
 use crate::json_members::{
     begun, close_list, close_object, ended, open_list, open_object, put_end, put_number, put_text,
 };
+use crate::others::Others;
 use crate::places::{Part, column_of, line_of, part_between};
 use crate::tally::words_before;
 use document_checks::{Finding, OtherPlace, Report};
@@ -168,9 +169,30 @@ fn put_message<A: Allocator>(out: &mut Writer<A>, text: &str) -> Result<(), Allo
     Ok(())
 }
 
-// The other place, if there is one.
-fn put_related_locations<A: Allocator>(
+// The other place of a finding, in the file at a URI.
+fn put_related_location<A: Allocator>(
     out: &mut Writer<A>,
+    uri: &str,
+    source: &str,
+    index: &LineIndex<'_, A>,
+    other: OtherPlace,
+) -> Result<(), AllocError>
+    requires { index.now ≡ source.now }
+    ensures { IfOk result (λ _. AddsMembers out.old out.new) }
+{
+    let part = part_between(source, other.start, other.end);
+    open_list(out, "relatedLocations")?;
+    put_physical_location(out, uri, source, index, part)?;
+    put_message(out, other.words)?;
+    close_list(out)?;
+    Ok(())
+}
+
+// The other place, if there is one, in that file or in another.
+#[tactic(auto, using(crate::proofs::Members::none))]
+fn put_related_locations<A: Allocator + Copy>(
+    out: &mut Writer<A>,
+    others: &Others<'_, A>,
     uri: &str,
     source: &str,
     index: &LineIndex<'_, A>,
@@ -182,12 +204,15 @@ fn put_related_locations<A: Allocator>(
     let Some(other) = other else {
         return Ok(());
     };
-    let part = part_between(source, other.start, other.end);
-    open_list(out, "relatedLocations")?;
-    put_physical_location(out, uri, source, index, part)?;
-    put_message(out, other.words)?;
-    close_list(out)?;
-    Ok(())
+    match others.elsewhere(other) {
+        Some(input) => {
+            let source = input.text.as_str();
+            let index = LineIndex::new(others.alloc, source)?;
+            let uri = artifact_uri(others.alloc, input.name.as_str())?;
+            put_related_location(out, uri.as_str(), source, &index, other)
+        }
+        None => put_related_location(out, uri, source, index, other),
+    }
 }
 
 // The rule, the level and the message of a result.
@@ -217,8 +242,9 @@ fn separated<A: Allocator>(mut lines: Vec<u8, A>, follows: bool) -> Result<Vec<u
 }
 
 // The line of a finding in the file at a URI.
-fn finding_line<A: Allocator>(
+fn finding_line<A: Allocator + Copy>(
     lines: Vec<u8, A>,
+    others: &Others<'_, A>,
     follows: bool,
     uri: &str,
     source: &str,
@@ -235,13 +261,13 @@ fn finding_line<A: Allocator>(
     let mut out = begun(lines)?;
     put_locations(&mut out, uri, source, index, part)?;
     put_words(&mut out, finding.rule, "error", finding.message.as_str())?;
-    put_related_locations(&mut out, uri, source, index, finding.other)?;
+    put_related_locations(&mut out, others, uri, source, index, finding.other)?;
     ended(out)
 }
 
 // A line for each finding.
-fn finding_lines<A: Allocator>(
-    alloc: A,
+fn finding_lines<A: Allocator + Copy>(
+    others: &Others<'_, A>,
     follows: bool,
     uri: &str,
     source: &str,
@@ -253,10 +279,10 @@ fn finding_lines<A: Allocator>(
         OfFirst (λ finding. BeginsWithResult uri.now source.now (min finding.start (length source.now)) lines.items)
         findings.now) }
 {
-    let mut lines = Vec::new(alloc);
+    let mut lines = Vec::new(others.alloc);
     let mut follows = follows;
     for finding in findings {
-        lines = finding_line(lines, follows, uri, source, index, finding)?;
+        lines = finding_line(lines, others, follows, uri, source, index, finding)?;
         follows = true;
     }
     Ok(lines)
@@ -303,10 +329,10 @@ fn with_more<A: Allocator + Copy>(
     Ok(lines)
 }
 
-/// The report on a text of this name: a result for each finding, and one for those that are left out, if some are. If
-/// other results come before, each begins with a comma, and else each but the first.
+/// The report on a text of this name, one of several: a result for each finding, and one for those that are left out,
+/// if some are. If other results come before, each begins with a comma, and else each but the first.
 pub fn results<A: Allocator + Copy>(
-    alloc: A,
+    others: &Others<'_, A>,
     name: &str,
     source: &str,
     report: &Report,
@@ -314,10 +340,10 @@ pub fn results<A: Allocator + Copy>(
 ) -> Result<Vec<u8, A>, AllocError>
     ensures { IfOk result (λ output. BeginsAtFirst Sarif name.now source.now report.now.findings.items output.items) }
 {
-    let index = LineIndex::new(alloc, source)?;
-    let uri = artifact_uri(alloc, name)?;
+    let index = LineIndex::new(others.alloc, source)?;
+    let uri = artifact_uri(others.alloc, name)?;
     let findings = report.findings.as_slice();
-    let lines = finding_lines(alloc, follows, uri.as_str(), source, &index, findings)?;
-    let lines = with_more(alloc, lines, uri.as_str(), source, &index, report)?;
+    let lines = finding_lines(others, follows, uri.as_str(), source, &index, findings)?;
+    let lines = with_more(others.alloc, lines, uri.as_str(), source, &index, report)?;
     Ok(lines)
 }

@@ -1,14 +1,10 @@
-use Rattle.std.proofs.Common.{rules}
-use Rattle.document_checks.specs.Checking.{as_asked}
-use Rattle.gqlcheck_run.proofs.Beginnings.{about_first}
+use Rattle.std.proofs.Common.{◌≡◌, ◌∙◌, ap, map}
+use Rattle.document_checks.specs.Checking.{texts_of}
+use Rattle.gqlcheck_run.specs.Inputs.{as_input, text_of}
 use Rattle.gqlcheck_run.proofs.job.Job.judge.Goals as goal
 
-pub returns : goal.returns
-returns g c = record {
-  judged = c.in_ok-report.ensures.judged;
-  quiet = search rules;
-  found = λ fails. about_first (as_asked c.args.self.now.checks) c.args.self.now.printing.format
-      c.args.name.now c.args.source.now
-      c.in_ok-report.report.findings.items c.in_ok-output.output.items (c.in_ok-report.ensures.found fails)
-      c.in_ok-output.ensures;
-}
+pub returns-clause-judged : goal.returns-clause-judged
+returns-clause-judged g c =
+    let same : texts_of c.as_slice.result.now ≡ map text_of (map as_input c.args.inputs.now) =
+    ap texts_of c.as_slice.ensures.value ∙ c.in_ok-sources.ensures in
+    rw same at c.check.ensures.judged

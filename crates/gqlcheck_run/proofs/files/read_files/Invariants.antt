@@ -1,0 +1,20 @@
+use Rattle.std.proofs.Common.{map, take}
+use Rattle.named_files.specs.Finding.{as_named}
+use Rattle.named_files.specs.Handling.{InTurn}
+use Rattle.gqlcheck_run.specs.Inputs.{as_input}
+use Rattle.gqlcheck_run.specs.Reading.{ReadsFound}
+use Rattle.gqlcheck_run.proofs.files.read_files.Given as goal
+
+abbrev pub invariant-loop-named : goal.invariant-loop-named
+invariant-loop-named g l =
+    InTurn (ReadsFound g.F.Files.reads) (map as_named (take l.named-index l.found)) l.status
+    (record {
+      files = l.initial.files;
+      complaints = g.E.Sink.account l.initial.complaints;
+      inputs = map as_input l.initial.inputs.items;
+    })
+    (record {
+      files = l.files;
+      complaints = g.E.Sink.account l.complaints;
+      inputs = map as_input l.inputs.items;
+    })

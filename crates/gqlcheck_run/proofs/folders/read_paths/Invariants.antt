@@ -1,0 +1,20 @@
+use Rattle.std.proofs.Common.{map, take}
+use Rattle.command_lines.specs.Words.{texts}
+use Rattle.named_files.specs.Handling.{InTurn}
+use Rattle.gqlcheck_run.specs.Inputs.{as_input}
+use Rattle.gqlcheck_run.specs.Reading.{ReadsPath}
+use Rattle.gqlcheck_run.proofs.folders.read_paths.Given as goal
+
+abbrev pub invariant-loop-path : goal.invariant-loop-path
+invariant-loop-path g l =
+    InTurn (ReadsPath g.F.Files.lists g.F.Files.reads) (texts (take l.path-index l.paths)) l.status
+    (record {
+      files = l.initial.files;
+      complaints = g.E.Sink.account l.initial.complaints;
+      inputs = map as_input l.initial.inputs.items;
+    })
+    (record {
+      files = l.files;
+      complaints = g.E.Sink.account l.complaints;
+      inputs = map as_input l.inputs.items;
+    })

@@ -1,0 +1,16 @@
+use Rattle.std.proofs.Common.{inl}
+use Rattle.gqlcheck_run.specs.Judging.{judged_by}
+use Rattle.gqlcheck_run.proofs.Judged.{all_refused, all_together, each}
+use Rattle.gqlcheck_run.proofs.job.Job.check_inputs.Goals as goal
+
+pub returns-in-Ok-clause-judges : goal.returns-in-Ok-clause-judges
+returns-in-Ok-clause-judges g c = inl (record {
+  judged = judged_by c.args.inputs.now c.in-Ok.reports.items;
+  each = each c.args.self.now.checks.limits c.args.inputs.now c.in-Ok.reports.items c.in-Ok.ensures.found;
+  together =
+      all_together c.args.self.now.checks.limits c.args.inputs.now c.in-Ok.reports.items c.in-Ok.ensures.found
+      c.in-Ok.ensures.judged;
+  refused =
+      all_refused c.args.self.now.checks.limits c.args.inputs.now c.in-Ok.reports.items c.in-Ok.ensures.found;
+  writes = rw c.as_slice.ensures.value at c.write_reports.ensures.writes;
+})

@@ -1,0 +1,26 @@
+-- The texts of a run.
+use Rattle.std.specs.Prelude.{◌≡◌, ℕ, List, [], ◌∷◌, ◌++◌, Result, Ok, Err, string_bytes}
+use Rattle.std.specs.Str.{IsUtf8}
+use Rattle.byte_streams.specs.declared.fault.Fault.{Fault}
+use Rattle.byte_streams.specs.declared.fault.Fault.TheVariants.{Read, Utf8, Memory, Write}
+use Rattle.gqlcheck_run.specs.declared.inputs.Input as declared
+
+-- a text, and the name that it has in messages
+pub record Input : Type 0 where
+  pub name : List ℕ
+  pub text : List ℕ
+
+abbrev pub as_input : {A : Type 0} → declared.Input A → Input
+as_input input = record { name = string_bytes input.name; text = string_bytes input.text }
+
+abbrev pub text_of : Input → List ℕ
+text_of input = input.text
+
+-- What is kept of some bytes: the text that they are, after those before it. None is where they are not UTF-8, reading
+-- failed, or memory was refused.
+abbrev pub Keeps : List ℕ → Result (Unit {0}) Fault → List ℕ → List Input → List Input → Type 0
+Keeps name (Ok done) bytes old new = IsUtf8 bytes × (new ≡ old ++ record { name = name; text = bytes } ∷ [])
+Keeps name (Err Utf8) bytes old new = ¬ IsUtf8 bytes × (new ≡ old)
+Keeps name (Err Read) bytes old new = new ≡ old
+Keeps name (Err Memory) bytes old new = new ≡ old
+Keeps name (Err Write) bytes old new = ⊥

@@ -1,0 +1,73 @@
+-- Judging the texts of a run together, and writing what is found.
+use Rattle.std.specs.Prelude.{◌≡◌, ◌⊎◌, ◌↔◌, ℕ, max, Bool, true, false, List, [], All, map, Result, Ok, Err}
+use Rattle.std.specs.List.{zip}
+use Rattle.byte_streams.specs.Devices.{Account, moved}
+use Rattle.byte_streams.specs.Writing.{IsBroken}
+use Rattle.byte_streams.specs.declared.fault.Fault.{Fault}
+use Rattle.byte_streams.specs.declared.fault.Fault.TheVariants.{Read, Utf8, Memory, Write}
+use Rattle.document_checks.specs.Checking.{Asked, PassTogether}
+use Rattle.document_checks.specs.Findings.{HasErrors}
+use Rattle.document_checks.specs.declared.report.Report.{Report}
+use Rattle.named_files.specs.Handling.{InTurn}
+use Rattle.command_lines.specs.Streams.{IsSaid, no_memory}
+use Rattle.gqlcheck_run.specs.declared.command.TheConstants.{PROGRAM}
+use Rattle.gqlcheck_run.specs.declared.inputs.Input as declared
+use Rattle.gqlcheck_run.specs.declared.job.Printing.{Printing}
+use Rattle.gqlcheck_run.specs.Ending.{Says, prints_figures, status_of, verdict_of}
+use Rattle.gqlcheck_run.specs.Inputs.{Input, as_input, text_of}
+use Rattle.gqlcheck_run.specs.Places.{IsAboutFirst}
+
+-- a text, and whether nothing is found in it that keeps the texts from passing
+pub record Judged : Type 0 where
+  pub input : Input
+  pub passes : Bool
+
+abbrev pub as_judged : {A : Type 0} → declared.Input A × Report → Judged
+as_judged it = record { input = as_input it.0; passes = it.1.passes }
+
+abbrev pub judged_by : {A : Type 0} → List (declared.Input A) → List Report → List Judged
+judged_by inputs reports = map as_judged (zip inputs reports)
+
+-- What is written of a text: of one that passes nothing, unless its figures are wanted, and of one that does not, first
+-- the place of a finding. How more findings and figures are printed is not stated.
+pub record IsOutput (asked : Asked) (printing : Printing) (input : Input) (passes : Bool)
+    (output : List ℕ) : Type 0 where
+  pub quiet : passes ≡ true → prints_figures printing ≡ false → output ≡ []
+  pub found : passes ≡ false → IsAboutFirst asked printing.format input.name input.text output
+
+-- what went through standard output and standard error
+pub record Printed : Type 0 where
+  pub output : Account
+  pub complaints : Account
+
+-- An output is written, or a beginning of it. Nothing is where memory is refused for it.
+abbrev pub Prints : (List ℕ → Type 0) → Result (Unit {0}) Fault → Account → Account → Type 0
+Prints IsOutputHere (Ok done) old new = (output : List ℕ) × IsOutputHere output × (new ≡ moved old output)
+Prints IsOutputHere (Err Write) old new = (output : List ℕ) × IsOutputHere output × IsBroken output old new
+Prints IsOutputHere (Err Memory) old new = new ≡ old
+Prints IsOutputHere (Err Read) old new = ⊥
+Prints IsOutputHere (Err Utf8) old new = ⊥
+
+-- That is written of a text, or it is said why not.
+pub record WritesReport (asked : Asked) (printing : Printing) (judged : Judged) (status : ℕ)
+    (old new : Printed) : Type 0 where
+  pub ended : Result (Unit {0}) Fault
+  pub prints : Prints (IsOutput asked printing judged.input judged.passes) ended old.output new.output
+  pub says : Says judged.input.name ended old.complaints new.complaints
+  pub counted : status ≡ max (verdict_of judged.passes) (status_of ended)
+
+-- Something keeps the texts from passing exactly if they do not pass together, and a text that has errors does. What is
+-- found of them is written, of one after the other.
+pub record JudgesAndWrites (asked : Asked) (printing : Printing) (inputs : List Input) (status : ℕ)
+    (old new : Printed) : Type 0 where
+  pub judged : List Judged
+  pub each : map (λ it. it.input) judged ≡ inputs
+  pub together : All (λ it. it.passes ≡ true) judged ↔ PassTogether asked (map text_of inputs)
+  pub refused : All (λ it. HasErrors asked.limits it.input.text → it.passes ≡ false) judged
+  pub writes : InTurn (WritesReport asked printing) judged status old new
+
+-- That is done; or memory is refused for judging them, and only that is said.
+abbrev pub JudgesTexts : Asked → Printing → List Input → ℕ → Printed → Printed → Type 0
+JudgesTexts asked printing inputs status old new =
+    JudgesAndWrites asked printing inputs status old new
+    ⊎ ((status ≡ 2) × (new.output ≡ old.output) × IsSaid (no_memory PROGRAM.now) old.complaints new.complaints)
