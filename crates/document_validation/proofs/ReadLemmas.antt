@@ -1,5 +1,5 @@
 -- The definitions with their parts, as they are in a document.
-use Rattle.std.proofs.Common.{◌≡◌, ℕ, List, [], ◌∷◌, map, Option, None, refl, ◌∙◌, ap, subst}
+use Rattle.std.proofs.Common.{◌≡◌, ℕ, List, [], ◌∷◌, map, Option, refl, ◌∙◌, ap, subst}
 use Rattle.std.specs.List.{flat_map}
 use Rattle.apollo_tree.specs.Order.{Place}
 use Rattle.validation_names.specs.declared.executables.ExecutableDefinition.{ExecutableDefinition}
@@ -7,13 +7,14 @@ use Rattle.validation_names.specs.declared.executables.DefinitionKind.TheVariant
 use Rattle.validation_names.specs.Definitions.{as_defined, defined, named_definitions}
 use Rattle.validation_rules.specs.declared.violations.Rule.TheVariants.{UniqueFragmentNames, UniqueOperationNames}
 use Rattle.validation_rules.specs.declared.violations.Violations.{Violations}
-use Rattle.validation_rules.specs.Broken.{not_alone, on_cycles, repeats, undefined_spreads, unused_fragments, variables}
+use Rattle.validation_rules.specs.Broken.{not_alone, on_cycles, repeats, undefined_spreads, unused_fragments}
 use Rattle.validation_rules.specs.Broken.{variables_of}
 use Rattle.validation_rules.specs.Violations.{Adds}
 use Rattle.validation_rules.proofs.AddLemmas.{adds_then}
-use Rattle.document_validation.specs.Breaches.{breaches, foreign_in, of_each, repeats_in}
+use Rattle.document_validation.specs.Breaches.{breaches_before, foreign_in, of_each, repeats_in}
+use Rattle.document_validation.specs.Breaches.{variables_before}
 use Rattle.validation_rules.specs.Parts.{Parts, definitions, operations, parts_in, parts_of}
-use Rattle.variable_rules.specs.Steps.{before}
+use Rattle.variable_rules.specs.Steps.{EndsAt, before}
 
 of_all : (ds : List ExecutableDefinition) → map (λ d. parts_of (as_defined d)) ds ≡ map parts_of (map as_defined ds)
 of_all [] = refl
@@ -34,27 +35,33 @@ pub definitions_are : (ds : List ExecutableDefinition) (parts : List Parts)
     → definitions parts ≡ map as_defined ds
 definitions_are ds parts is = ap definitions is ∙ again ds
 
--- where no steps are used up all operations were judged
-pub all_variables :
-    (ds es : List Parts) (ended_at : Option ℕ) (numbers : List ℕ) (old new : Violations) → ended_at ≡ None
+-- the operations that were judged, as those of the documents
+pub variables_read :
+    (ds es : List Parts) (ended_at : Option ℕ) (numbers : List ℕ) (old new : Violations)
     → numbers ≡ operations ds → ds ≡ es
-    → Adds (flat_map (variables_of ds) (before ended_at numbers)) old new → Adds (variables es) old new
-all_variables ds es ended_at numbers old new all are same adds =
-    let judged = subst (λ e. Adds (flat_map (variables_of ds) (before e numbers)) old new) all adds in
-    subst (λ xs. Adds (variables xs) old new) same
-    (subst (λ ns. Adds (flat_map (variables_of ds) ns) old new) are judged)
+    → Adds (flat_map (variables_of ds) (before ended_at numbers)) old new → Adds (variables_before ended_at es) old new
+variables_read ds es ended_at numbers old new are same adds =
+    subst (λ xs. Adds (variables_before ended_at xs) old new) same
+    (subst (λ ns. Adds (flat_map (variables_of ds) (before ended_at ns)) old new) are adds)
+
+pub ends_read :
+    (steps : Option ℕ) (ds es : List Parts) (numbers : List ℕ) (ended_at : Option ℕ)
+    → numbers ≡ operations ds → ds ≡ es
+    → EndsAt steps ds numbers ended_at → EndsAt steps es (operations es) ended_at
+ends_read steps ds es numbers ended_at are same ends =
+    subst (λ xs. EndsAt steps xs (operations xs) ended_at) same (subst (λ ns. EndsAt steps ds ns ended_at) are ends)
 
 -- all rules, one after another
 pub adds_in_order :
-    (documents : List Place) (v0 v1 v2 v3 v4 v5 v6 v7 v8 v9 : Violations) → Adds (of_each foreign_in documents) v0 v1
+    (documents : List Place) (ended_at : Option ℕ) (v0 v1 v2 v3 v4 v5 v6 v7 v8 v9 : Violations) → Adds (of_each foreign_in documents) v0 v1
     → Adds (repeats UniqueOperationNames (named_definitions Operation (defined documents))) v1 v2
     → Adds (not_alone (parts_in documents)) v2 v3
     → Adds (of_each repeats_in documents) v3 v4
     → Adds (repeats UniqueFragmentNames (named_definitions Fragment (defined documents))) v4 v5
     → Adds (unused_fragments (parts_in documents)) v5 v6 → Adds (undefined_spreads (parts_in documents)) v6 v7
-    → Adds (on_cycles (parts_in documents)) v7 v8 → Adds (variables (parts_in documents)) v8 v9
-    → Adds (breaches documents) v0 v9
-adds_in_order documents v0 v1 v2 v3 v4 v5 v6 v7 v8 v9 foreign operations alone lists fragments unused spreads
+    → Adds (on_cycles (parts_in documents)) v7 v8 → Adds (variables_before ended_at (parts_in documents)) v8 v9
+    → Adds (breaches_before ended_at documents) v0 v9
+adds_in_order documents ended_at v0 v1 v2 v3 v4 v5 v6 v7 v8 v9 foreign operations alone lists fragments unused spreads
     cycles used =
     let two = adds_then _ _ v0 v1 v2 foreign operations in
     let three = adds_then _ _ v0 v2 v3 two alone in

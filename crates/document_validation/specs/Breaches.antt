@@ -15,10 +15,12 @@ use Rattle.validation_rules.specs.declared.violations.Rule.TheVariants.{UniqueAr
 use Rattle.validation_rules.specs.declared.violations.Rule.TheVariants.{UniqueEnumValueNames, UniqueUnionMemberTypes}
 use Rattle.validation_rules.specs.declared.violations.Rule.TheVariants.{UniqueImplementedInterfaces}
 use Rattle.validation_rules.specs.declared.violations.Rule.TheVariants.{UniqueOperationNames, UniqueVariableNames}
-use Rattle.validation_rules.specs.Broken.{not_alone, on_cycles, repeats, undefined_spreads, unused_fragments, variables}
-use Rattle.validation_rules.specs.Parts.{parts_in}
+use Rattle.validation_rules.specs.Broken.{not_alone, on_cycles, repeats, undefined_spreads, unused_fragments}
+use Rattle.validation_rules.specs.Broken.{variables_of}
+use Rattle.validation_rules.specs.Parts.{Parts, operations, parts_in}
 use Rattle.validation_rules.specs.TextOrder.{IsInTextOrder}
 use Rattle.validation_rules.specs.Violations.{Breach, breach}
+use Rattle.variable_rules.specs.Steps.{before}
 use Rattle.document_validation.specs.declared.lists.DocumentKind.{DocumentKind}
 use Rattle.document_validation.specs.declared.lists.DocumentKind.TheVariants.{Executable, TypeSystem}
 use Rattle.document_validation.specs.declared.lists.NamedList.{NamedList}
@@ -93,10 +95,15 @@ of_each_from f n (document ∷ documents) = f n document ++ of_each_from f (suc 
 abbrev pub of_each : (ℕ → Place → List Breach) → List Place → List Breach
 of_each f documents = of_each_from f 0 documents
 
--- All that breaks a rule in some documents, by their roots, rule by rule. Names of operations and of fragments, spreads
--- and variables are those of all documents together.
-abbrev pub breaches : List Place → List Breach
-breaches documents =
+-- What breaks the rules on variables, in the operations before the one at which validation ended. Without such an
+-- operation these are all.
+abbrev pub variables_before : Option ℕ → List Parts → List Breach
+variables_before ended_at ds = flat_map (variables_of ds) (before ended_at (operations ds))
+
+-- What breaks a rule in some documents, by their roots, rule by rule. Names of operations and of fragments, spreads and
+-- variables are those of all documents together.
+abbrev pub breaches_before : Option ℕ → List Place → List Breach
+breaches_before ended_at documents =
     of_each foreign_in documents
     ++ repeats UniqueOperationNames (named_definitions Operation (defined documents))
     ++ not_alone (parts_in documents)
@@ -105,7 +112,11 @@ breaches documents =
     ++ unused_fragments (parts_in documents)
     ++ undefined_spreads (parts_in documents)
     ++ on_cycles (parts_in documents)
-    ++ variables (parts_in documents)
+    ++ variables_before ended_at (parts_in documents)
+
+-- all of it
+abbrev pub breaches : List Place → List Breach
+breaches documents = breaches_before None documents
 
 -- Nothing breaks a rule.
 abbrev pub AreValid : List Place → Type 0

@@ -14,5 +14,6 @@ mod validation;
 
 pub use lists::{DocumentKind, document_kind};
 pub use messages::message;
-pub use validation::validate;
-pub use validation_rules::{Rule, Violation, Violations};
+pub use validation::{Validation, ValidationOptions, validate, validate_with};
+pub use validation_rules::{Rule, RuleSet, Selection, Violation, Violations};
+pub use variable_rules::default_steps;

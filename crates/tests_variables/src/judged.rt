@@ -2,7 +2,7 @@
 use apollo_parser::{DocumentRoot, Parser, SyntaxNode, SyntaxTree};
 use std::alloc::{AllocError, Global};
 use validation_names::{Site, definitions, fragments};
-use validation_rules::{Violation, Violations, operations, parts, spread_graph};
+use validation_rules::{Selection, Violation, Violations, operations, parts, spread_graph};
 use variable_rules::{add_variables, default_steps};
 
 // The trees of some documents, which are apart by lines `%%`.
@@ -82,7 +82,7 @@ pub(crate) fn answer(alloc: Global, record: &str) -> Result<String, AllocError> 
     };
     let trees = trees(alloc, texts)?;
     let roots = roots(alloc, &trees)?;
-    let mut violations = Violations::new(alloc, most);
+    let mut violations = Violations::new(alloc, most, Selection::everything());
     let ended_at = judge(alloc, &mut violations, &roots, steps)?;
     for violation in &violations.list {
         write_line(&mut answer, violation)?;

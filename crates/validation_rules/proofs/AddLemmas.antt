@@ -2,16 +2,17 @@
 use Rattle.std.proofs.Common.{◌≡◌, ℕ, zero, suc, ◌+◌, ◌-◌, ◌<◌, ◌≤◌, min, List, [], ◌∷◌, ◌++◌, length, map, take, drop}
 use Rattle.std.proofs.Common.{get_or, arith, refl, sym, ◌∙◌, ap, ⊎_elim, append_assoc, append-nil, length-append}
 use Rattle.std.proofs.Common.{length-take}
-use Rattle.std.specs.Prelude.{nat_le, true}
+use Rattle.std.specs.Prelude.{nat_le, true, false}
 use Rattle.std.specs.List.{flat_map, range_with_len}
 use Rattle.std.proofs.Math.ListN.{get_or-map}
 use Rattle.std.proofs.lemmas.Bool.Decides.{nat_tests}
 use Rattle.std.proofs.lemmas.List.FromFn.{get_or-range_with_len, length-range_with_len}
 use Rattle.std.proofs.lemmas.Bool.{cases_lt}
 use Rattle.std.proofs.lemmas.Grind.{flat_map-append}
-use Rattle.std.proofs.lemmas.List.{length-map, map-append, take-append-drop, take_all, take_more}
+use Rattle.std.proofs.lemmas.List.Elements.{filter-append}
+use Rattle.std.proofs.lemmas.List.{length-map, take-append-drop, take_all, take_more}
 use Rattle.validation_rules.specs.declared.violations.Violations.{Violations}
-use Rattle.validation_rules.specs.Violations.{Adds, Breach, as_breach, found}
+use Rattle.validation_rules.specs.Violations.{Adds, Breach, as_breach, found, is_selected, selected}
 
 -- ---- one list after another
 take_both : {X : Type 0} (n : ℕ) (xs ys : List X) → take n (xs ++ ys) ≡ take n xs ++ take (n - length xs) ys
@@ -35,6 +36,7 @@ take_nil (suc n) = refl
 pub adds_none : (v : Violations) → Adds [] v v
 adds_none v = record {
   most = refl;
+  selection = refl;
   are = rw (take_nil {X = Breach} (v.most - length (found v))) (sym (append-nil (found v)));
 }
 
@@ -42,15 +44,19 @@ pub adds_then : (xs ys : List Breach) (old mid new : Violations) → Adds xs old
     → Adds (xs ++ ys) old new
 adds_then xs ys old mid new first second = record {
   most = second.most ∙ first.most;
+  selection = second.selection ∙ first.selection;
   are =
       let n = old.most - length (found old) in
-      let long : length (found mid) ≡ length (found old) + min n (length xs) =
-      ap length first.are ∙ length-append (found old) (take n xs)
-      ∙ ap (λ k. length (found old) + k) (length-take n xs) in
-      let left : mid.most - length (found mid) ≡ n - length xs =
-      rw (first.most, long) (room old.most (length (found old)) (length xs)) in
-      second.are ∙ rw (left, first.are, take_both n xs ys)
-      (append_assoc (found old) (take n xs) (take (n - length xs) ys));
+      let asked = selected old.selection in
+      let long : length (found mid) ≡ length (found old) + min n (length (asked xs)) =
+      ap length first.are ∙ length-append (found old) (take n (asked xs))
+      ∙ ap (λ k. length (found old) + k) (length-take n (asked xs)) in
+      let left : mid.most - length (found mid) ≡ n - length (asked xs) =
+      rw (first.most, long) (room old.most (length (found old)) (length (asked xs))) in
+      let both : asked (xs ++ ys) ≡ asked xs ++ asked ys = filter-append (is_selected old.selection) xs ys in
+      second.are
+      ∙ rw (left, first.are, first.selection, both, take_both n (asked xs) (asked ys))
+      (append_assoc (found old) (take n (asked xs)) (take (n - length (asked xs)) (asked ys)));
 }
 
 -- a list that is full needs no more
@@ -58,22 +64,35 @@ pub adds_full : (xs ys : List Breach) (old new : Violations) → new.most ≤ le
     → Adds (xs ++ ys) old new
 adds_full xs ys old new full adds = adds_then xs ys old new new adds (record {
   most = refl;
+  selection = refl;
   are = let e : new.most - length (found new) ≡ 0 = omega arith in rw e (sym (append-nil (found new)));
 })
 
 pub is_full : (v : Violations) → true ≡ nat_le v.most (length v.list.items) → v.most ≤ length (found v)
 is_full v full = let le : v.most ≤ length v.list.items = grind (arith, nat_tests, full) in rw length-map le
 
--- one more in a list that is not full
-pub adds_push : (b : Breach) (old new : Violations) → new.most ≡ old.most → found new ≡ found old ++ b ∷ []
-    → length old.list.items < old.most
+-- one more in a list that is not full, if it is asked for
+pub adds_push : (b : Breach) (old new : Violations) → new.most ≡ old.most → new.selection ≡ old.selection
+    → found new ≡ found old ++ b ∷ [] → length old.list.items < old.most → is_selected old.selection b ≡ true
     → Adds (b ∷ []) old new
-adds_push b old new same is less = record {
+adds_push b old new same alike is less asked = record {
   most = same;
+  selection = alike;
   are =
       let long = length-map old.list.items as_breach in
       let room : old.most - length (found old) ≡ suc (old.most - length (found old) - 1) = rw long (omega arith) in
-      is ∙ rw (room, take_nil {X = Breach} (old.most - length (found old) - 1)) refl;
+      let one : selected old.selection (b ∷ []) ≡ b ∷ [] = rw asked refl in
+      is ∙ rw (one, room, take_nil {X = Breach} (old.most - length (found old) - 1)) refl;
+}
+
+-- one that is not asked for
+pub adds_left_out : (b : Breach) (v : Violations) → is_selected v.selection b ≡ false → Adds (b ∷ []) v v
+adds_left_out b v left_out = record {
+  most = refl;
+  selection = refl;
+  are =
+      let none : selected v.selection (b ∷ []) ≡ [] = rw left_out refl in
+      rw (none, take_nil {X = Breach} (v.most - length (found v))) (sym (append-nil (found v)));
 }
 
 -- ---- what is listed for each of some things, in order

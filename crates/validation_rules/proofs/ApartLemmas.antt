@@ -1,9 +1,8 @@
 -- The definitions of some documents, and the names that they mention, are at places of their own.
-use Rattle.std.proofs.Common.{◌≡◌, ◌≢◌, ℕ, zero, suc, ◌+◌, ◌<◌, ◌≤◌, List, [], ◌∷◌, ◌++◌, length, map, get_or, Bool}
-use Rattle.std.proofs.Common.{true, false, cond, Option, Some, None, arith, refl, subst, sym, ap, ◌∙◌, ⊎_elim}
+use Rattle.std.proofs.Common.{◌≡◌, ◌≢◌, ℕ, suc, ◌<◌, ◌≤◌, List, [], ◌∷◌, length, map, Bool}
+use Rattle.std.proofs.Common.{true, false, cond, Option, Some, None, arith, refl, sym, ap, ◌∙◌, ⊎_elim}
 use Rattle.std.specs.Prelude.{option_map}
-use Rattle.std.specs.List.{AllPairs, Contains, filter}
-use Rattle.std.proofs.lemmas.Bool.{cases_lt}
+use Rattle.std.specs.List.{AllPairs, Contains}
 use Rattle.std.proofs.lemmas.List.Elements.{Contains-append_cases, Contains-get_or}
 use Rattle.std.proofs.lemmas.List.Kept.{AllPairs-filter}
 use Rattle.document_grammar.specs.declared.kind.SyntaxKind.TheVariants.{FRAGMENT_DEFINITION, OPERATION_DEFINITION}
@@ -14,7 +13,7 @@ use Rattle.apollo_tree.specs.Below.{at_or_below}
 use Rattle.validation_names.specs.Names.{Name}
 use Rattle.validation_names.specs.declared.executables.DefinitionKind.{DefinitionKind}
 use Rattle.validation_names.specs.declared.name_mentions.MentionKind.{MentionKind}
-use Rattle.validation_names.specs.declared.name_mentions.MentionKind.TheVariants.{Spread, Declared, Used}
+use Rattle.validation_names.specs.declared.name_mentions.MentionKind.TheVariants.{Spread}
 use Rattle.validation_names.specs.Definitions.{Defined, defined, defined_at, name_as, named, named_definitions}
 use Rattle.validation_names.specs.Mentions.{Named, mentioned, mentioned_name, mentions}
 use Rattle.validation_names.specs.Sites.{Located, all_definitions, in_documents_from, located, nodes}

@@ -3,5 +3,6 @@ pub mod Graphs
 pub mod Parts
 pub mod RuleNames
 pub mod RuleNumbers
+pub mod Selection
 pub mod TextOrder
 pub mod Violations

@@ -8,10 +8,12 @@
 mod definition_parts;
 pub mod laws;
 mod name_rules;
+mod selection;
 mod spread_rules;
 mod violations;
 
 pub use definition_parts::{DefinitionParts, operations, part_at, parts, spread_graph};
 pub use name_rules::{add_anonymous, add_repeats, add_unknown};
+pub use selection::{RuleSet, Selection};
 pub use spread_rules::{add_cycles, add_undefined_spreads, add_unused_fragments};
 pub use violations::{Rule, Violation, Violations};

@@ -1,8 +1,9 @@
-// Violations of rules, collected up to a bound.
+// Violations of rules, collected up to a bound, of the rules and documents that are asked for.
 ghost use Rattle.std.specs.Prelude.{◌≡◌};
 ghost use Rattle.validation_names.specs.Sites.{as_located};
 ghost use Rattle.validation_rules.specs.TextOrder.{site_key};
 
+use crate::selection::Selection;
 use std::alloc::{AllocError, Global};
 use validation_names::Site;
 
@@ -47,15 +48,44 @@ pub enum Rule {
 }
 
 impl Rule {
-    ghost use Rattle.std.specs.Prelude.{◌≡◌};
+    ghost use Rattle.std.specs.Prelude.{◌≡◌, bytes_eq};
+    ghost use Rattle.std.specs.List.{find};
     ghost use Rattle.validation_rules.specs.RuleNames.{rule_name};
     ghost use Rattle.validation_rules.specs.RuleNumbers.{rule_number};
+
+    /// All rules, in the order of their numbers.
+    pub const ALL: [Rule; 17] = [
+        Rule::ExecutableDefinitions,
+        Rule::UniqueOperationNames,
+        Rule::LoneAnonymousOperation,
+        Rule::UniqueArgumentNames,
+        Rule::UniqueFragmentNames,
+        Rule::NoUnusedFragments,
+        Rule::KnownFragmentNames,
+        Rule::NoFragmentCycles,
+        Rule::UniqueInputFieldNames,
+        Rule::UniqueVariableNames,
+        Rule::NoUndefinedVariables,
+        Rule::NoUnusedVariables,
+        Rule::UniqueFieldDefinitionNames,
+        Rule::UniqueArgumentDefinitionNames,
+        Rule::UniqueEnumValueNames,
+        Rule::UniqueUnionMemberTypes,
+        Rule::UniqueImplementedInterfaces,
+    ];
 
     /// Its number, from 0 on, in the order of this list. C has it too.
     pub fn number(self) -> u32
         ensures { result ≡ rule_number self }
     {
         self as u32
+    }
+
+    /// The rule of a name, or `None` where no rule has it.
+    pub fn named(name: &str) -> Option<Rule>
+        ensures { result ≡ find (λ rule. bytes_eq (rule_name rule) name.now) Self.ALL }
+    {
+        Rule::ALL.iter().copied().find(|rule| rule.name() == name)
     }
 
     /// Its name, without the `Rule` that graphql-js adds.
@@ -118,11 +148,12 @@ impl<'t> Violation<'t> {
     }
 }
 
-/// Violations, no more than a bound.
+/// Violations of the rules and in the documents that are asked for, no more than a bound.
 #[derive(Drop)]
 pub struct Violations<'t> {
     pub list: Vec<Violation<'t>>,
     pub most: usize,
+    pub selection: Selection,
 }
 
 impl<'t> Violations<'t> {
@@ -131,14 +162,16 @@ impl<'t> Violations<'t> {
     ghost use Rattle.validation_rules.specs.TextOrder.{IsInTextOrder};
     ghost use Rattle.validation_rules.specs.Violations.{Adds, as_breach, breach, found};
 
-    /// None yet, and room for a number of them.
-    pub fn new(alloc: Global, most: usize) -> Violations<'t>
+    /// None yet, and room for a number of those that are asked for.
+    pub fn new(alloc: Global, most: usize, selection: Selection) -> Violations<'t>
         ensures none { result.list.items ≡ [] }
         ensures most { result.most ≡ most }
+        ensures selection { result.selection ≡ selection }
     {
         Violations {
             list: Vec::new(alloc),
             most,
+            selection,
         }
     }
 
@@ -149,7 +182,7 @@ impl<'t> Violations<'t> {
         self.most <= self.list.len()
     }
 
-    /// Adds one, unless the list is full.
+    /// Adds one, unless it is not asked for or the list is full.
     pub fn add(
         &mut self,
         rule: Rule,
@@ -159,9 +192,10 @@ impl<'t> Violations<'t> {
         ensures { OnOk result (Adds (breach rule (as_located site.entry) (option_map as_located other.entry) ∷ [])
             self.old self.new) }
     {
-        if !self.is_full() {
-            self.list.push(Violation { rule, site, other })?;
+        if self.is_full() || !self.selection.includes(rule, &site) {
+            return Ok(());
         }
+        self.list.push(Violation { rule, site, other })?;
         Ok(())
     }
 
@@ -170,7 +204,11 @@ impl<'t> Violations<'t> {
     pub fn into_text_order(self) -> Result<Vec<Violation<'t>>, AllocError>
         ensures { IfOk result (λ list. IsInTextOrder (found self.entry) (map as_breach list.items)) }
     {
-        let Violations { mut list, most: _ } = self;
+        let Violations {
+            mut list,
+            most: _,
+            selection: _,
+        } = self;
         list.sort_by_key(|violation| violation.text_key())?;
         Ok(list)
     }

@@ -1,7 +1,7 @@
 -- Rows of names, and sums of steps.
-use Rattle.std.proofs.Common.{◌≡◌, ◌≢◌, ℕ, ◌+◌, ◌<◌, ◌≤◌, List, [], ◌∷◌, ◌++◌, length, map, get_or, arith, refl, sym}
+use Rattle.std.proofs.Common.{◌≡◌, ◌≢◌, ℕ, suc, ◌+◌, ◌<◌, ◌≤◌, List, [], ◌∷◌, ◌++◌, length, map, get_or, arith, refl, sym}
 use Rattle.std.proofs.Common.{ap, ◌∙◌, ⊎_elim}
-use Rattle.std.specs.List.{sum_by}
+use Rattle.std.specs.List.{Contains, sum_by}
 use Rattle.std.specs.declared.alloc.Global.{Global}
 use Rattle.std.specs.declared.vec.Vec.{Vec}
 use Rattle.std.proofs.Math.ListN.{get_or-map}
@@ -12,37 +12,30 @@ use Rattle.std.proofs.lemmas.List.Sums.{sum_by-cons}
 use Rattle.validation_names.specs.declared.name_mentions.Mention.{Mention}
 use Rattle.validation_names.specs.Mentions.{Named}
 use Rattle.validation_rules.specs.Parts.{Parts, at, nothing}
-use Rattle.variable_rules.specs.UsedNames.{AreUsedNames, HaveSameNames, items_of, row_at}
+use Rattle.variable_rules.specs.Steps.{capped}
+use Rattle.variable_rules.specs.UsedNames.{AreUsedNames, firsts_of, items_of, row_at}
 
 -- the rows of the first n definitions
 pub record AreRows (ds : List Parts) (n : ℕ) (rows : List (Vec Mention Global)) : Type 0 where
   pub as_many : length rows ≡ n
-  pub each : (k : ℕ) → k < n → HaveSameNames (row_at rows k) (at ds k).used
-  pub few : (k : ℕ) → k < n → length (row_at rows k) ≤ length (at ds k).used
+  pub each : (k : ℕ) → k < n → row_at rows k ≡ firsts_of (at ds k).used
 
 pub no_rows : (ds : List Parts) (rows : List (Vec Mention Global)) → rows ≡ [] → AreRows ds 0 rows
 no_rows ds rows none = record {
   as_many = ap length none;
   each = λ k below. absurd (omega arith);
-  few = λ k below. absurd (omega arith);
 }
 
 pub rows_more :
     (ds : List Parts) (n : ℕ) (old new : List (Vec Mention Global)) (row : Vec Mention Global) (used : List Named)
     → AreRows ds n old
-    → new ≡ old ++ row ∷ [] → (at ds n).used ≡ used → HaveSameNames (items_of row) used
-    → length (items_of row) ≤ length used → AreRows ds (n + 1) new
-rows_more ds n old new row used are is same_used same few = record {
+    → new ≡ old ++ row ∷ [] → (at ds n).used ≡ used → items_of row ≡ firsts_of used → AreRows ds (n + 1) new
+rows_more ds n old new row used are is same_used same = record {
   as_many = let l = ap length is in let m = length-append old (row ∷ []) in let a = are.as_many in omega arith;
   each = λ k below.
       ⊎_elim
       (λ (e : k ≡ n). rw (e, last, same_used) same)
       (λ (ne : k ≢ n). let less : k < n = omega arith in rw (earlier k less) (are.each k less))
-      (cases_eq k n);
-  few = λ k below.
-      ⊎_elim
-      (λ (e : k ≡ n). rw (e, last, same_used) few)
-      (λ (ne : k ≢ n). let less : k < n = omega arith in rw (earlier k less) (are.few k less))
       (cases_eq k n);
 }
   where
@@ -65,12 +58,7 @@ rows_all ds rows are = record {
   each = λ k.
       ⊎_elim
       (λ (below : k < length ds). are.each k below)
-      (λ (above : length ds ≤ k). rw (no_row k above, no_use k above) (λ q. refl))
-      (cases_lt k (length ds));
-  few = λ k.
-      ⊎_elim
-      (λ (below : k < length ds). are.few k below)
-      (λ (above : length ds ≤ k). rw (no_row k above) (omega arith))
+      (λ (above : length ds ≤ k). rw (no_row k above, no_use k above) refl)
       (cases_lt k (length ds));
 }
   where
@@ -98,3 +86,15 @@ sum_both f g (x ∷ xs) =
     let b = sum_by-cons f x xs in
     let c = sum_by-cons g x xs in
     omega arith
+
+pub sum_none : {A : Type 0} (f : A → ℕ) (xs : List A) → ((x : A) → Contains xs x → f x ≡ 0) → sum_by f xs ≡ 0
+sum_none f [] none = refl
+sum_none f (x ∷ xs) none =
+    let first = none x (0, omega arith, refl) in
+    let rest = sum_none f xs (λ y (k, below, is). none y (suc k, omega arith, is)) in
+    let cons = sum_by-cons f x xs in
+    omega arith
+
+-- numbers up to the greatest `usize`
+pub capped_sum : (m n : ℕ) → capped (capped m + capped n) ≡ capped (m + n)
+capped_sum m n = omega arith

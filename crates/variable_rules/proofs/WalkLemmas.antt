@@ -1,5 +1,5 @@
 -- What a walk from an operation finds, in the words of the definitions.
-use Rattle.std.proofs.Common.{◌≡◌, ◌||◌, ℕ, suc, ◌+◌, ◌<◌, ◌≤◌, List, [], ◌∷◌, ◌++◌, length, take, get_or}
+use Rattle.std.proofs.Common.{◌≡◌, ◌||◌, ℕ, suc, ◌+◌, ◌<◌, List, [], ◌∷◌, ◌++◌, length, take, get_or, cond}
 use Rattle.std.proofs.Common.{Option, Some, Bool, true, false, not, bytes_eq, arith, refl, sym, ap, ◌∙◌}
 use Rattle.std.specs.List.{All, Contains, flat_map, list_any, sum_by}
 use Rattle.std.specs.List.Sorted.{IsNonDecreasingBy, IsPermutation}
@@ -8,7 +8,6 @@ use Rattle.std.proofs.lemmas.List.Concat.{flat_map-append}
 use Rattle.std.proofs.lemmas.List.Folds.{list_any-append, list_any_at}
 use Rattle.std.proofs.lemmas.List.Sorted.{All-permutation, IsPermutation-sym, list_any-IsPermutation}
 use Rattle.std.proofs.lemmas.List.Sorted.{sum_by-IsPermutation}
-use Rattle.std.proofs.lemmas.List.Sums.{sum_by-le-sum_by}
 use Rattle.std.specs.declared.alloc.Global.{Global}
 use Rattle.std.specs.declared.vec.Vec.{Vec}
 use Rattle.directed_graph.specs.Graph.{Graph, row_of}
@@ -25,11 +24,11 @@ use Rattle.validation_rules.specs.Graphs.{IsSpreadGraph}
 use Rattle.validation_rules.specs.Parts.{Parts, at, has_item, is_declared, is_used, reached, site_at}
 use Rattle.validation_rules.specs.Violations.{Adds}
 use Rattle.validation_rules.proofs.AddLemmas.{adds_then}
-use Rattle.variable_rules.specs.Steps.{steps_of, walk_steps_in}
+use Rattle.variable_rules.specs.Steps.{capped, steps_of, use_steps_in, walk_steps_in}
 use Rattle.variable_rules.specs.UsedNames.{AreFirsts, AreUsedNames, is_known, row_at}
-use Rattle.variable_rules.proofs.KnownLemmas.{all_known, none_kept}
+use Rattle.variable_rules.proofs.KnownLemmas.{all_known, firsts_any, none_fails, none_kept, same_names}
 use Rattle.variable_rules.proofs.ReachLemmas.{in_order_are, reached_inside}
-use Rattle.variable_rules.proofs.RowLemmas.{sum_both}
+use Rattle.variable_rules.proofs.RowLemmas.{capped_sum, sum_both, sum_none}
 
 -- those that are found are definitions
 pub inside_reached :
@@ -77,6 +76,12 @@ flat_none f [] none = refl
 flat_none f (x ∷ xs) none =
     rw (none x (0, omega arith, refl)) (flat_none f xs (λ y (k, below, is). none y (suc k, omega arith, is)))
 
+-- a row has the names that its definition uses
+pub row_names : (ds : List Parts) (rows : List (Vec Mention Global)) → AreUsedNames ds rows → (number : ℕ) (q : Name)
+    → has_item (row_at rows number) q ≡ has_item (at ds number).used q
+row_names ds rows names number q =
+    ap (λ items. has_item items q) (names.each number) ∙ same_names (at ds number).used q
+
 -- the names that the definitions reached use
 module _ {V : Type 0} (ds : List Parts) (rows : List (Vec Mention Global)) (operation : ℕ) (numbers : List ℕ)
     (known : Entries V) (firsts : List Named)
@@ -87,20 +92,54 @@ module _ {V : Type 0} (ds : List Parts) (rows : List (Vec Mention Global)) (oper
   used_is q =
       found.known q ∙ named_flat (row_at rows) numbers q
       ∙ list_any-IsPermutation (λ number. has_item (row_at rows number) q) numbers (reached ds operation) are
-      ∙ (λ i. list_any (λ number. names.each number q i) (reached ds operation))
+      ∙ (λ i. list_any (λ number. row_names ds rows names number q i) (reached ds operation))
 
-  -- where all are declared there is nothing to list
+  -- where no first one is unknown, all names are declared
+  all_declared : (knows : Name → Bool) → ((q : Name) → knows q ≡ is_declared ds operation q)
+      → list_any (λ (i : Named). not (knows i.name)) firsts ≡ false
+      → (number : ℕ) → Contains (reached ds operation) number
+      → (q : Name) → has_item (at ds number).used q ≡ true → is_declared ds operation q ≡ true
+  all_declared knows agree none number there q has =
+      let used : is_used ds operation q ≡ true =
+      list_any_at (λ n. has_item (at ds n).used q) (reached ds operation) there.0 number there.1 (rw there.2 has) in
+      let first : has_item firsts q ≡ true =
+      ap (λ items. has_item items q) found.are ∙ same_names (flat_map (row_at rows) numbers) q ∙ sym (found.known q)
+      ∙ used_is q ∙ used in
+      sym (agree q) ∙ all_known NoUndefinedVariables (Some (site_at ds operation)) knows firsts none q first
+
+  -- then there is nothing to list
   pub none_undefined : (knows : Name → Bool) → ((q : Name) → knows q ≡ is_declared ds operation q)
       → list_any (λ (i : Named). not (knows i.name)) firsts ≡ false → undefined_variables ds operation ≡ []
   none_undefined knows agree none =
       flat_none (undefined_variables_in ds operation) (reached ds operation)
       (λ number there.
       none_kept NoUndefinedVariables (Some (site_at ds operation)) (is_declared ds operation) (at ds number).used
-      (λ q has.
-      let used : is_used ds operation q ≡ true =
-      list_any_at (λ n. has_item (at ds n).used q) (reached ds operation) there.0 number there.1 (rw there.2 has) in
-      let first : has_item firsts q ≡ true = found.same q ∙ sym (found.known q) ∙ used_is q ∙ used in
-      sym (agree q) ∙ all_known NoUndefinedVariables (Some (site_at ds operation)) knows firsts none q first))
+      (all_declared knows agree none number there))
+
+  -- and no definition is read use by use
+  pub no_use_steps : (knows : Name → Bool) → ((q : Name) → knows q ≡ is_declared ds operation q)
+      → list_any (λ (i : Named). not (knows i.name)) firsts ≡ false
+      → sum_by (use_steps_in ds operation) (reached ds operation) ≡ 0
+  no_use_steps knows agree none =
+      sum_none (use_steps_in ds operation) (reached ds operation)
+      (λ number there.
+      let e = none_fails NoUndefinedVariables (Some (site_at ds operation)) (is_declared ds operation)
+      (at ds number).used (all_declared knows agree none number there) in
+      rw e refl)
+
+-- the steps of reading a definition use by use, as its row tells whether that is done
+pub use_steps_are :
+    (ds : List Parts) (rows : List (Vec Mention Global)) (operation number : ℕ) (knows : Name → Bool) (b : Bool)
+    → AreUsedNames ds rows → ((q : Name) → knows q ≡ is_declared ds operation q)
+    → list_any (λ (i : Named). not (knows i.name)) (row_at rows number) ≡ b
+    → use_steps_in ds operation number ≡ cond b (length (at ds number).used) 0
+use_steps_are ds rows operation number knows b names agree is =
+    let used = (at ds number).used in
+    let e : list_any (λ (i : Named). not (is_declared ds operation i.name)) used ≡ b =
+    sym (firsts_any (λ q. not (is_declared ds operation q)) used)
+    ∙ ap (list_any (λ (i : Named). not (is_declared ds operation i.name))) (sym (names.each number))
+    ∙ (λ i. list_any (λ (x : Named). not (sym (agree x.name) i)) (row_at rows number)) ∙ is in
+    rw e refl
 
 -- ---- both rules
 pub unused_alone : (ds : List Parts) (operation : ℕ) (old new : Violations) → undefined_variables ds operation ≡ []
@@ -120,32 +159,30 @@ adds_operation ds operation numbers sorted old mid new are same in_order first s
 module _ (ds : List Parts) (rows : List (Vec Mention Global)) (graph : Graph) (operation : ℕ) (numbers : List ℕ)
     (names : AreUsedNames ds rows)
     (spreads : IsSpreadGraph ds graph) (are : IsPermutation numbers (reached ds operation)) where
-  pub walk_within : (walk : ℕ)
-      → walk ≤ sum_by (λ number. length (row_at rows number) + length (row_of graph number) + 1) numbers
-      → walk ≤ sum_by (walk_steps_in ds) (reached ds operation)
-  walk_within walk le =
-      let terms =
-      sum_by-le-sum_by (λ number. length (row_at rows number) + length (row_of graph number) + 1)
-      (walk_steps_in ds) numbers
-      (λ number. let few = names.few number in let row = ap length (spreads.edges number) in omega arith) in
-      let same = sum_by-IsPermutation (walk_steps_in ds) numbers (reached ds operation) are in
-      omega arith
+  walk_is : sum_by (λ number. length (row_at rows number) + length (row_of graph number) + 1) numbers
+      ≡ sum_by (walk_steps_in ds) (reached ds operation)
+  walk_is =
+      (λ i. sum_by (λ number. length (names.each number i) + length (spreads.edges number i) + 1) numbers)
+      ∙ sym (sum_by-IsPermutation (walk_steps_in ds) numbers (reached ds operation) are)
 
   both : steps_of ds operation
-      ≡ sum_by (walk_steps_in ds) (reached ds operation)
-      + sum_by (λ number. length (at ds number).used) (reached ds operation)
-  both = sum_both (walk_steps_in ds) (λ number. length (at ds number).used) (reached ds operation)
+      ≡ sum_by (walk_steps_in ds) (reached ds operation) + sum_by (use_steps_in ds operation) (reached ds operation)
+  both = sum_both (walk_steps_in ds) (use_steps_in ds operation) (reached ds operation)
 
   pub walk_alone : (walk : ℕ)
-      → walk ≤ sum_by (λ number. length (row_at rows number) + length (row_of graph number) + 1) numbers
-      → walk ≤ steps_of ds operation
-  walk_alone walk le = let l = walk_within walk le in omega (arith, both)
+      → walk ≡ capped (sum_by (λ number. length (row_at rows number) + length (row_of graph number) + 1) numbers)
+      → sum_by (use_steps_in ds operation) (reached ds operation) ≡ 0
+      → walk ≡ capped (steps_of ds operation)
+  walk_alone walk is none =
+      let sum : steps_of ds operation ≡ sum_by (walk_steps_in ds) (reached ds operation) =
+      let b = both in omega arith in
+      is ∙ ap capped (walk_is ∙ sym sum)
 
   pub walk_and_uses : (walk uses : ℕ) (sorted : List ℕ) → IsPermutation numbers sorted
-      → walk ≤ sum_by (λ number. length (row_at rows number) + length (row_of graph number) + 1) numbers
-      → uses ≤ sum_by (λ number. length (at ds number).used) sorted → walk + uses ≤ steps_of ds operation
-  walk_and_uses walk uses sorted same le within =
-      let l = walk_within walk le in
-      let one = sum_by-IsPermutation (λ number. length (at ds number).used) numbers sorted same in
-      let other = sum_by-IsPermutation (λ number. length (at ds number).used) numbers (reached ds operation) are in
-      omega (arith, both)
+      → walk ≡ capped (sum_by (λ number. length (row_at rows number) + length (row_of graph number) + 1) numbers)
+      → uses ≡ capped (sum_by (use_steps_in ds operation) sorted)
+      → capped (walk + uses) ≡ capped (steps_of ds operation)
+  walk_and_uses walk uses sorted same is uses_are =
+      let one = sum_by-IsPermutation (use_steps_in ds operation) numbers sorted same in
+      let other = sum_by-IsPermutation (use_steps_in ds operation) numbers (reached ds operation) are in
+      rw (is, uses_are, walk_is, one, ← other, both) (capped_sum _ _)

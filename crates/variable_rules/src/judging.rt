@@ -1,5 +1,5 @@
 // The variables of operations, one operation after another.
-ghost use Rattle.std.specs.Prelude.{◌≡◌, ◌+◌, ◌<◌, ◌≤◌, IfOk, IfSome, None, OnOk, length, map};
+ghost use Rattle.std.specs.Prelude.{◌≡◌, ℕ, ◌+◌, ◌<◌, IfOk, IfSome, None, OnOk, length, map};
 ghost use Rattle.std.specs.List.{All, flat_map, sum_by};
 ghost use Rattle.std.specs.List.Sorted.{IsPermutation};
 ghost use Rattle.directed_graph.specs.Graph.{IsClosed, row_of};
@@ -10,7 +10,7 @@ ghost use Rattle.validation_rules.specs.Graphs.{IsSpreadGraph};
 ghost use Rattle.validation_rules.specs.Parts.{as_parts, at, is_declared, operations as operations_of};
 ghost use Rattle.validation_rules.specs.Parts.{reached as reached_by};
 ghost use Rattle.validation_rules.specs.Violations.{Adds};
-ghost use Rattle.variable_rules.specs.Steps.{IsUsedUp, are_used_up, before, steps_of};
+ghost use Rattle.variable_rules.specs.Steps.{EndsAt, are_used_up, before, capped, steps_of, use_steps_in};
 ghost use Rattle.variable_rules.specs.UsedNames.{AddsNames, AreUsedNames, is_known, row_at};
 
 use crate::reaching::{edges, in_order, reached};
@@ -67,7 +67,7 @@ fn add_undefined<'t>(
         (λ _. Adds (flat_map (undefined_variables_in (map as_parts parts.now) operation) numbers.now)
         violations.old violations.new) }
     ensures steps { IfOk result
-        (λ steps. steps ≤ sum_by (λ number. length (at (map as_parts parts.now) number).used) numbers.now) }
+        (λ steps. steps ≡ capped (sum_by (use_steps_in (map as_parts parts.now) operation) numbers.now)) }
 {
     let other = Some(part_at(parts, operation).definition.site);
     let mut steps: usize = 0;
@@ -91,8 +91,8 @@ fn add_undefined<'t>(
 fn walk_steps<'t>(names: &[Vec<Mention<'t>>], graph: &[Vec<usize>], numbers: &[usize]) -> usize
     requires inside { All (λ number. number < length names.now) numbers.now }
     requires as_many { length graph.now ≡ length names.now }
-    ensures { result ≤ sum_by (λ number. length (row_at names.now number) + length (row_of graph.now number) + 1)
-        numbers.now }
+    ensures { result ≡ capped (sum_by
+        (λ number. length (row_at names.now number) + length (row_of graph.now number) + 1) numbers.now) }
 {
     let mut steps: usize = 0;
     for number in numbers {
@@ -121,7 +121,7 @@ fn add_operation<'t>(
     requires numbers { IsPermutation numbers.items (reached_by (map as_parts parts.now) operation) }
     ensures adds { IfOk result
         (λ _. Adds (variables_of (map as_parts parts.now) operation) violations.old violations.new) }
-    ensures steps { IfOk result (λ steps. steps ≤ steps_of (map as_parts parts.now) operation) }
+    ensures steps { IfOk result (λ steps. steps ≡ capped (steps_of (map as_parts parts.now) operation)) }
 {
     let used = names_among(alloc, names, &numbers)?;
     let party = Some(part_at(parts, operation).definition.site);
@@ -143,9 +143,9 @@ fn add_operation<'t>(
     Ok(steps.saturating_add(uses))
 }
 
-// Whether all steps are taken.
+// Whether all steps are taken, of which there may be more than `usize` holds.
 fn are_used_up(steps: Option<usize>, taken: usize) -> bool
-    ensures { result ≡ are_used_up steps taken }
+    ensures { (all : ℕ) → taken ≡ capped all → result ≡ are_used_up steps all }
 {
     match steps {
         Some(steps) => steps <= taken,
@@ -171,7 +171,10 @@ fn add_operations<'t>(
     ensures adds { IfOk result
         (λ ended_at. Adds (flat_map (variables_of (map as_parts parts.now)) (before ended_at operations.now))
         violations.old violations.new) }
-    ensures ended { IfOk result (λ ended_at. IfSome ended_at (IsUsedUp (map as_parts parts.now) operations.now steps)) }
+    ensures ended { IfOk result (λ ended_at. length violations.new.list.items < violations.new.most
+        → EndsAt steps (map as_parts parts.now) operations.now ended_at) }
+    ensures inside { IfOk result (λ ended_at. IfSome ended_at (λ number. number < length operations.now)) }
+    ensures unlimited { IfOk result (λ ended_at. steps ≡ None → ended_at ≡ None) }
 {
     let mut marks = vec![in alloc; false; graph.len()]?;
     let mut taken: usize = 0;
@@ -194,10 +197,11 @@ fn add_operations<'t>(
 /// operation.
 ///
 /// `graph` is `spread_graph` of the definitions, and `operations` their `operations`. An operation takes a step for
-/// each definition that it reaches, and for each spread and each name of variables in these; and where it does not
-/// declare a name, for each use. When `steps` are used up, no further operation is judged, and the answer is which one
-/// is next, as its number among the operations: all before it were judged. Without a number of steps all are judged,
-/// and the answer is `None`.
+/// each definition that it reaches, for each spread in these, and for each name of variables that one of these uses. A
+/// definition that uses a variable which the operation does not declare takes a step for each use, too. When `steps`
+/// are used up, no further operation is judged, and the answer is which one is next, as its number among the
+/// operations: all before it were judged. Without a number of steps all are judged, and the answer is `None`. It may be
+/// `None`, too, if the list is full.
 pub fn add_variables<'t>(
     alloc: Global,
     violations: &mut Violations<'t>,
@@ -212,7 +216,9 @@ pub fn add_variables<'t>(
     ensures adds { IfOk result
         (λ ended_at. Adds (flat_map (variables_of (map as_parts parts.now)) (before ended_at operations.now))
         violations.old violations.new) }
-    ensures ended { IfOk result (λ ended_at. IfSome ended_at (IsUsedUp (map as_parts parts.now) operations.now steps)) }
+    ensures ended { IfOk result (λ ended_at. length violations.new.list.items < violations.new.most
+        → EndsAt steps (map as_parts parts.now) operations.now ended_at) }
+    ensures inside { IfOk result (λ ended_at. IfSome ended_at (λ number. number < length operations.now)) }
     ensures unlimited { IfOk result (λ ended_at. steps ≡ None → ended_at ≡ None) }
 {
     let names = used_names(alloc, parts)?;

@@ -1,9 +1,9 @@
 // The names of variables that each definition uses, read once.
-ghost use Rattle.std.specs.Prelude.{◌≡◌, ◌<◌, ◌≤◌, IfOk, List, OnOk, ◌++◌, length, map, not};
+ghost use Rattle.std.specs.Prelude.{◌≡◌, ◌<◌, IfOk, List, OnOk, ◌++◌, length, map, not};
 ghost use Rattle.std.specs.List.{All, flat_map, list_any};
 ghost use Rattle.validation_names.specs.Mentions.{Named, as_named};
 ghost use Rattle.validation_rules.specs.Parts.{as_parts};
-ghost use Rattle.variable_rules.specs.UsedNames.{AreFirsts, AreUsedNames, HaveSameNames, is_known, row_at};
+ghost use Rattle.variable_rules.specs.UsedNames.{AreFirsts, AreUsedNames, firsts_of, is_known, row_at};
 
 use std::alloc::{AllocError, Global};
 use std::collections::BTreeMap;
@@ -33,8 +33,7 @@ fn first_of_each_name<'t>(
     alloc: Global,
     items: &[Mention<'t>],
 ) -> Result<Vec<Mention<'t>>, AllocError>
-    ensures same { IfOk result (λ firsts. HaveSameNames (map as_named firsts.items) (map as_named items.now)) }
-    ensures few { IfOk result (λ firsts. length firsts.items ≤ length items.now) }
+    ensures { IfOk result (λ firsts. map as_named firsts.items ≡ firsts_of (map as_named items.now)) }
 {
     let mut known: BTreeMap<&'t str, usize> = BTreeMap::new(alloc);
     let mut firsts = Vec::new(alloc);

@@ -1,24 +1,24 @@
-use Rattle.std.proofs.Common.{map, refl, ◌∙◌}
+use Rattle.std.proofs.Common.{map}
 use Rattle.apollo_tree.specs.References.{node_place}
-use Rattle.document_validation.proofs.ReadLemmas.{adds_in_order, all_variables}
+use Rattle.document_validation.proofs.ReadLemmas.{adds_in_order, ends_read, variables_read}
 use Rattle.document_validation.proofs.validation.add_all.Goals as goal
 
 pub add_unused_fragments-requires-clause-closed : goal.add_unused_fragments-requires-clause-closed
-add_unused_fragments-requires-clause-closed c = rw c.deref-2.ensures.value c.in_ok-graph.ensures.closed
+add_unused_fragments-requires-clause-closed c = rw c.deref.ensures.value c.in_ok-graph.ensures.closed
 
 pub add_cycles-requires-clause-closed : goal.add_cycles-requires-clause-closed
-add_cycles-requires-clause-closed c = rw c.deref-4.ensures.value c.in_ok-graph.ensures.closed
+add_cycles-requires-clause-closed c = rw c.deref-2.ensures.value c.in_ok-graph.ensures.closed
 
 pub add_variables-requires-clause-closed : goal.add_variables-requires-clause-closed
-add_variables-requires-clause-closed c = rw c.deref-5.ensures.value c.in_ok-graph.ensures.closed
+add_variables-requires-clause-closed c = rw c.deref-3.ensures.value c.in_ok-graph.ensures.closed
 
-pub returns : goal.returns
-returns c =
+pub returns-clause-adds : goal.returns-clause-adds
+returns-clause-adds c =
     let definitions = c.requires.definitions in
     let parts = c.requires.parts in
-    let numbers = c.deref-6.ensures.value ∙ c.in_ok-numbers.ensures in
-    let variables = c.in_ok-add_variables.ensures in
-    adds_in_order (map node_place c.args.documents.now) c.args.violations.now c.add_foreign.new.violations
+    let variables = c.in_ok-ended_at.ensures in
+    adds_in_order (map node_place c.args.documents.now) c.in_ok-ended_at.ended_at c.args.violations.now
+    c.add_foreign.new.violations
     c.add_repeated_names.new.violations
     c.add_anonymous.new.violations c.add_lists.new.violations c.add_repeated_names-2.new.violations
     c.add_unused_fragments.new.violations
@@ -28,4 +28,9 @@ returns c =
     (rw definitions at c.in_ok-add_repeated_names-2.ensures)
     (rw parts at c.in_ok-add_unused_fragments.ensures) (rw parts at c.in_ok-add_undefined_spreads.ensures)
     (rw parts at c.in_ok-add_cycles.ensures)
-    (all_variables _ _ _ _ _ _ (variables.unlimited refl) numbers parts variables.adds)
+    (variables_read _ _ _ _ _ _ c.requires.numbers parts variables.adds)
+
+pub returns-clause-ended : goal.returns-clause-ended
+returns-clause-ended c room =
+    ends_read c.args.steps _ _ _ c.in_ok-ended_at.ended_at c.requires.numbers c.requires.parts
+    (c.in_ok-ended_at.ensures.ended room)

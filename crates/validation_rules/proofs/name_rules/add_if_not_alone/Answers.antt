@@ -1,4 +1,4 @@
-use Rattle.std.proofs.Common.{◌≡◌, arith, map, sym}
+use Rattle.std.proofs.Common.{map, sym}
 use Rattle.std.proofs.lemmas.List.{length-map}
 use Rattle.validation_rules.specs.Parts.{as_parts}
 use Rattle.validation_rules.proofs.SpreadLemmas.{find_has, operations_inside}

@@ -1,4 +1,4 @@
-use Rattle.std.proofs.Common.{◌≡◌, ◌<◌, ◌≤◌, None, arith, get_or, length, map, sym, ◌∙◌}
+use Rattle.std.proofs.Common.{◌≤◌, None, arith, get_or, length, map, ◌∙◌}
 use Rattle.std.proofs.lemmas.List.{length-map}
 use Rattle.validation_rules.specs.Broken.{on_cycle_at}
 use Rattle.validation_rules.specs.Parts.{as_parts, numbers}

@@ -1,4 +1,4 @@
-use Rattle.std.proofs.Common.{is_some, ◌≡◌, ◌<◌, ◌≤◌, arith, length, map, sym, ◌∙◌, ap}
+use Rattle.std.proofs.Common.{is_some, ◌≡◌, ◌<◌, ◌≤◌, arith, length, map, ◌∙◌, ap}
 use Rattle.std.proofs.lemmas.List.{length-map}
 use Rattle.validation_names.specs.Definitions.{fragment_names}
 use Rattle.validation_names.specs.Mentions.{as_named}

@@ -1,4 +1,4 @@
-use Rattle.std.proofs.Common.{◌<◌, Some, arith, map, not, sym, ap, ◌∙◌, subst}
+use Rattle.std.proofs.Common.{◌<◌, Some, map, not, sym, ap, ◌∙◌, subst}
 use Rattle.std.specs.List.{All, list_any}
 use Rattle.std.specs.List.Sorted.{IsNonDecreasing, IsPermutation}
 use Rattle.std.proofs.lemmas.List.{length-map}
@@ -7,7 +7,8 @@ use Rattle.validation_names.specs.Mentions.{Named, as_named}
 use Rattle.validation_rules.specs.declared.violations.Rule.TheVariants.{NoUnusedVariables}
 use Rattle.validation_rules.specs.Parts.{Parts, as_parts, at, is_used, reached, site_at}
 use Rattle.variable_rules.specs.UsedNames.{is_known}
-use Rattle.variable_rules.proofs.WalkLemmas.{adds_operation, inside_reached, inside_rows, none_undefined, read_again}
+use Rattle.variable_rules.proofs.WalkLemmas.{adds_operation, inside_reached, inside_rows, no_use_steps, none_undefined}
+use Rattle.variable_rules.proofs.WalkLemmas.{read_again}
 use Rattle.variable_rules.proofs.WalkLemmas.{unknown_are, unused_alone, used_is, walk_alone, walk_and_uses}
 use Rattle.variable_rules.proofs.judging.add_operation.Goals as goal
 
@@ -53,9 +54,20 @@ returns-then-not-has_unknown-clause-steps c =
     let ds = map as_parts c.args.parts.now in
     let are = read_again c.args.numbers.items c.deref-3.result.now (reached ds c.args.operation)
     c.deref-3.ensures.value c.requires.numbers in
-    walk_alone ds c.args.names.now c.args.graph.now c.args.operation c.deref-3.result.now c.requires.names
+    let o = c.args.operation in
+    let used = c.in_ok-used.used in
+    let first = read_again c.args.numbers.items c.deref.result.now (reached ds o)
+    c.deref.ensures.value c.requires.numbers in
+    let none =
+    no_use_steps ds c.args.names.now o c.deref.result.now used.known (map as_named used.items.items) c.requires.names
+    first c.in_ok-used.ensures
+    (is_known c.in_ok-declared.declared) c.in_ok-declared.ensures
+    (ap (list_any (λ (i : Named). not (is_known c.in_ok-declared.declared i.name)))
+    (ap (map as_named) (sym c.deref-4.ensures.value))
+    ∙ sym c.has_unknown.ensures ∙ c.if-not-has_unknown.true) in
+    walk_alone ds c.args.names.now c.args.graph.now o c.deref-3.result.now c.requires.names
     c.requires.graph are _
-    c.walk_steps-steps.ensures
+    c.walk_steps-steps.ensures none
 
 pub add_undefined-requires-clause-numbers : goal.add_undefined-requires-clause-numbers
 add_undefined-requires-clause-numbers c =
@@ -95,8 +107,7 @@ returns-clause-steps c =
     let one = subst (λ xs. IsPermutation xs c.in_order-sorted.result.items) (sym c.deref-3.ensures.value)
     c.in_order-sorted.ensures.same in
     let sorted = subst (λ xs. IsPermutation c.deref-3.result.now xs) (sym c.deref-5.ensures.value) one in
-    let within =
-    walk_and_uses ds c.args.names.now c.args.graph.now c.args.operation c.deref-3.result.now c.requires.names
+    c.saturating_add.ensures
+    ∙ walk_and_uses ds c.args.names.now c.args.graph.now c.args.operation c.deref-3.result.now c.requires.names
     c.requires.graph are _ _
-    c.deref-5.result.now sorted c.walk_steps-steps.ensures c.in_ok-uses.ensures.steps in
-    omega arith
+    c.deref-5.result.now sorted c.walk_steps-steps.ensures c.in_ok-uses.ensures.steps

@@ -1,5 +1,7 @@
-use Rattle.std.proofs.Common.{arith, map, get_or, subst}
+use Rattle.std.proofs.Common.{◌≡◌, ◌≢◌, ◌<◌, ◌≤◌, true, false, arith, length, map, get_or, subst, sym, ⊎_elim}
 use Rattle.std.specs.List.Sorted.{IsPermutation}
+use Rattle.std.proofs.lemmas.Bool.{cases_eq}
+use Rattle.std.proofs.lemmas.Bool.Decides.{nat_tests}
 use Rattle.std.proofs.lemmas.List.{get_or_default}
 use Rattle.std.proofs.lemmas.List.Sums.{sum_by_more}
 use Rattle.validation_rules.specs.Broken.{variables_of}
@@ -32,6 +34,11 @@ loop-number-preserved c =
           c.in_ok-more.ensures.adds;
       taken = let i = inv.taken in let m = c.in_ok-more.ensures.steps in let t = c.saturating_add-taken.ensures in
           omega arith;
+      going_on = λ k less.
+          ⊎_elim
+          (λ (e : k ≡ n). rw e (sym (c.if-are_used_up.ensures _ inv.taken)))
+          (λ (other : k ≢ n). let before : k < n = omega arith in inv.going_on k before)
+          (cases_eq k n);
     }
 
 pub returns-then-is_full-clause-adds : goal.returns-then-is_full-clause-adds
@@ -44,3 +51,27 @@ pub returns-clause-adds : goal.returns-clause-adds
 returns-clause-adds c =
     adds_all (variables_of (map as_parts c.args.parts.now)) c.args.operations.now c.loop-number.number _ _ (omega arith)
     c.loop-number.invariant.adds
+
+pub returns-then-is_full-clause-ended : goal.returns-then-is_full-clause-ended
+returns-then-is_full-clause-ended c room =
+    let v = c.loop-number.violations in
+    let full = c.if-is_full.ensures in
+    let le : v.most ≤ length v.list.items = grind (arith, nat_tests, full) in
+    absurd (omega arith)
+
+pub returns-then-are_used_up-clause-ended : goal.returns-then-are_used_up-clause-ended
+returns-then-are_used_up-clause-ended c room = (
+  c.loop-number-test.true,
+  sym (c.if-are_used_up.ensures _ c.loop-number.invariant.taken),
+  c.loop-number.invariant.going_on,
+)
+
+pub returns-then-are_used_up-clause-unlimited : goal.returns-then-are_used_up-clause-unlimited
+returns-then-are_used_up-clause-unlimited c none =
+    let used_up = c.if-are_used_up.ensures _ c.loop-number.invariant.taken in
+    absurd (let e : true ≡ false = rw none at used_up in cc)
+
+pub returns-clause-ended : goal.returns-clause-ended
+returns-clause-ended c room k below =
+    let before : k < c.loop-number.number = omega arith in
+    c.loop-number.invariant.going_on k before

@@ -1,10 +1,10 @@
-use Rattle.std.proofs.Common.{◌≡◌, ◌≤◌, length, map, take}
+use Rattle.std.proofs.Common.{◌≡◌, ℕ, ◌<◌, false, length, map, take}
 use Rattle.std.specs.List.{flat_map, sum_by}
 use Rattle.directed_graph.specs.Marks.{AreUnmarked}
 use Rattle.validation_rules.specs.Parts.{as_parts}
 use Rattle.validation_rules.specs.Broken.{variables_of}
 use Rattle.validation_rules.specs.Violations.{Adds}
-use Rattle.variable_rules.specs.Steps.{steps_of}
+use Rattle.variable_rules.specs.Steps.{capped, is_used_up_at, steps_of}
 use Rattle.variable_rules.proofs.judging.add_operations.Given as goal
 
 abbrev pub invariant-loop-number : goal.invariant-loop-number
@@ -13,5 +13,6 @@ invariant-loop-number l = record {
   unmarked : AreUnmarked l.marks.items;
   adds : Adds (flat_map (variables_of (map as_parts l.parts)) (take l.number l.operations))
       l.initial.violations l.violations;
-  taken : l.taken ≤ sum_by (steps_of (map as_parts l.parts)) (take l.number l.operations);
+  taken : l.taken ≡ capped (sum_by (steps_of (map as_parts l.parts)) (take l.number l.operations));
+  going_on : (k : ℕ) → k < l.number → is_used_up_at l.steps (map as_parts l.parts) l.operations k ≡ false;
 }

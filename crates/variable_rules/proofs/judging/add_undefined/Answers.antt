@@ -1,4 +1,4 @@
-use Rattle.std.proofs.Common.{◌≡◌, ◌<◌, [], Some, not, arith, length, map, get_or, sym, ap, refl, ◌∙◌}
+use Rattle.std.proofs.Common.{◌≡◌, ◌<◌, [], Some, not, true, false, arith, length, map, get_or, sym, ap, refl, ◌∙◌}
 use Rattle.std.specs.List.{list_any}
 use Rattle.std.proofs.Math.Seq.{take-length}
 use Rattle.std.proofs.lemmas.List.{get_or_default, length-map}
@@ -8,9 +8,10 @@ use Rattle.validation_rules.specs.declared.violations.Rule.TheVariants.{NoUndefi
 use Rattle.validation_rules.specs.Broken.{undefined_variables_in}
 use Rattle.validation_rules.specs.Parts.{Parts, as_parts, at, is_declared, site_at}
 use Rattle.validation_rules.proofs.AddLemmas.{adds_all, adds_next, adds_none}
-use Rattle.variable_rules.specs.UsedNames.{is_known, row_at}
+use Rattle.variable_rules.specs.Steps.{use_steps_in}
+use Rattle.variable_rules.specs.UsedNames.{is_known}
 use Rattle.variable_rules.proofs.KnownLemmas.{none_unknown}
-use Rattle.variable_rules.proofs.WalkLemmas.{unknown_are}
+use Rattle.variable_rules.proofs.WalkLemmas.{unknown_are, use_steps_are}
 use Rattle.variable_rules.proofs.judging.add_undefined.Goals as goal
 use Rattle.variable_rules.proofs.judging.add_undefined.Goals.{then-has_unknown+in_ok-add_unknown, else-has_unknown}
 
@@ -22,7 +23,7 @@ row-requires c =
     omega arith
 
 pub loop-number-init : goal.loop-number-init
-loop-number-init c = record { adds = adds_none c.args.violations.now; steps = omega arith }
+loop-number-init c = record { adds = adds_none c.args.violations.now; steps = refl }
 
 pub loop-number-preserved : goal.loop-number-preserved
 loop-number-preserved c =
@@ -35,8 +36,9 @@ loop-number-preserved c =
     let inv = c.loop-number.invariant in
     let knows = is_known c.args.declared.now in
     let party = ap (λ (d : Parts). Some d.definition.site) c.part_at.ensures in
-    let sums = sum_by_more (λ k. length (at ds k).used) numbers n 0 below in
+    let sums = sum_by_more (use_steps_in ds o) numbers n 0 below in
     let read = get_or_default numbers n 0 number below in
+    let fails = λ (i : Named). not (knows i.name) in
     elim c.if-has_unknown.branch [
       | then-has_unknown+in_ok-add_unknown w ↦
           let uses = ap (map as_named) w.deref-used.ensures.value
@@ -48,22 +50,26 @@ loop-number-preserved c =
                 (adds_next (undefined_variables_in ds o) numbers n number _ _ _ below read inv.adds
                 (rw same at w.in_ok-add_unknown.ensures));
             steps = rw w.steps-is (let i = inv.steps in let l = ap length uses in
-                let m = length-map w.deref-used.result.now as_named in omega arith);
+                let m = length-map w.deref-used.result.now as_named in
+                let u = use_steps_are ds c.args.names.now o number knows true c.requires.names c.requires.declared
+                (ap (list_any fails) (sym c.row.ensures) ∙ sym c.has_unknown.ensures ∙ w.if-has_unknown.true) in
+                omega arith);
           }
       | else-has_unknown w ↦
-          let fails = λ (i : Named). not (knows i.name) in
           let none = ap (list_any fails) (sym c.row.ensures) ∙ sym c.has_unknown.ensures ∙ w.if-has_unknown.false in
           let empty : undefined_variables_in ds o number ≡ [] =
           sym (unknown_are NoUndefinedVariables (Some (site_at ds o)) _ knows (is_declared ds o) (at ds number).used _
           refl c.requires.declared refl)
-          ∙ none_unknown NoUndefinedVariables (Some (site_at ds o)) knows
-          (row_at c.args.names.now number) (at ds number).used
-          (c.requires.names.each number) none in
+          ∙ none_unknown NoUndefinedVariables (Some (site_at ds o)) knows (at ds number).used
+          (ap (list_any fails) (sym (c.requires.names.each number)) ∙ none) in
           record {
             adds = rw w.violations-is
                 (adds_next (undefined_variables_in ds o) numbers n number _ _ _ below read inv.adds
                 (rw empty (adds_none c.loop-number.violations)));
-            steps = rw w.steps-is (let i = inv.steps in omega arith);
+            steps = rw w.steps-is (let i = inv.steps in
+                let u = use_steps_are ds c.args.names.now o number knows false c.requires.names c.requires.declared
+                none in
+                omega arith);
           }
     ]
 

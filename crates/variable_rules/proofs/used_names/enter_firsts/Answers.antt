@@ -1,4 +1,4 @@
-use Rattle.std.proofs.Common.{◌≡◌, [], ◌∷◌, ◌++◌, arith, length, map, take, is_some, not, true, ap, sym, ◌∙◌}
+use Rattle.std.proofs.Common.{◌≡◌, [], ◌∷◌, ◌++◌, arith, length, map, take, is_some, not, true, false, ap, sym, ◌∙◌}
 use Rattle.std.proofs.Math.Seq.{take-length}
 use Rattle.std.proofs.lemmas.List.{append-nil, append_assoc, map-append, map_more}
 use Rattle.validation_names.specs.declared.name_mentions.Mention.{Mention}
@@ -25,10 +25,12 @@ loop-item-preserved c before are =
     rw step
     (elim c.if-is_none.branch [
       | then-is_none+in_ok-push w ↦
+          let was : is_known c.loop-item.known item.name.now ≡ false =
+          ap is_some (sym c.in_ok-enter.ensures.earlier) ∙ c.is_none.ensures ∙ ap not w.if-is_none.true in
           rw (w.firsts-is, w.in_ok-push.ensures.items, map-append)
           (first_more c.loop-item.known c.enter.new.entries (map as_named c.loop-item.firsts.items)
           items (as_named item) _ inv
-          c.in_ok-enter.ensures.entered)
+          c.in_ok-enter.ensures.entered was)
       | else-is_none w ↦
           let was : is_known c.loop-item.known item.name.now ≡ true =
           ap is_some (sym c.in_ok-enter.ensures.earlier) ∙ c.is_none.ensures ∙ ap not w.if-is_none.false in

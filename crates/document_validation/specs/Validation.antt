@@ -1,0 +1,42 @@
+-- What a validation finds, of the rules and in the documents that are asked for, and within a number of steps.
+use Rattle.std.specs.Prelude.{◌≡◌, ℕ, ◌<◌, List, [], length, map, slice_index, Option, None, option_map, IfSome}
+use Rattle.apollo_tree.specs.Order.{Place}
+use Rattle.validation_names.specs.Sites.{Located, as_located}
+use Rattle.validation_rules.specs.declared.selection.Selection.{Selection}
+use Rattle.validation_rules.specs.Parts.{operations, parts_in, site_at}
+use Rattle.validation_rules.specs.Violations.{as_breach, selected}
+use Rattle.variable_rules.specs.Steps.{EndsAt}
+use Rattle.document_validation.specs.Breaches.{AreFound, breaches, breaches_before}
+use Rattle.document_validation.specs.declared.validation.Validation.{Validation}
+use Rattle.document_validation.specs.declared.validation.ValidationOptions.{ValidationOptions}
+
+-- Nothing that is asked for breaks a rule.
+abbrev pub AreValidIn : Selection → List Place → Type 0
+AreValidIn selection documents = selected selection (breaches documents) ≡ []
+
+-- Of the operations of some documents, validation ends before the one with this number, or before none.
+abbrev pub ValidationEndsAt : Option ℕ → List Place → Option ℕ → Type 0
+ValidationEndsAt steps documents ended_at =
+    EndsAt steps (parts_in documents) (operations (parts_in documents)) ended_at
+
+-- The steps suffice for all operations.
+abbrev pub AreDecided : Option ℕ → List Place → Type 0
+AreDecided steps documents = ValidationEndsAt steps documents None
+
+-- the operation with a number
+abbrev pub operation_site : List Place → ℕ → Located
+operation_site documents number = site_at (parts_in documents) (slice_index (operations (parts_in documents)) number)
+
+-- What a validation finds.
+pub record IsValidation (options : ValidationOptions) (documents : List Place) (validation : Validation) : Type 0 where
+  -- the operation before which it ended, because the steps were used up
+  pub ended_at : Option ℕ
+  pub undecided : option_map as_located validation.undecided ≡ option_map (operation_site documents) ended_at
+  pub inside : IfSome ended_at (λ number. number < length (operations (parts_in documents)))
+  -- Where there is room for more violations, it ended there and nowhere else.
+  pub ended : length validation.violations.items < options.most
+      → ValidationEndsAt options.steps documents ended_at
+  pub unlimited : options.steps ≡ None → ended_at ≡ None
+  -- the first breaches that are asked for, up to a bound, in the order of the text
+  pub found : AreFound options.most (selected options.selection (breaches_before ended_at documents))
+      (map as_breach validation.violations.items)
