@@ -18,7 +18,7 @@ use Rattle.validation_rules.specs.Broken.{variables_of}
 use Rattle.validation_rules.specs.Parts.{Parts, operations, parts_in}
 use Rattle.validation_rules.specs.Selection.{is_selected_at}
 use Rattle.validation_rules.specs.Violations.{Adds, Breach, as_breach, found, is_selected, selected}
-use Rattle.variable_rules.specs.Steps.{EndsAt}
+use Rattle.variable_rules.proofs.WalkLemmas.{ends_once}
 use Rattle.document_validation.specs.Breaches.{breaches, breaches_before, variables_before}
 use Rattle.document_validation.specs.Validation.{AreDecided, AreValidIn, IsValidation, ValidationEndsAt}
 use Rattle.document_validation.specs.declared.validation.Validation.{Validation}
@@ -78,50 +78,7 @@ pub all_selected : (selection : Selection) (bs : List Breach)
 all_selected selection [] all = refl
 all_selected selection (b ∷ bs) all = rw (all b.rule b.site) (ap (λ rest. b ∷ rest) (all_selected selection bs all))
 
--- ---- what is found of the operations that were judged is a part of all
-nil_parts : (xs ys : List Breach) → xs ++ ys ≡ [] → (xs ≡ []) × (ys ≡ [])
-nil_parts [] ys none = (refl, none)
-nil_parts (x ∷ xs) ys none = absurd (cc)
-
-selected_parts : (selection : Selection) (xs ys : List Breach) → selected selection (xs ++ ys) ≡ []
-    → (selected selection xs ≡ []) × (selected selection ys ≡ [])
-selected_parts selection xs ys none =
-    nil_parts (selected selection xs) (selected selection ys)
-    (sym (filter-append (is_selected selection) xs ys) ∙ none)
-
-selected_both : (selection : Selection) (xs ys : List Breach) → selected selection xs ≡ []
-    → selected selection ys ≡ []
-    → selected selection (xs ++ ys) ≡ []
-selected_both selection xs ys none nothing_more =
-    filter-append (is_selected selection) xs ys ∙ rw (none, nothing_more) refl
-
-judged_before : (selection : Selection) (ds : List Parts) (ended_at : Option ℕ)
-    → selected selection (variables_before None ds) ≡ [] → selected selection (variables_before ended_at ds) ≡ []
-judged_before selection ds None none = none
-judged_before selection ds (Some k) none =
-    let numbers = operations ds in
-    let all : flat_map (variables_of ds) (take k numbers) ++ flat_map (variables_of ds) (drop k numbers)
-    ≡ flat_map (variables_of ds) numbers =
-    sym (flat_map-append (variables_of ds) (take k numbers) (drop k numbers))
-    ∙ ap (flat_map (variables_of ds)) (take-append-drop k numbers) in
-    (selected_parts selection (flat_map (variables_of ds) (take k numbers))
-    (flat_map (variables_of ds) (drop k numbers)) (ap (selected selection) all ∙ none)).0
-
-pub valid_before : (selection : Selection) (documents : List Place) (ended_at : Option ℕ)
-    → selected selection (breaches documents) ≡ [] → selected selection (breaches_before ended_at documents) ≡ []
-valid_before selection documents ended_at none =
-    let parts = selected_parts selection _ (variables_before None (parts_in documents)) none in
-    selected_both selection _ (variables_before ended_at (parts_in documents)) parts.0
-    (judged_before selection (parts_in documents) ended_at parts.1)
-
 -- ---- where validation ends
-pub ends_once : (steps : Option ℕ) (ds : List Parts) (numbers : List ℕ) (ended_at : Option ℕ)
-    → EndsAt steps ds numbers None → EndsAt steps ds numbers ended_at
-    → ended_at ≡ None
-ends_once steps ds numbers None decided ended = refl
-ends_once steps ds numbers (Some k) decided ended =
-    absurd (let e : false ≡ true = sym (decided k ended.0) ∙ ended.1 in cc)
-
 pub none_of : {A B C : Type 0} (f : A → C) (g : B → C) (x : Option A) (y : Option B)
     → option_map f x ≡ option_map g y → x ≡ None → y ≡ None
 none_of f g None None same none = refl
@@ -137,9 +94,10 @@ pub decided_and_valid :
     ↔ (AreValidIn options.selection documents × AreDecided options.steps documents)
 decided_and_valid options documents v is some = (to, from)
   where
-    listed : (v.violations.items ≡ []) ↔ (selected options.selection (breaches_before is.ended_at documents) ≡ [])
-    listed = found_none options.most (selected options.selection (breaches_before is.ended_at documents))
-        v.violations.items is.found.same some
+    listed : ValidationEndsAt options.steps documents None
+        → (v.violations.items ≡ []) ↔ (selected options.selection (breaches documents) ≡ [])
+    listed decided = found_none options.most (selected options.selection (breaches documents))
+        v.violations.items (is.found None decided).same some
 
     room : v.violations.items ≡ [] → length v.violations.items < options.most
     room none = let l = ap length none in omega arith
@@ -147,15 +105,15 @@ decided_and_valid options documents v is some = (to, from)
     to : ((v.violations.items ≡ []) × (v.undecided ≡ None))
         → AreValidIn options.selection documents × AreDecided options.steps documents
     to (none, decided) =
-        let all : is.ended_at ≡ None = none_of _ _ v.undecided is.ended_at is.undecided decided in (
-          subst (λ e. selected options.selection (breaches_before e documents) ≡ []) all (listed.0 none),
-          subst (λ e. ValidationEndsAt options.steps documents e) all (is.ended (room none)),
-        )
+        let all : is.ended_at ≡ None = none_of _ _ v.undecided is.ended_at is.undecided decided in
+        let ends = subst (λ e. ValidationEndsAt options.steps documents e) all (is.ended (room none)) in
+        ((listed ends).0 none, ends)
 
     from : AreValidIn options.selection documents × AreDecided options.steps documents
         → (v.violations.items ≡ []) × (v.undecided ≡ None)
     from (valid, decided) =
-        let none = listed.1 (valid_before options.selection documents is.ended_at valid) in
-        let all = ends_once options.steps (parts_in documents) (operations (parts_in documents)) is.ended_at decided
-        (is.ended (room none)) in
+        let none = (listed decided).1 valid in
+        let all : is.ended_at ≡ None =
+        sym (ends_once options.steps (parts_in documents) (operations (parts_in documents)) None is.ended_at decided
+        (is.ended (room none))) in
         (none, none_of _ _ is.ended_at v.undecided (sym is.undecided) all)

@@ -1,5 +1,5 @@
 -- The definitions with their parts, as they are in a document.
-use Rattle.std.proofs.Common.{◌≡◌, ℕ, List, [], ◌∷◌, map, Option, refl, ◌∙◌, ap, subst}
+use Rattle.std.proofs.Common.{◌≡◌, ℕ, List, [], ◌∷◌, map, Option, refl, sym, ◌∙◌, ap, subst}
 use Rattle.std.specs.List.{flat_map}
 use Rattle.apollo_tree.specs.Order.{Place}
 use Rattle.validation_names.specs.declared.executables.ExecutableDefinition.{ExecutableDefinition}
@@ -50,6 +50,14 @@ pub ends_read :
     → EndsAt steps ds numbers ended_at → EndsAt steps es (operations es) ended_at
 ends_read steps ds es numbers ended_at are same ends =
     subst (λ xs. EndsAt steps xs (operations xs) ended_at) same (subst (λ ns. EndsAt steps ds ns ended_at) are ends)
+
+pub ends_back :
+    (steps : Option ℕ) (ds es : List Parts) (numbers : List ℕ) (ended_at : Option ℕ)
+    → numbers ≡ operations ds → ds ≡ es
+    → EndsAt steps es (operations es) ended_at → EndsAt steps ds numbers ended_at
+ends_back steps ds es numbers ended_at are same ends =
+    subst (λ ns. EndsAt steps ds ns ended_at) (sym are)
+    (subst (λ xs. EndsAt steps xs (operations xs) ended_at) (sym same) ends)
 
 -- all rules, one after another
 pub adds_in_order :

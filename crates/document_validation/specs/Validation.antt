@@ -29,14 +29,15 @@ operation_site documents number = site_at (parts_in documents) (slice_index (ope
 
 -- What a validation finds.
 pub record IsValidation (options : ValidationOptions) (documents : List Place) (validation : Validation) : Type 0 where
-  -- the operation before which it ended, because the steps were used up
+  -- the first breaches that are asked for, up to a bound, in the order of the text: on variables, those of the
+  -- operations before the one at which the steps are used up
+  pub found : (end : Option ℕ) → ValidationEndsAt options.steps documents end
+      → AreFound options.most (selected options.selection (breaches_before end documents))
+      (map as_breach validation.violations.items)
+  -- the operation before which it ended
   pub ended_at : Option ℕ
   pub undecided : option_map as_located validation.undecided ≡ option_map (operation_site documents) ended_at
   pub inside : IfSome ended_at (λ number. number < length (operations (parts_in documents)))
-  -- Where there is room for more violations, it ended there and nowhere else.
+  -- Where there is room for more violations, that is where the steps are used up.
   pub ended : length validation.violations.items < options.most
       → ValidationEndsAt options.steps documents ended_at
-  pub unlimited : options.steps ≡ None → ended_at ≡ None
-  -- the first breaches that are asked for, up to a bound, in the order of the text
-  pub found : AreFound options.most (selected options.selection (breaches_before ended_at documents))
-      (map as_breach validation.violations.items)

@@ -1,5 +1,6 @@
 // All rules on documents that are judged together.
-ghost use Rattle.std.specs.Prelude.{◌≡◌, ℕ, ◌<◌, ◌↔◌, [], IfOk, IfSome, None, OnOk, length, map, option_map};
+ghost use Rattle.std.specs.Prelude.{◌≡◌, ℕ, ◌<◌, ◌↔◌, [], IfOk, IfSome, None, OnOk, Option, length, map};
+ghost use Rattle.std.specs.Prelude.{option_map};
 ghost use Rattle.std.specs.Prelude.{slice_index};
 ghost use Rattle.apollo_tree.specs.References.{node_place};
 ghost use Rattle.validation_names.specs.Definitions.{as_defined, defined, fragment_names, named_definitions};
@@ -77,12 +78,11 @@ fn add_all<'t>(
     requires parts { map as_parts parts.now ≡ parts_in (map node_place documents.now) }
     requires same { definitions_of (map as_parts parts.now) ≡ map as_defined definitions.now }
     requires numbers { numbers.now ≡ operations_of (map as_parts parts.now) }
-    ensures adds { IfOk result (λ ended_at. Adds (breaches_before ended_at (map node_place documents.now))
-        violations.old violations.new) }
+    ensures adds { IfOk result (λ _. (end : Option ℕ) → ValidationEndsAt steps (map node_place documents.now) end
+        → Adds (breaches_before end (map node_place documents.now)) violations.old violations.new) }
     ensures ended { IfOk result (λ ended_at. length violations.new.list.items < violations.new.most
         → ValidationEndsAt steps (map node_place documents.now) ended_at) }
     ensures inside { IfOk result (λ ended_at. IfSome ended_at (λ number. number < length numbers.now)) }
-    ensures unlimited { IfOk result (λ ended_at. steps ≡ None → ended_at ≡ None) }
 {
     let fragments = fragments(alloc, definitions)?;
     let graph = spread_graph(alloc, parts, &fragments)?;

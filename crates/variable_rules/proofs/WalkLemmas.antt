@@ -1,8 +1,10 @@
 -- What a walk from an operation finds, in the words of the definitions.
 use Rattle.std.proofs.Common.{◌≡◌, ◌||◌, ℕ, suc, ◌+◌, ◌<◌, List, [], ◌∷◌, ◌++◌, length, take, get_or, cond}
-use Rattle.std.proofs.Common.{Option, Some, Bool, true, false, not, bytes_eq, arith, refl, sym, ap, ◌∙◌}
+use Rattle.std.proofs.Common.{Option, Some, None, Bool, true, false, not, bytes_eq, arith, refl, sym, ap, ◌∙◌}
+use Rattle.std.proofs.Common.{◌≢◌, ◌≤◌, ◌⊎◌, inl, inr, ⊎_elim, zero}
 use Rattle.std.specs.List.{All, Contains, flat_map, list_any, sum_by}
 use Rattle.std.specs.List.Sorted.{IsNonDecreasingBy, IsPermutation}
+use Rattle.std.proofs.lemmas.Bool.{cases_eq, cases_lt}
 use Rattle.std.proofs.lemmas.List.{append-nil, take_more}
 use Rattle.std.proofs.lemmas.List.Concat.{flat_map-append}
 use Rattle.std.proofs.lemmas.List.Folds.{list_any-append, list_any_at}
@@ -22,9 +24,10 @@ use Rattle.validation_rules.specs.Broken.{undefined_variables, undefined_variabl
 use Rattle.validation_rules.specs.Broken.{variables_of}
 use Rattle.validation_rules.specs.Graphs.{IsSpreadGraph}
 use Rattle.validation_rules.specs.Parts.{Parts, at, has_item, is_declared, is_used, reached, site_at}
-use Rattle.validation_rules.specs.Violations.{Adds}
-use Rattle.validation_rules.proofs.AddLemmas.{adds_then}
-use Rattle.variable_rules.specs.Steps.{capped, steps_of, use_steps_in, walk_steps_in}
+use Rattle.validation_rules.specs.Violations.{Adds, found}
+use Rattle.validation_rules.proofs.AddLemmas.{adds_rest, adds_then}
+use Rattle.variable_rules.specs.Steps.{EndsAt, before, capped, is_used_up_at, steps_of, use_steps_in}
+use Rattle.variable_rules.specs.Steps.{walk_steps_in}
 use Rattle.variable_rules.specs.UsedNames.{AreFirsts, AreUsedNames, is_known, row_at}
 use Rattle.variable_rules.proofs.KnownLemmas.{all_known, firsts_any, none_fails, none_kept, same_names}
 use Rattle.variable_rules.proofs.ReachLemmas.{in_order_are, reached_inside}
@@ -186,3 +189,79 @@ module _ (ds : List Parts) (rows : List (Vec Mention Global)) (graph : Graph) (o
       let one = sum_by-IsPermutation (use_steps_in ds operation) numbers sorted same in
       let other = sum_by-IsPermutation (use_steps_in ds operation) numbers (reached ds operation) are in
       rw (is, uses_are, walk_is, one, ← other, both) (capped_sum _ _)
+
+-- ---- where the steps are used up
+tells : (b : Bool) → (b ≡ true) ⊎ (b ≡ false)
+tells true = inl refl
+tells false = inr refl
+
+-- the first number at which a test holds, if there is one
+first_end : (test : ℕ → Bool) (n : ℕ)
+    → ((k : ℕ) → k < n → test k ≡ false)
+    ⊎ ((end : ℕ) × ((end < n) × (test end ≡ true) × ((k : ℕ) → k < end → test k ≡ false)))
+first_end test zero = inl (λ k below. absurd (omega arith))
+first_end test (suc n) =
+    ⊎_elim
+    (λ (none : (k : ℕ) → k < n → test k ≡ false).
+    ⊎_elim
+    (λ (is : test n ≡ true). let last : n < suc n = omega arith in inr (n, (last, is, none)))
+    (λ (is : test n ≡ false). inl (λ k below.
+    ⊎_elim
+    (λ (e : k ≡ n). rw e is)
+    (λ (other : k ≢ n). let before : k < n = omega arith in none k before)
+    (cases_eq k n)))
+    (tells (test n)))
+    (λ (found : (end : ℕ) × ((end < n) × (test end ≡ true) × ((k : ℕ) → k < end → test k ≡ false))).
+    let below = found.1.0 in
+    let inside : found.0 < suc n = omega arith in
+    inr (found.0, (inside, found.1.1, found.1.2)))
+    (first_end test n)
+
+pub ends_somewhere : (steps : Option ℕ) (ds : List Parts) (operations : List ℕ)
+    → (end : Option ℕ) × EndsAt steps ds operations end
+ends_somewhere steps ds operations =
+    ⊎_elim
+    (λ (none : (k : ℕ) → k < length operations → is_used_up_at steps ds operations k ≡ false). (None, none))
+    (λ (found : (end : ℕ) × ((end < length operations) × (is_used_up_at steps ds operations end ≡ true)
+    × ((k : ℕ) → k < end → is_used_up_at steps ds operations k ≡ false))). (Some found.0, found.1))
+    (first_end (is_used_up_at steps ds operations) (length operations))
+
+pub ends_once : (steps : Option ℕ) (ds : List Parts) (operations : List ℕ) (one other : Option ℕ)
+    → EndsAt steps ds operations one
+    → EndsAt steps ds operations other → one ≡ other
+ends_once steps ds operations None None first second = refl
+ends_once steps ds operations None (Some k) first second =
+    absurd (let e : false ≡ true = sym (first k second.0) ∙ second.1 in cc)
+ends_once steps ds operations (Some j) None first second =
+    absurd (let e : false ≡ true = sym (second j first.0) ∙ first.1 in cc)
+ends_once steps ds operations (Some j) (Some k) first second =
+    ⊎_elim
+    (λ (less : j < k). absurd (let e : false ≡ true = sym (second.2 j less) ∙ first.1 in cc))
+    (λ (le : k ≤ j).
+    ⊎_elim
+    (λ (less : k < j). absurd (let e : false ≡ true = sym (first.2 k less) ∙ second.1 in cc))
+    (λ (other : j ≤ k). ap (λ n. Some n) (let e : j ≡ k = omega arith in e))
+    (cases_lt k j))
+    (cases_lt j k)
+
+take_both : {A : Type 0} (n k : ℕ) (xs : List A) → n ≤ k → take n (take k xs) ≡ take n xs
+take_both zero k xs le = refl
+take_both (suc n) zero xs le = absurd (omega arith)
+take_both (suc n) (suc k) [] le = refl
+take_both (suc n) (suc k) (x ∷ xs) le = ap (λ ys. x ∷ ys) (take_both n k xs (omega arith))
+
+-- A list that is full needs no more, wherever the steps are used up later.
+pub adds_to_end :
+    (steps : Option ℕ) (ds : List Parts) (operations : List ℕ) (n : ℕ) (end : Option ℕ) (old v : Violations)
+    → v.most ≤ length (found v)
+    → ((k : ℕ) → k < n → is_used_up_at steps ds operations k ≡ false) → EndsAt steps ds operations end
+    → Adds (flat_map (variables_of ds) (take n operations)) old v
+    → Adds (flat_map (variables_of ds) (before end operations)) old v
+adds_to_end steps ds operations n None old v full going_on ends adds =
+    adds_rest (variables_of ds) operations n old v full adds
+adds_to_end steps ds operations n (Some k) old v full going_on ends adds =
+    ⊎_elim
+    (λ (less : k < n). absurd (let e : false ≡ true = sym (going_on k less) ∙ ends.1 in cc))
+    (λ (le : n ≤ k).
+    adds_rest (variables_of ds) (take k operations) n old v full (rw (take_both n k operations le) adds))
+    (cases_lt k n)

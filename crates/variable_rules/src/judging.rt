@@ -1,5 +1,5 @@
 // The variables of operations, one operation after another.
-ghost use Rattle.std.specs.Prelude.{◌≡◌, ℕ, ◌+◌, ◌<◌, IfOk, IfSome, None, OnOk, length, map};
+ghost use Rattle.std.specs.Prelude.{◌≡◌, ℕ, ◌+◌, ◌<◌, IfOk, IfSome, None, OnOk, Option, length, map};
 ghost use Rattle.std.specs.List.{All, flat_map, sum_by};
 ghost use Rattle.std.specs.List.Sorted.{IsPermutation};
 ghost use Rattle.directed_graph.specs.Graph.{IsClosed, row_of};
@@ -168,8 +168,8 @@ fn add_operations<'t>(
     requires graph { IsSpreadGraph (map as_parts parts.now) graph.now }
     requires closed { IsClosed graph.now }
     requires operations { All (λ number. number < length parts.now) operations.now }
-    ensures adds { IfOk result
-        (λ ended_at. Adds (flat_map (variables_of (map as_parts parts.now)) (before ended_at operations.now))
+    ensures adds { IfOk result (λ _. (end : Option ℕ) → EndsAt steps (map as_parts parts.now) operations.now end
+        → Adds (flat_map (variables_of (map as_parts parts.now)) (before end operations.now))
         violations.old violations.new) }
     ensures ended { IfOk result (λ ended_at. length violations.new.list.items < violations.new.most
         → EndsAt steps (map as_parts parts.now) operations.now ended_at) }
@@ -213,8 +213,8 @@ pub fn add_variables<'t>(
     requires graph { IsSpreadGraph (map as_parts parts.now) graph.now }
     requires closed { IsClosed graph.now }
     requires operations { operations.now ≡ operations_of (map as_parts parts.now) }
-    ensures adds { IfOk result
-        (λ ended_at. Adds (flat_map (variables_of (map as_parts parts.now)) (before ended_at operations.now))
+    ensures adds { IfOk result (λ _. (end : Option ℕ) → EndsAt steps (map as_parts parts.now) operations.now end
+        → Adds (flat_map (variables_of (map as_parts parts.now)) (before end operations.now))
         violations.old violations.new) }
     ensures ended { IfOk result (λ ended_at. length violations.new.list.items < violations.new.most
         → EndsAt steps (map as_parts parts.now) operations.now ended_at) }

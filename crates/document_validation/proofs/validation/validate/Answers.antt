@@ -1,7 +1,7 @@
-use Rattle.std.proofs.Common.{map, refl, subst}
+use Rattle.std.proofs.Common.{None, map, refl, subst}
 use Rattle.apollo_tree.specs.References.{node_place}
-use Rattle.validation_rules.specs.Violations.{as_breach, selected}
-use Rattle.document_validation.specs.Breaches.{AreFound, breaches, breaches_before}
+use Rattle.validation_rules.specs.Violations.{as_breach}
+use Rattle.document_validation.specs.Breaches.{AreFound, breaches}
 use Rattle.document_validation.proofs.FoundLemmas.{all_selected, found_none}
 use Rattle.document_validation.proofs.validation.validate.Goals as goal
 
@@ -12,8 +12,7 @@ returns-clause-exact c =
     let is = c.in_ok-validation.ensures.exact in
     let found = map as_breach c.in_ok-validation.validation.violations.items in
     subst (λ bs. AreFound c.args.most bs found) (all_selected selection (breaches documents) c.everything.ensures)
-    (subst (λ e. AreFound c.args.most (selected selection (breaches_before e documents)) found) (is.unlimited refl)
-    is.found)
+    (is.found None (λ number below. refl))
 
 pub returns-clause-valid : goal.returns-clause-valid
 returns-clause-valid c some =

@@ -2,6 +2,7 @@ use Rattle.std.proofs.Common.{◌≡◌, map, ap, sym, ◌∙◌}
 use Rattle.validation_names.specs.Definitions.{as_defined}
 use Rattle.validation_rules.specs.Parts.{as_parts, operations, parts_in, parts_of}
 use Rattle.apollo_tree.specs.References.{node_place}
+use Rattle.variable_rules.proofs.WalkLemmas.{ends_somewhere}
 use Rattle.document_validation.specs.Breaches.{breaches_before}
 use Rattle.document_validation.proofs.FoundLemmas.{added, decided_and_valid, room_before}
 use Rattle.document_validation.proofs.ReadLemmas.{definitions_are, parts_are}
@@ -33,9 +34,9 @@ returns-clause-exact c =
     (c.in_ok-parts.ensures ∙ ap (map (λ e. parts_of (as_defined e))) c.deref.ensures.value) in
     let numbers : c.in_ok-numbers.numbers.items ≡ operations (parts_in documents) =
     c.in_ok-numbers.ensures ∙ ap (λ xs. operations (map as_parts xs)) c.deref-2.ensures.value ∙ ap operations parts in
-    let is = added (breaches_before ended_at documents) _ _ options.most options.selection
-    c.new-violations.ensures.none c.new-violations.ensures.most c.new-violations.ensures.selection
-    c.in_ok-ended_at.ensures.adds in
+    let adds = c.in_ok-ended_at.ensures.adds in
+    let somewhere = ends_somewhere options.steps (parts_in documents) (operations (parts_in documents)) in
+    let most = (adds somewhere.0 somewhere.1).most ∙ c.new-violations.ensures.most in
     record {
       ended_at = ended_at;
       undecided = rw (
@@ -46,10 +47,13 @@ returns-clause-exact c =
       ) at c.operation_site-undecided.ensures;
       inside = rw (c.deref-5.ensures.value, numbers) at c.in_ok-ended_at.ensures.inside;
       ended = λ room. c.in_ok-ended_at.ensures.ended
-          (room_before c.add_all.new.violations c.in_ok-violations.violations.items options.most c.in_ok-violations.ensures.same
-          (c.in_ok-ended_at.ensures.adds.most ∙ c.new-violations.ensures.most) room);
-      unlimited = c.in_ok-ended_at.ensures.unlimited;
-      found = rw is at c.in_ok-violations.ensures;
+          (room_before c.add_all.new.violations c.in_ok-violations.violations.items options.most
+          c.in_ok-violations.ensures.same most room);
+      found = λ end ends.
+          let is = added (breaches_before end documents) _ _ options.most options.selection
+          c.new-violations.ensures.none c.new-violations.ensures.most c.new-violations.ensures.selection
+          (adds end ends) in
+          rw is at c.in_ok-violations.ensures;
     }
 
 pub returns-clause-valid : goal.returns-clause-valid

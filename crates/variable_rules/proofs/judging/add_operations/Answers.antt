@@ -1,4 +1,5 @@
-use Rattle.std.proofs.Common.{◌≡◌, ◌≢◌, ◌<◌, ◌≤◌, true, false, arith, length, map, get_or, subst, sym, ⊎_elim}
+use Rattle.std.proofs.Common.{◌≡◌, ◌≢◌, ◌<◌, ◌≤◌, None, Some, true, false, arith, length, map, get_or, subst, sym, take, ⊎_elim}
+use Rattle.std.specs.List.{flat_map}
 use Rattle.std.specs.List.Sorted.{IsPermutation}
 use Rattle.std.proofs.lemmas.Bool.{cases_eq}
 use Rattle.std.proofs.lemmas.Bool.Decides.{nat_tests}
@@ -6,8 +7,10 @@ use Rattle.std.proofs.lemmas.List.{get_or_default}
 use Rattle.std.proofs.lemmas.List.Sums.{sum_by_more}
 use Rattle.validation_rules.specs.Broken.{variables_of}
 use Rattle.validation_rules.specs.Parts.{as_parts}
-use Rattle.validation_rules.proofs.AddLemmas.{adds_all, adds_next, adds_rest, is_full}
-use Rattle.variable_rules.specs.Steps.{steps_of}
+use Rattle.validation_rules.proofs.AddLemmas.{adds_all, adds_next, is_full}
+use Rattle.validation_rules.specs.Violations.{Adds}
+use Rattle.variable_rules.specs.Steps.{EndsAt, before, steps_of}
+use Rattle.variable_rules.proofs.WalkLemmas.{adds_to_end, ends_once}
 use Rattle.variable_rules.proofs.ReachLemmas.{same_reached}
 use Rattle.variable_rules.proofs.judging.add_operations.Goals as goal
 
@@ -42,15 +45,31 @@ loop-number-preserved c =
     }
 
 pub returns-then-is_full-clause-adds : goal.returns-then-is_full-clause-adds
-returns-then-is_full-clause-adds c =
+returns-then-is_full-clause-adds c end ends =
     let violations = c.loop-number.violations in
-    adds_rest (variables_of (map as_parts c.args.parts.now)) c.args.operations.now c.loop-number.number _ violations
-    (is_full violations c.if-is_full.ensures) c.loop-number.invariant.adds
+    adds_to_end c.args.steps (map as_parts c.args.parts.now) c.args.operations.now c.loop-number.number end _ violations
+    (is_full violations c.if-is_full.ensures) c.loop-number.invariant.going_on ends c.loop-number.invariant.adds
+
+pub returns-then-are_used_up-clause-adds : goal.returns-then-are_used_up-clause-adds
+returns-then-are_used_up-clause-adds c end ends =
+    let ds = map as_parts c.args.parts.now in
+    let operations = c.args.operations.now in
+    let number = c.loop-number.number in
+    let here : EndsAt c.args.steps ds operations (Some number) =
+    (c.loop-number-test.true, sym (c.if-are_used_up.ensures _ c.loop-number.invariant.taken),
+    c.loop-number.invariant.going_on) in
+    subst (λ e. Adds (flat_map (variables_of ds) (before e operations)) c.args.violations.now c.loop-number.violations)
+    (ends_once c.args.steps ds operations (Some number) end here ends) c.loop-number.invariant.adds
 
 pub returns-clause-adds : goal.returns-clause-adds
-returns-clause-adds c =
-    adds_all (variables_of (map as_parts c.args.parts.now)) c.args.operations.now c.loop-number.number _ _ (omega arith)
-    c.loop-number.invariant.adds
+returns-clause-adds c end ends =
+    let ds = map as_parts c.args.parts.now in
+    let operations = c.args.operations.now in
+    let all : EndsAt c.args.steps ds operations None =
+    λ k below. let before : k < c.loop-number.number = omega arith in c.loop-number.invariant.going_on k before in
+    subst (λ e. Adds (flat_map (variables_of ds) (before e operations)) c.args.violations.now c.loop-number.violations)
+    (ends_once c.args.steps ds operations None end all ends)
+    (adds_all (variables_of ds) operations c.loop-number.number _ _ (omega arith) c.loop-number.invariant.adds)
 
 pub returns-then-is_full-clause-ended : goal.returns-then-is_full-clause-ended
 returns-then-is_full-clause-ended c room =
