@@ -1,4 +1,4 @@
-use Rattle.std.proofs.Common.{◌≡◌, ◌≢◌, ◌<◌, ◌≤◌, None, Some, true, false, arith, length, map, get_or, subst, sym, take, ⊎_elim}
+use Rattle.std.proofs.Common.{◌≡◌, ◌≢◌, ◌<◌, ◌≤◌, None, Some, true, false, arith, length, map, get_or, subst, sym, ⊎_elim}
 use Rattle.std.specs.List.{flat_map}
 use Rattle.std.specs.List.Sorted.{IsPermutation}
 use Rattle.std.proofs.lemmas.Bool.{cases_eq}
@@ -55,9 +55,11 @@ returns-then-are_used_up-clause-adds c end ends =
     let ds = map as_parts c.args.parts.now in
     let operations = c.args.operations.now in
     let number = c.loop-number.number in
-    let here : EndsAt c.args.steps ds operations (Some number) =
-    (c.loop-number-test.true, sym (c.if-are_used_up.ensures _ c.loop-number.invariant.taken),
-    c.loop-number.invariant.going_on) in
+    let here : EndsAt c.args.steps ds operations (Some number) = (
+      c.loop-number-test.true,
+      sym (c.if-are_used_up.ensures _ c.loop-number.invariant.taken),
+      c.loop-number.invariant.going_on,
+    ) in
     subst (λ e. Adds (flat_map (variables_of ds) (before e operations)) c.args.violations.now c.loop-number.violations)
     (ends_once c.args.steps ds operations (Some number) end here ends) c.loop-number.invariant.adds
 
