@@ -70,6 +70,10 @@ def faults(grammar):
         found_in(INTROSPECTION, r"^enum __DirectiveLocation \{(.*?)\}", r"\w+"),
         words,
     )
+    rows = len(found_in(PLACES, r"^const LOCATIONS.*?^\];", r"\(SyntaxKind::"))
+    counts = found_in(PLACES, r"^const LOCATIONS: \[\(SyntaxKind, &str\); \d+\]", r"\d+")
+    if counts != [str(rows)]:
+        yield f"{PLACES}: LOCATIONS has the length {' '.join(counts)}, and {rows} rows"
     named = set(found_in(PLACES, r"^.*$", r'"([A-Z][A-Z_]+)"'))
     for word in sorted(set(words) - named):
         yield f"{PLACES}: no place has the directive location {word}"

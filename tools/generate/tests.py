@@ -289,6 +289,12 @@ MISTAKES = [
         '(SyntaxKind::ENUM_VALUE_DEFINITION, "ENUM_VALUES")',
         "schema_members/src/locations.rt: no place has the directive location ENUM_VALUE",
     ),
+    (
+        LOCATION_PLACES,
+        '    (SyntaxKind::UNION_TYPE_DEFINITION, "UNION"),\n',
+        "",
+        "schema_members/src/locations.rt: LOCATIONS has the length 21, and 20 rows",
+    ),
     (PLACES, '"fragments": ["2.8"]', '"fragments": ["2.8", "2.4"]', "places.py: CRATES has 2.4 twice"),
     (
         PLACES,
