@@ -1,5 +1,5 @@
 -- What is found of all breaches.
-use Rattle.std.proofs.Common.{◌≡◌, ℕ, zero, suc, ◌<◌, ◌-◌, List, [], ◌∷◌, length, map, take, arith, refl}
+use Rattle.std.proofs.Common.{◌≡◌, ℕ, zero, suc, ◌<◌, ◌≤◌, ◌-◌, List, [], ◌∷◌, length, map, take, arith, refl}
 use Rattle.std.proofs.Common.{sym, ◌∙◌, ap, subst, Option, None, Some, option_map, true}
 use Rattle.std.specs.Prelude.{◌↔◌}
 use Rattle.std.specs.List.Sorted.{IsPermutation}
@@ -33,6 +33,14 @@ added all old new most selection empty is same adds =
 pub room_before : (v : Violations) (xs : List Violation) (most : ℕ) → IsPermutation (found v) (map as_breach xs)
     → v.most ≡ most → length xs < most → length v.list.items < v.most
 room_before v xs most same is room =
+    let a = length_permutation (found v) (map as_breach xs) same in
+    let b = length-map xs as_breach in
+    let d = length-map v.list.items as_breach in
+    omega arith
+
+pub full_before : (v : Violations) (xs : List Violation) (most : ℕ) → IsPermutation (found v) (map as_breach xs)
+    → v.most ≡ most → most ≤ length xs → v.most ≤ length v.list.items
+full_before v xs most same is full =
     let a = length_permutation (found v) (map as_breach xs) same in
     let b = length-map xs as_breach in
     let d = length-map v.list.items as_breach in

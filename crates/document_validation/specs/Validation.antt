@@ -1,5 +1,5 @@
 -- What a validation finds, of the rules and in the documents that are asked for, and within a number of steps.
-use Rattle.std.specs.Prelude.{◌≡◌, ℕ, ◌<◌, List, [], length, map, slice_index, Option, None, option_map, IfSome}
+use Rattle.std.specs.Prelude.{◌≡◌, ℕ, ◌<◌, ◌≤◌, List, [], length, map, slice_index, Option, None, option_map, IfSome}
 use Rattle.apollo_tree.specs.Order.{Place}
 use Rattle.validation_names.specs.Sites.{Located, as_located}
 use Rattle.validation_rules.specs.declared.selection.Selection.{Selection}
@@ -41,3 +41,5 @@ pub record IsValidation (options : ValidationOptions) (documents : List Place) (
   -- Where there is room for more violations, that is where the steps are used up.
   pub ended : length validation.violations.items < options.most
       → ValidationEndsAt options.steps documents ended_at
+  -- Where the list is full, no operation is named.
+  pub full : options.most ≤ length validation.violations.items → validation.undecided ≡ None

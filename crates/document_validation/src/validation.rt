@@ -1,5 +1,5 @@
 // All rules on documents that are judged together.
-ghost use Rattle.std.specs.Prelude.{◌≡◌, ℕ, ◌<◌, ◌↔◌, [], IfOk, IfSome, None, OnOk, Option, length, map};
+ghost use Rattle.std.specs.Prelude.{◌≡◌, ℕ, ◌<◌, ◌≤◌, ◌↔◌, [], IfOk, IfSome, None, OnOk, Option, length, map};
 ghost use Rattle.std.specs.Prelude.{option_map};
 ghost use Rattle.std.specs.Prelude.{slice_index};
 ghost use Rattle.apollo_tree.specs.References.{node_place};
@@ -44,7 +44,7 @@ pub struct Validation<'t> {
     /// The violations that are asked for, in the order of the text.
     pub violations: Vec<Violation<'t>>,
     /// The operation before which the steps were used up. The variables of this one and of those after it were not
-    /// judged.
+    /// judged. It is `None`, too, if the list is full.
     pub undecided: Option<Site<'t>>,
 }
 
@@ -82,6 +82,8 @@ fn add_all<'t>(
         → Adds (breaches_before end (map node_place documents.now)) violations.old violations.new) }
     ensures ended { IfOk result (λ ended_at. length violations.new.list.items < violations.new.most
         → ValidationEndsAt steps (map node_place documents.now) ended_at) }
+    ensures full { IfOk result
+        (λ ended_at. violations.new.most ≤ length violations.new.list.items → ended_at ≡ None) }
     ensures inside { IfOk result (λ ended_at. IfSome ended_at (λ number. number < length numbers.now)) }
 {
     let fragments = fragments(alloc, definitions)?;

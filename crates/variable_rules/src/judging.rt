@@ -1,5 +1,5 @@
 // The variables of operations, one operation after another.
-ghost use Rattle.std.specs.Prelude.{◌≡◌, ℕ, ◌+◌, ◌<◌, IfOk, IfSome, None, OnOk, Option, length, map};
+ghost use Rattle.std.specs.Prelude.{◌≡◌, ℕ, ◌+◌, ◌<◌, ◌≤◌, IfOk, IfSome, None, OnOk, Option, length, map};
 ghost use Rattle.std.specs.List.{All, flat_map, sum_by};
 ghost use Rattle.std.specs.List.Sorted.{IsPermutation};
 ghost use Rattle.directed_graph.specs.Graph.{IsClosed, row_of};
@@ -173,6 +173,8 @@ fn add_operations<'t>(
         violations.old violations.new) }
     ensures ended { IfOk result (λ ended_at. length violations.new.list.items < violations.new.most
         → EndsAt steps (map as_parts parts.now) operations.now ended_at) }
+    ensures full { IfOk result
+        (λ ended_at. violations.new.most ≤ length violations.new.list.items → ended_at ≡ None) }
     ensures inside { IfOk result (λ ended_at. IfSome ended_at (λ number. number < length operations.now)) }
     ensures unlimited { IfOk result (λ ended_at. steps ≡ None → ended_at ≡ None) }
 {
@@ -200,7 +202,7 @@ fn add_operations<'t>(
 /// each definition that it reaches, for each spread in these, and for each name of variables that one of these uses. A
 /// definition that uses a variable which the operation does not declare takes a step for each use, too. When `steps`
 /// are used up, no further operation is judged, and the answer is which one is next, as its number among the
-/// operations: all before it were judged. Without a number of steps all are judged, and the answer is `None`. It may be
+/// operations: all before it were judged. Without a number of steps all are judged, and the answer is `None`. It is
 /// `None`, too, if the list is full.
 pub fn add_variables<'t>(
     alloc: Global,
@@ -218,6 +220,8 @@ pub fn add_variables<'t>(
         violations.old violations.new) }
     ensures ended { IfOk result (λ ended_at. length violations.new.list.items < violations.new.most
         → EndsAt steps (map as_parts parts.now) operations.now ended_at) }
+    ensures full { IfOk result
+        (λ ended_at. violations.new.most ≤ length violations.new.list.items → ended_at ≡ None) }
     ensures inside { IfOk result (λ ended_at. IfSome ended_at (λ number. number < length operations.now)) }
     ensures unlimited { IfOk result (λ ended_at. steps ≡ None → ended_at ≡ None) }
 {

@@ -4,7 +4,7 @@ use Rattle.validation_rules.specs.Parts.{as_parts, operations, parts_in, parts_o
 use Rattle.apollo_tree.specs.References.{node_place}
 use Rattle.variable_rules.proofs.WalkLemmas.{ends_somewhere}
 use Rattle.document_validation.specs.Breaches.{breaches_before}
-use Rattle.document_validation.proofs.FoundLemmas.{added, decided_and_valid, room_before}
+use Rattle.document_validation.proofs.FoundLemmas.{added, decided_and_valid, full_before, none_of, room_before}
 use Rattle.document_validation.proofs.ReadLemmas.{definitions_are, parts_are}
 use Rattle.document_validation.proofs.validation.validate_with.Goals as goal
 
@@ -49,6 +49,17 @@ returns-clause-exact c =
       ended = λ room. c.in_ok-ended_at.ensures.ended
           (room_before c.add_all.new.violations c.in_ok-violations.violations.items options.most
           c.in_ok-violations.ensures.same most room);
+      full = λ full.
+          none_of _ _ ended_at c.operation_site-undecided.result
+          (sym (rw (
+            c.deref-6.ensures.value,
+            c.deref-7.ensures.value,
+            parts,
+            numbers,
+          ) at c.operation_site-undecided.ensures))
+          (c.in_ok-ended_at.ensures.full
+          (full_before c.add_all.new.violations c.in_ok-violations.violations.items options.most
+          c.in_ok-violations.ensures.same most full));
       found = λ end ends.
           let is = added (breaches_before end documents) _ _ options.most options.selection
           c.new-violations.ensures.none c.new-violations.ensures.most c.new-violations.ensures.selection

@@ -96,3 +96,10 @@ pub returns-clause-ended : goal.returns-clause-ended
 returns-clause-ended c room k below =
     let before : k < c.loop-number.number = omega arith in
     c.loop-number.invariant.going_on k before
+
+pub returns-then-are_used_up-clause-full : goal.returns-then-are_used_up-clause-full
+returns-then-are_used_up-clause-full c full =
+    let v = c.loop-number.violations in
+    let room = c.if-is_full.ensures in
+    let less : length v.list.items < v.most = grind (arith, nat_tests, room) in
+    absurd (omega arith)
