@@ -5,7 +5,7 @@ use Rattle.apollo_parser.specs.Filled.{filled}
 use Rattle.apollo_parser.specs.Parsed.{Parsed}
 use Rattle.apollo_parser.proofs.OneParse.{one-parse}
 use Rattle.validation_names.specs.Definitions.{defined}
-use Rattle.cost_limits.specs.Measures.{AreMeasures, Measure, is_operation}
+use Rattle.cost_limits.specs.Measures.{AreMeasures, Measure, everything, is_operation}
 use Rattle.cost_limits.specs.declared.measures.MeasureError.{MeasureError}
 use Rattle.cost_limits.specs.declared.measures.MeasureError.TheVariants as error
 use Rattle.c_parsing.specs.Outcomes.{OK}
@@ -33,7 +33,7 @@ record Wrote (source : List ℕ) (r k : ℕ) (before after : List OperationRow) 
   parsed : Parsed
   parse : IsDocumentParse source r k parsed
   measures : List Measure
-  are_measures : AreMeasures (defined (root parsed ∷ [])) measures
+  are_measures : AreMeasures everything (defined (root parsed ∷ [])) measures
   written : after ≡ filled before (map operation_row measures)
   counted : counts ≡ measure_counts measures
 
@@ -50,7 +50,8 @@ length-map f [] = refl
 length-map f (x ∷ xs) = ap suc (length-map f xs)
 
 -- a document has as many figures as operations
-operations-of : (parsed : Parsed) (measures : List Measure) → AreMeasures (defined (root parsed ∷ [])) measures
+operations-of : (parsed : Parsed) (measures : List Measure)
+    → AreMeasures everything (defined (root parsed ∷ [])) measures
     → length measures ≡ length (filter is_operation (defined (root parsed ∷ [])))
 operations-of parsed measures are =
     sym (length-map (λ (m : Measure). m.operation) measures) ∙ ap length are.operations_are

@@ -4,7 +4,7 @@ use Rattle.std.proofs.lemmas.List.{length-map}
 use Rattle.apollo_parser.specs.Filled.{filled}
 use Rattle.apollo_parser.specs.Parsed.{Parsed}
 use Rattle.validation_names.specs.Definitions.{defined}
-use Rattle.cost_limits.specs.Measures.{AreMeasures, IsMeasureError, Measure}
+use Rattle.cost_limits.specs.Measures.{AreMeasures, IsMeasureError, Measure, everything}
 use Rattle.cost_limits.specs.declared.measures.MeasureError.{MeasureError}
 use Rattle.c_parsing.specs.Outcomes.{OK}
 use Rattle.c_validation.specs.declared.rows.MeasureCounts.{MeasureCounts}
@@ -47,14 +47,14 @@ no-measure source r k status before counts is why = rw is (not_measured why)
 
 pub of-fault : (source : List ℕ) (r k : ℕ) (parsed : Parsed) (reason : MeasureError) (before : List OperationRow)
     (counts : MeasureCounts)
-    → IsDocumentParse source r k parsed → IsMeasureError (defined (root parsed ∷ [])) reason
+    → IsDocumentParse source r k parsed → IsMeasureError everything (defined (root parsed ∷ [])) reason
     → counts ≡ fault_counts reason
     → MeasureOutcome source r k before before counts
 of-fault source r k parsed reason before counts document is c = rw c (not_measurable reason document is)
 
 pub of-figures : (source : List ℕ) (r k : ℕ) (parsed : Parsed) (measures : List Measure)
     (before after : List OperationRow) (count : ℕ)
-    → IsDocumentParse source r k parsed → AreMeasures (defined (root parsed ∷ [])) measures
+    → IsDocumentParse source r k parsed → AreMeasures everything (defined (root parsed ∷ [])) measures
     → after ≡ filled before (map operation_row measures)
     → count ≡ length (map operation_row measures)
     → MeasureOutcome source r k before after

@@ -2,7 +2,7 @@
 use Rattle.std.specs.Prelude.{◌≡◌, ℕ, List, [], ◌∷◌, map}
 use Rattle.apollo_parser.specs.Parsed.{Parsed}
 use Rattle.validation_names.specs.Definitions.{defined}
-use Rattle.cost_limits.specs.Measures.{AreMeasures, Measure}
+use Rattle.cost_limits.specs.Measures.{AreMeasures, Measure, everything}
 use Rattle.c_validation.specs.declared.rows.OperationRow.{OperationRow}
 use Rattle.validation_rules.specs.Violations.{Breach}
 use Rattle.c_validation.specs.Outcomes.{AreFound, IsDocumentParse, ViolationBuffers, root}
@@ -13,7 +13,7 @@ pub record HoldMeasures (source : List ℕ) (max_depth max_items : ℕ) (buffer 
   pub parsed : Parsed
   pub parse : IsDocumentParse source max_depth max_items parsed
   pub measures : List Measure
-  pub are_measures : AreMeasures (defined (root parsed ∷ [])) measures
+  pub are_measures : AreMeasures everything (defined (root parsed ∷ [])) measures
   pub is : buffer ≡ map operation_row measures
 
 -- The buffers hold the violations of the text, up to the bound.

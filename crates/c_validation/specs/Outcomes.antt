@@ -10,7 +10,7 @@ use Rattle.validation_names.specs.Definitions.{as_defined, defined}
 use Rattle.validation_rules.specs.Violations.{Breach}
 use Rattle.document_validation.specs.Breaches as validation
 use Rattle.document_validation.specs.Breaches.{AreValid, breaches as all}
-use Rattle.cost_limits.specs.Measures.{AreMeasures, IsMeasureError, Measure}
+use Rattle.cost_limits.specs.Measures.{AreMeasures, IsMeasureError, Measure, everything}
 use Rattle.cost_limits.specs.declared.measures.MeasureError.{MeasureError}
 use Rattle.cost_limits.specs.declared.measures.MeasureError.TheVariants as error
 use Rattle.c_parsing.specs.Outcomes.{IsParse, OK, NOT_UTF8, NO_MEMORY, NOT_A_DOCUMENT}
@@ -132,14 +132,14 @@ pub data MeasureOutcome (source : List ℕ) (max_depth max_items : ℕ) (before 
   measured :
       {parsed : Parsed} {measures : List Measure}
       → IsDocumentParse source max_depth max_items parsed
-      → AreMeasures (defined (root parsed ∷ [])) measures
+      → AreMeasures everything (defined (root parsed ∷ [])) measures
       → MeasureOutcome source max_depth max_items before (filled before (map operation_row measures))
       (measure_counts measures)
   -- it is one, and its operations have no figures for this reason; nothing was written
   not_measurable :
       {parsed : Parsed} (reason : MeasureError)
       → IsDocumentParse source max_depth max_items parsed
-      → IsMeasureError (defined (root parsed ∷ [])) reason
+      → IsMeasureError everything (defined (root parsed ∷ [])) reason
       → MeasureOutcome source max_depth max_items before before (fault_counts reason)
   -- nothing was written
   not_measured :

@@ -2,7 +2,7 @@
 ghost use Rattle.std.specs.Prelude.{◌≡◌, [], ◌∷◌, IfErr, IfOk, map};
 ghost use Rattle.apollo_tree.specs.References.{node_place};
 ghost use Rattle.validation_names.specs.Definitions.{defined};
-ghost use Rattle.cost_limits.specs.Measures.{AreMeasures, IsMeasureError, as_measure};
+ghost use Rattle.cost_limits.specs.Measures.{AreMeasures, IsMeasureError, as_measure, everything};
 ghost use Rattle.c_validation.specs.Rows.{name_range, operation_row};
 ghost use Rattle.c_validation.specs.Outcomes.{MeasureOutcome, fault_counts, no_measures};
 
@@ -13,7 +13,7 @@ use crate::violation_rows::range_of;
 use apollo_cst_core::{CstNode, child};
 use apollo_cst_executable::Name;
 use apollo_parser::{Limits, SyntaxNode};
-use cost_limits::{MeasureError, OperationFigures, measure};
+use cost_limits::{MeasureError, MeasureOptions, OperationFigures, measure};
 use std::alloc::{AllocError, Allocator};
 
 // Where the name of an operation begins and has ended; two zeros where it has none.
@@ -67,10 +67,10 @@ fn measure_document<'t, A: Allocator + Copy>(
     document: &SyntaxNode<'t>,
 ) -> Result<Vec<OperationFigures<'t>, A>, MeasureError<'t>>
     ensures figures { IfOk result
-        (λ v. AreMeasures (defined (node_place document.now ∷ [])) (map as_measure v.items)) }
-    ensures error { IfErr result (IsMeasureError (defined (node_place document.now ∷ []))) }
+        (λ v. AreMeasures everything (defined (node_place document.now ∷ [])) (map as_measure v.items)) }
+    ensures error { IfErr result (IsMeasureError everything (defined (node_place document.now ∷ []))) }
 {
-    measure(alloc, &[*document])
+    measure(alloc, &[*document], &MeasureOptions::EVERYTHING)
 }
 
 fn refused(status: u32) -> MeasureCounts

@@ -1,7 +1,7 @@
 -- Lists of operations, and the limits that they exceed.
 use Rattle.std.proofs.Common.{◌≡◌, ℕ, suc, ◌+◌, ◌<◌, ◌≤◌, List, [], ◌∷◌, ◌++◌, length, map, take, get_or, Bool, true}
-use Rattle.std.proofs.Common.{false, cond, Option, Some, None, unwrap_or, refl, sym, ap, ◌∙◌, subst, arith, ltb, ◌-◌}
-use Rattle.std.proofs.Common.{◌^◌}
+use Rattle.std.proofs.Common.{false, cond, Option, Some, None, unwrap_or, refl, sym, ap, ap₂, ◌∙◌, subst, arith, ltb}
+use Rattle.std.proofs.Common.{◌-◌, ◌^◌}
 use Rattle.std.specs.Prelude.{find}
 use Rattle.std.specs.Prelude.{All}
 use Rattle.std.specs.List.{filter}
@@ -27,12 +27,11 @@ use Rattle.validation_names.specs.Sites.{Located, as_located, located}
 use Rattle.validation_names.specs.Mentions.{name_in}
 use Rattle.validation_names.specs.Definitions.{Defined, as_defined, fragment_names}
 use Rattle.validation_names.specs.declared.executables.ExecutableDefinition.{ExecutableDefinition}
-use Rattle.validation_names.specs.declared.executables.DefinitionKind.{DefinitionKind}
-use Rattle.validation_names.specs.declared.executables.DefinitionKind.TheVariants.{Operation, Fragment}
-use Rattle.cost_limits.specs.Items.{field_items, is_new, response_name, span_at, items_of as own_items, seen_after}
-use Rattle.cost_limits.specs.Items.{inside, items_below, definition_items}
+use Rattle.cost_limits.specs.declared.introspection.Introspection.{Introspection}
+use Rattle.cost_limits.specs.Items.{field_items, is_counted, is_new, response_name, span_at, items_of as own_items}
+use Rattle.cost_limits.specs.Items.{seen_after, inside, items_below, definition_items}
 use Rattle.cost_limits.specs.Collecting.{number_of}
-use Rattle.cost_limits.specs.Measures.{Measure, number_in, items_of, is_operation, operations}
+use Rattle.cost_limits.specs.Measures.{Measure, number_in, items_of, is_measured, operations}
 use Rattle.cost_limits.specs.Limits.{exceeded_by, IsWithin}
 
 first_none : (p : Limit → Bool) (x : Limit) (xs : List Limit) → find p (x ∷ xs) ≡ None
@@ -73,7 +72,7 @@ is_within limits m e l =
 
 -- ---- the same items by another numbering of the fragments
 
-module _ (f g : Option Name → ℕ) (same : (o : Option Name) → f o ≡ g o) where
+module _ (introspection : Introspection) (f g : Option Name → ℕ) (same : (o : Option Name) → f o ≡ g o) where
   own_same : (n : ℕ) (seen : List Name) (s : Located) → own_items f n seen s ≡ own_items g n seen s
   own_same n seen s =
       let p : Place = s.place in
@@ -85,40 +84,42 @@ module _ (f g : Option Name → ℕ) (same : (o : Option Name) → f o ≡ g o) 
   joined xs ys zs us vs ws a b c = cc
 
   below_same : (d : ℕ) (whole : Forest) (n i : ℕ) (seen : List Name) (t : Forest)
-      → items_below d whole f n i seen t ≡ items_below d whole g n i seen t
+      → items_below introspection d whole f n i seen t ≡ items_below introspection d whole g n i seen t
   below_same d whole n i seen no_tree = refl
   below_same d whole n i seen (leaf k s rest) = below_same d whole n (suc i) seen rest
   below_same d whole n i seen (node k kids rest) =
       let p : Place = record { whole = whole; index = i } in
-      joined (own_items f n seen (located d p)) (items_below d whole f (inside n p) (suc i) [] kids)
-      (items_below d whole f n (suc (i + count kids)) (seen_after seen p) rest)
-      (own_items g n seen (located d p)) (items_below d whole g (inside n p) (suc i) [] kids)
-      (items_below d whole g n (suc (i + count kids)) (seen_after seen p) rest)
+      ap₂ (λ (xs ys : List Item). cond (is_counted introspection p) xs ys)
+      (joined (own_items f n seen (located d p)) (items_below introspection d whole f (inside n p) (suc i) [] kids)
+      (items_below introspection d whole f n (suc (i + count kids)) (seen_after seen p) rest)
+      (own_items g n seen (located d p)) (items_below introspection d whole g (inside n p) (suc i) [] kids)
+      (items_below introspection d whole g n (suc (i + count kids)) (seen_after seen p) rest)
       (own_same n seen (located d p)) (below_same d whole (inside n p) (suc i) [] kids)
-      (below_same d whole n (suc (i + count kids)) (seen_after seen p) rest)
+      (below_same d whole n (suc (i + count kids)) (seen_after seen p) rest))
+      (below_same d whole n (suc (i + count kids)) seen rest)
 
   all_same : (vs : List ExecutableDefinition)
-      → map (λ (d : ExecutableDefinition). definition_items f (as_located d.site)) vs
-      ≡ map (λ (d : Defined). definition_items g d.site) (map as_defined vs)
+      → map (λ (d : ExecutableDefinition). definition_items introspection f (as_located d.site)) vs
+      ≡ map (λ (d : Defined). definition_items introspection g d.site) (map as_defined vs)
   all_same [] = refl
   all_same (v ∷ vs) =
       let p = node_place v.site.node in
-      ap (λ xs. xs ∷ map (λ (d : ExecutableDefinition). definition_items f (as_located d.site)) vs)
+      ap (λ xs. xs ∷ map (λ (d : ExecutableDefinition). definition_items introspection f (as_located d.site)) vs)
       (below_same v.site.document p.whole 0 (suc p.index) [] (tree_kids
       (tree_at p)))
-      ∙ ap (λ xss. definition_items g (as_located v.site) ∷ xss) (all_same vs)
+      ∙ ap (λ xss. definition_items introspection g (as_located v.site) ∷ xss) (all_same vs)
 
 same_number : (entries : Entries ℕ) (names : List (Option Name)) → AreFirstNumbers entries names → (o : Option Name)
     → number_of entries o ≡ number_in names o
 same_number entries names are None = refl
 same_number entries names are (Some s) = ap (λ o. unwrap_or o (2 ^ 64 - 1)) (are s)
 
-pub items_are : (entries : Entries ℕ) (vs : List ExecutableDefinition)
+pub items_are : (introspection : Introspection) (entries : Entries ℕ) (vs : List ExecutableDefinition)
     → AreFirstNumbers entries (fragment_names (map as_defined vs))
-    → map (λ (d : ExecutableDefinition). definition_items (number_of entries) (as_located d.site)) vs
-    ≡ items_of (map as_defined vs)
-items_are entries vs are =
-    all_same (number_of entries) (number_in (fragment_names (map as_defined vs)))
+    → map (λ (d : ExecutableDefinition). definition_items introspection (number_of entries) (as_located d.site)) vs
+    ≡ items_of introspection (map as_defined vs)
+items_are introspection entries vs are =
+    all_same introspection (number_of entries) (number_in (fragment_names (map as_defined vs)))
     (same_number entries (fragment_names (map as_defined vs)) are) vs
 
 -- ---- the operations
@@ -127,94 +128,83 @@ either_append : (b : Bool) (k : ℕ) (xs ys zs : List ℕ) → ys ≡ xs ++ zs �
 either_append true k xs ys zs e = ap (λ ks. k ∷ ks) e
 either_append false k xs ys zs e = e
 
-operations-append : (i : ℕ) (xs : List Defined) (y : Defined)
-    → operations i (xs ++ y ∷ []) ≡ operations i xs ++ cond (is_operation y) ((i + length xs) ∷ []) []
-operations-append i [] y = ap (λ j. cond (is_operation y) (j ∷ []) []) (let h : i ≡ i + 0 = omega arith in h)
-operations-append i (x ∷ xs) y =
+operations-append : (m : Option ℕ) (i : ℕ) (xs : List Defined) (y : Defined)
+    → operations m i (xs ++ y ∷ []) ≡ operations m i xs ++ cond (is_measured m y) ((i + length xs) ∷ []) []
+operations-append m i [] y = ap (λ j. cond (is_measured m y) (j ∷ []) []) (let h : i ≡ i + 0 = omega arith in h)
+operations-append m i (x ∷ xs) y =
     let step : suc i + length xs ≡ i + suc (length xs) = omega arith in
-    either_append (is_operation x) i (operations (suc i) xs) (operations (suc i) (xs ++ y ∷ []))
-    (cond (is_operation y) ((i + suc (length xs)) ∷ []) [])
-    (operations-append (suc i) xs y ∙ ap (λ j. operations (suc i) xs ++ cond (is_operation y) (j ∷ []) []) step)
+    either_append (is_measured m x) i (operations m (suc i) xs) (operations m (suc i) (xs ++ y ∷ []))
+    (cond (is_measured m y) ((i + suc (length xs)) ∷ []) [])
+    (operations-append m (suc i) xs y ∙ ap (λ j. operations m (suc i) xs ++ cond (is_measured m y) (j ∷ []) []) step)
 
-kind_is : (k : DefinitionKind) → k ≡ Operation → elim k [ Operation ↦ true | Fragment ↦ false ] ≡ true
-kind_is Operation e = refl
-kind_is Fragment e = absurd (let r : ⊥ = cc in r)
-
-kind_is_not : (k : DefinitionKind) → (k ≡ Operation → ⊥) → elim k [ Operation ↦ true | Fragment ↦ false ] ≡ false
-kind_is_not Operation e = absurd (e refl)
-kind_is_not Fragment e = refl
-
-module _ (vs : List ExecutableDefinition) (n : ℕ) (v : ExecutableDefinition) (h : n < length vs)
+module _ (m : Option ℕ) (vs : List ExecutableDefinition) (n : ℕ) (v : ExecutableDefinition) (h : n < length vs)
     (is : v ≡ get_or vs n v) where
   more : map as_defined (take (n + 1) vs) ≡ map as_defined (take n vs) ++ as_defined v ∷ []
   more = ap (map as_defined) (take_more vs n v h) ∙ map-append as_defined (take n vs) (get_or vs n v ∷ [])
       ∙ ap (λ d. map as_defined (take n vs) ++ as_defined d ∷ []) (sym is)
 
   pub record Longer (ds : List ExecutableDefinition) (numbers : List ℕ) : Type 0 where
-    pub operations_are : map as_defined ds ≡ filter is_operation (map as_defined (take (n + 1) vs))
-    pub numbers_are : numbers ≡ operations 0 (map as_defined (take (n + 1) vs))
+    pub operations_are : map as_defined ds ≡ filter (is_measured m) (map as_defined (take (n + 1) vs))
+    pub numbers_are : numbers ≡ operations m 0 (map as_defined (take (n + 1) vs))
 
   length_so_far : 0 + length (map as_defined (take n vs)) ≡ n
   length_so_far = omega (arith, length-map (take n vs) as_defined, length-take n vs)
 
-  pub one_more : (ds es : List ExecutableDefinition) (ks ms : List ℕ) → v.kind ≡ Operation
-      → map as_defined ds ≡ filter is_operation (map as_defined (take n vs))
-      → ks ≡ operations 0 (map as_defined (take n vs))
+  pub one_more : (ds es : List ExecutableDefinition) (ks ms : List ℕ) → true ≡ is_measured m (as_defined v)
+      → map as_defined ds ≡ filter (is_measured m) (map as_defined (take n vs))
+      → ks ≡ operations m 0 (map as_defined (take n vs))
       → es ≡ ds ++ v ∷ [] → ms ≡ ks ++ n ∷ [] → Longer es ms
-  one_more ds es ks ms k d e es_are ms_are =
-      let is_one = kind_is v.kind k in
-      record {
-        operations_are = ap (map as_defined) es_are ∙ map-append as_defined ds (v ∷ [])
-            ∙ ap (λ xs. xs ++ as_defined v ∷ []) d
-            ∙ ap (λ b. filter is_operation (map as_defined (take n vs)) ++ cond b (as_defined v ∷ []) []) (sym is_one)
-            ∙ sym (ap (filter is_operation) more
-            ∙ filter-append is_operation (map as_defined (take n vs)) (as_defined v ∷ []));
-        numbers_are = ms_are ∙ ap (λ xs. xs ++ n ∷ []) e
-            ∙ ap (λ j. operations 0 (map as_defined (take n vs)) ++ j ∷ []) (sym length_so_far)
-            ∙ ap (λ b. operations 0 (map as_defined (take n vs))
-            ++ cond b ((0 + length (map as_defined (take n vs))) ∷ []) []) (sym is_one)
-            ∙ sym (ap (operations 0) more ∙ operations-append 0 (map as_defined (take n vs)) (as_defined v));
-      }
+  one_more ds es ks ms is_one d e es_are ms_are = record {
+    operations_are = ap (map as_defined) es_are ∙ map-append as_defined ds (v ∷ [])
+        ∙ ap (λ xs. xs ++ as_defined v ∷ []) d
+        ∙ ap (λ b. filter (is_measured m) (map as_defined (take n vs)) ++ cond b (as_defined v ∷ []) []) is_one
+        ∙ sym (ap (filter (is_measured m)) more
+        ∙ filter-append (is_measured m) (map as_defined (take n vs)) (as_defined v ∷ []));
+    numbers_are = ms_are ∙ ap (λ xs. xs ++ n ∷ []) e
+        ∙ ap (λ j. operations m 0 (map as_defined (take n vs)) ++ j ∷ []) (sym length_so_far)
+        ∙ ap (λ b. operations m 0 (map as_defined (take n vs))
+        ++ cond b ((0 + length (map as_defined (take n vs))) ∷ []) []) is_one
+        ∙ sym (ap (operations m 0) more ∙ operations-append m 0 (map as_defined (take n vs)) (as_defined v));
+  }
 
-  pub none_more : (ds es : List ExecutableDefinition) (ks ms : List ℕ) → (v.kind ≡ Operation → ⊥)
-      → map as_defined ds ≡ filter is_operation (map as_defined (take n vs))
-      → ks ≡ operations 0 (map as_defined (take n vs))
+  pub none_more : (ds es : List ExecutableDefinition) (ks ms : List ℕ) → false ≡ is_measured m (as_defined v)
+      → map as_defined ds ≡ filter (is_measured m) (map as_defined (take n vs))
+      → ks ≡ operations m 0 (map as_defined (take n vs))
       → es ≡ ds → ms ≡ ks → Longer es ms
-  none_more ds es ks ms k d e es_are ms_are =
-      let is_none = kind_is_not v.kind k in
-      record {
-        operations_are = ap (map as_defined) es_are ∙ d
-            ∙ sym (append-nil (filter is_operation (map as_defined (take n vs))))
-            ∙ ap (λ b. filter is_operation (map as_defined (take n vs)) ++ cond b (as_defined v ∷ []) []) (sym is_none)
-            ∙ sym (ap (filter is_operation) more
-            ∙ filter-append is_operation (map as_defined (take n vs)) (as_defined v ∷ []));
-        numbers_are = ms_are ∙ e ∙ sym (append-nil (operations 0 (map as_defined (take n vs))))
-            ∙ ap (λ b. operations 0 (map as_defined (take n vs))
-            ++ cond b ((0 + length (map as_defined (take n vs))) ∷ []) []) (sym is_none)
-            ∙ sym (ap (operations 0) more ∙ operations-append 0 (map as_defined (take n vs)) (as_defined v));
-      }
+  none_more ds es ks ms is_none d e es_are ms_are = record {
+    operations_are = ap (map as_defined) es_are ∙ d
+        ∙ sym (append-nil (filter (is_measured m) (map as_defined (take n vs))))
+        ∙ ap (λ b. filter (is_measured m) (map as_defined (take n vs)) ++ cond b (as_defined v ∷ []) []) is_none
+        ∙ sym (ap (filter (is_measured m)) more
+        ∙ filter-append (is_measured m) (map as_defined (take n vs)) (as_defined v ∷ []));
+    numbers_are = ms_are ∙ e ∙ sym (append-nil (operations m 0 (map as_defined (take n vs))))
+        ∙ ap (λ b. operations m 0 (map as_defined (take n vs))
+        ++ cond b ((0 + length (map as_defined (take n vs))) ∷ []) []) is_none
+        ∙ sym (ap (operations m 0) more ∙ operations-append m 0 (map as_defined (take n vs)) (as_defined v));
+  }
 
 either_below : (n : ℕ) (b : Bool) (k : ℕ) (ks : List ℕ) → k < n → All (λ r. r < n) ks
     → All (λ r. r < n) (cond b (k ∷ ks) ks)
 either_below n true k ks h a = All-cons (λ r. r < n) k ks h a
 either_below n false k ks h a = a
 
-operations-in_range : (i n : ℕ) (ds : List Defined) → i + length ds ≤ n → All (λ r. r < n) (operations i ds)
-operations-in_range i n [] h = λ k d b. absurd (omega arith)
-operations-in_range i n (x ∷ ds) h =
-    either_below n (is_operation x) i (operations (suc i) ds) (omega arith)
-    (operations-in_range (suc i) n ds (omega arith))
+operations-in_range : (m : Option ℕ) (i n : ℕ) (ds : List Defined) → i + length ds ≤ n
+    → All (λ r. r < n) (operations m i ds)
+operations-in_range m i n [] h = λ k d b. absurd (omega arith)
+operations-in_range m i n (x ∷ ds) h =
+    either_below n (is_measured m x) i (operations m (suc i) ds) (omega arith)
+    (operations-in_range m (suc i) n ds (omega arith))
 
-pub in_range : {V : Type 0} (f : V → List Item) (vs : List V) (ds : List Defined) (roots : List ℕ)
-    → map f vs ≡ items_of ds → roots ≡ operations 0 ds
+pub in_range : {V : Type 0} (introspection : Introspection) (m : Option ℕ) (f : V → List Item) (vs : List V)
+    (ds : List Defined) (roots : List ℕ) → map f vs ≡ items_of introspection ds → roots ≡ operations m 0 ds
     → All (λ r. r < length vs) roots
-in_range f vs ds roots e is =
-    subst (All (λ r. r < length vs)) (sym is) (operations-in_range 0 (length vs) ds (omega (
+in_range introspection m f vs ds roots e is =
+    subst (All (λ r. r < length vs)) (sym is) (operations-in_range m 0 (length vs) ds (omega (
       arith,
       length-map vs f,
       ap (λ xs. length xs) e,
       length-map ds
-          (λ (d : Defined). definition_items (number_in (fragment_names ds)) d.site),
+          (λ (d : Defined). definition_items introspection (number_in (fragment_names ds)) d.site),
     )))
 
 either_length : (b : Bool) (k : ℕ) (ks : List ℕ) (d : Defined) (ds : List Defined) → length ks ≡ length ds
@@ -222,18 +212,20 @@ either_length : (b : Bool) (k : ℕ) (ks : List ℕ) (d : Defined) (ds : List De
 either_length true k ks d ds e = ap suc e
 either_length false k ks d ds e = e
 
-length-operations : (i : ℕ) (ds : List Defined) → length (operations i ds) ≡ length (filter is_operation ds)
-length-operations i [] = refl
-length-operations i (x ∷ ds) =
-    either_length (is_operation x) i (operations (suc i) ds) x (filter is_operation ds) (length-operations (suc i) ds)
+length-operations : (m : Option ℕ) (i : ℕ) (ds : List Defined)
+    → length (operations m i ds) ≡ length (filter (is_measured m) ds)
+length-operations m i [] = refl
+length-operations m i (x ∷ ds) =
+    either_length (is_measured m x) i (operations m (suc i) ds) x (filter (is_measured m) ds)
+    (length-operations m (suc i) ds)
 
 length-measured : {d : List (List Item)} {rs : List ℕ} {fs : List Figures} → AreMeasured d rs fs → length rs ≡ length fs
 length-measured none = refl
 length-measured (next m ms) = ap suc (length-measured ms)
 
-pub same_length : (d : List (List Item)) (ds : List Defined) (rs : List ℕ) (fs : List Figures)
+pub same_length : (m : Option ℕ) (d : List (List Item)) (ds : List Defined) (rs : List ℕ) (fs : List Figures)
     (os : List ExecutableDefinition) → AreMeasured d rs fs
-    → rs ≡ operations 0 ds → map as_defined os ≡ filter is_operation ds → length os ≡ length fs
-same_length d ds rs fs os m r o =
-    sym (length-map os as_defined) ∙ ap (λ xs. length xs) o ∙ sym (length-operations 0 ds)
-    ∙ ap (λ xs. length xs) (sym r) ∙ length-measured m
+    → rs ≡ operations m 0 ds → map as_defined os ≡ filter (is_measured m) ds → length os ≡ length fs
+same_length m d ds rs fs os measured r o =
+    sym (length-map os as_defined) ∙ ap (λ xs. length xs) o ∙ sym (length-operations m 0 ds)
+    ∙ ap (λ xs. length xs) (sym r) ∙ length-measured measured

@@ -18,7 +18,8 @@ use Rattle.apollo_tree.proofs.Places.{length-order}
 use Rattle.validation_names.specs.Names.{Name, Entries}
 use Rattle.validation_names.specs.Sites.{Located, located}
 use Rattle.cost_figures.specs.declared.items.Item.{Item}
-use Rattle.cost_limits.specs.Items.{spot as at, items_of, inside, seen_after, items_below, items_inside}
+use Rattle.cost_limits.specs.declared.introspection.Introspection.{Introspection}
+use Rattle.cost_limits.specs.Items.{spot as at, items_of, inside, is_counted, seen_after, items_below, items_inside}
 use Rattle.cost_limits.specs.Items.{is_among, is_new, with_name, response_name, field_items, other_items}
 use Rattle.cost_limits.specs.Collecting.{ArePart, nodes_from, AreNames, IsLeft, IsNoted, Adds}
 
@@ -151,10 +152,10 @@ in_range n =
     )
 
 -- `d` is the number of the document
-module _ (d : ℕ) (p : Place) (number : Option Name → ℕ) (n : ℕ) where
+module _ (introspection : Introspection) (d : ℕ) (p : Place) (number : Option Name → ℕ) (n : ℕ) where
   pub left_first : (old : List Item) (names : Entries (Unit {0})) (left : List Place)
       → p.index < length (order p.whole) → left ≡ child_nodes p → AreNames names []
-      → IsLeft d p number n (old ++ items_inside number n (located d p)) old names left
+      → IsLeft introspection d p number n (old ++ items_inside introspection number n (located d p)) old names left
   left_first old names left h e none_yet = record {
     rest = tree_kids (tree_at p);
     index = suc p.index;
@@ -167,6 +168,13 @@ module _ (d : ℕ) (p : Place) (number : Option Name → ℕ) (n : ℕ) where
     same = refl;
   }
 
+  -- what there is of a child, `q`, and after it: `rest` is after it, and `seen` are the response names before it
+  abbrev pub counted : Place → ℕ → List Name → Forest → List Item
+  counted q index seen rest =
+      items_of number n seen (located d q)
+      ++ (items_below introspection d p.whole number (inside n q) (suc q.index) [] (tree_kids (tree_at q))
+      ++ items_below introspection d p.whole number n index (seen_after seen q) rest)
+
   -- the next child, `q`, and what is left after it
   pub record Next (all found : List Item) (seen : List Name) (q : Place) (more : List Place) : Type 0 where
     pub rest : Forest
@@ -177,9 +185,8 @@ module _ (d : ℕ) (p : Place) (number : Option Name → ℕ) (n : ℕ) where
     pub more_are : more ≡ nodes_from p.whole index rest
     pub whole : q.whole ≡ p.whole
     pub later : p.index < q.index
-    pub same : found ++ (items_of number n seen (located d q)
-        ++ (items_below d p.whole number (inside n q) (suc q.index) [] (tree_kids (tree_at q))
-        ++ items_below d p.whole number n index (seen_after seen q) rest)) ≡ all
+    pub same : found ++ cond (is_counted introspection q) (counted q index seen rest)
+        (items_below introspection d p.whole number n index seen rest) ≡ all
 
   heads : (x y : Place) (xs ys : List Place) → ◌≡◌ {A = List Place} (x ∷ xs) (y ∷ ys) → x ≡ y
   heads x y xs ys e = cc
@@ -192,7 +199,7 @@ module _ (d : ℕ) (p : Place) (number : Option Name → ℕ) (n : ℕ) where
 
   next_of : (all found : List Item) (seen : List Name) (q : Place) (more : List Place) (i end : ℕ) (rest : Forest)
       → ArePart p.whole i end rest → p.index < i
-      → q ∷ more ≡ nodes_from p.whole i rest → found ++ items_below d p.whole number n i seen rest ≡ all
+      → q ∷ more ≡ nodes_from p.whole i rest → found ++ items_below introspection d p.whole number n i seen rest ≡ all
       → Next all found seen q more
   next_of all found seen q more i end none s b e h = absurd (none_more q more e)
   next_of all found seen q more i end (leaf k t rest) s b e h =
@@ -210,9 +217,12 @@ module _ (d : ℕ) (p : Place) (number : Option Name → ℕ) (n : ℕ) where
         more_are = tails q (at p.whole i) more r e;
         whole = refl;
         later = b;
-        same = ap (λ ts. found ++ (items_of number n seen (located d (at p.whole i))
-            ++ (items_below d p.whole number (inside n (at p.whole i)) (suc i) [] ts
-            ++ items_below d p.whole number n (suc (i + count kids)) (seen_after seen (at p.whole i)) rest))) its_kids
+        same = ap (λ ts. found ++ cond (is_counted introspection (at p.whole i))
+            (items_of number n seen (located d (at p.whole i))
+            ++ (items_below introspection d p.whole number (inside n (at p.whole i)) (suc i) [] ts
+            ++ items_below introspection d p.whole number n (suc (i + count kids)) (seen_after seen (at p.whole i))
+            rest))
+            (items_below introspection d p.whole number n (suc (i + count kids)) seen rest)) its_kids
             ∙ h;
       })
 
@@ -220,7 +230,7 @@ module _ (d : ℕ) (p : Place) (number : Option Name → ℕ) (n : ℕ) where
   regroup_items xs ys zs us = simp append_assoc
 
   module _ (all found : List Item) (names : Entries (Unit {0})) (q : Place) (more left : List Place)
-      (l : IsLeft d p number n all found names left)
+      (l : IsLeft introspection d p number n all found names left)
       (e : left ≡ q ∷ more) where
     next : Next all found l.seen q more
     next = next_of all found l.seen q more l.index l.end l.rest l.part l.further (sym e ∙ l.left_are) l.same
@@ -231,18 +241,20 @@ module _ (d : ℕ) (p : Place) (number : Option Name → ℕ) (n : ℕ) where
     pub next_later : p.index < q.index
     next_later = next.later
 
-    pub left_on : (one two : List Item) (after : Entries (Unit {0}))
+    pub left_on : (one two : List Item) (after : Entries (Unit {0})) → is_counted introspection q ≡ true
         → ((seen : List Name) → AreNames names seen → Adds number n (located d q) seen found one after)
-        → two ≡ one ++ items_inside number (inside n q) (located d q)
-        → IsLeft d p number n all two after more
-    left_on one two after adds two_is =
+        → two ≡ one ++ items_inside introspection number (inside n q) (located d q)
+        → IsLeft introspection d p number n all two after more
+    left_on one two after counts adds two_is =
         let x = next in
         let a = adds l.seen l.names_are in
         let own = items_of number n l.seen (located d q) in
-        let below = items_below d p.whole number (inside n q) (suc q.index) [] (tree_kids (tree_at q)) in
-        let others = items_below d p.whole number n x.index (seen_after l.seen q) x.rest in
+        let below = items_below introspection d p.whole number (inside n q) (suc q.index) [] (tree_kids (tree_at q)) in
+        let others = items_below introspection d p.whole number n x.index (seen_after l.seen q) x.rest in
         let together : two ≡ (found ++ own) ++ below =
-        two_is ∙ ap (λ w. one ++ items_below d w number (inside n q) (suc q.index) [] (tree_kids (tree_at q))) x.whole
+        two_is
+        ∙ ap (λ w. one ++ items_below introspection d w number (inside n q) (suc q.index) [] (tree_kids (tree_at q)))
+        x.whole
         ∙ ap (λ ys. ys ++ below) a.items_are in
         record {
           rest = x.rest;
@@ -253,18 +265,39 @@ module _ (d : ℕ) (p : Place) (number : Option Name → ℕ) (n : ℕ) where
           further = x.further;
           left_are = x.more_are;
           names_are = a.names_are;
-          same = ap (λ ys. ys ++ others) together ∙ regroup_items found own below others ∙ x.same;
+          same = ap (λ ys. ys ++ others) together ∙ regroup_items found own below others
+              ∙ ap (λ b. found ++ cond b (own ++ (below ++ others))
+              (items_below introspection d p.whole number n x.index l.seen x.rest)) (sym counts)
+              ∙ x.same;
+        }
+
+    -- a child that does not count
+    pub left_past : is_counted introspection q ≡ false → IsLeft introspection d p number n all found names more
+    left_past counts =
+        let x = next in
+        record {
+          rest = x.rest;
+          index = x.index;
+          end = x.end;
+          seen = l.seen;
+          part = x.part;
+          further = x.further;
+          left_are = x.more_are;
+          names_are = l.names_are;
+          same = ap (λ b. found ++ cond b (counted q x.index l.seen x.rest)
+              (items_below introspection d p.whole number n x.index l.seen x.rest)) (sym counts)
+              ∙ x.same;
         }
 
   no_nodes : (i end : ℕ) (seen : List Name) (rest : Forest) → [] ≡ nodes_from p.whole i rest
-      → items_below d p.whole number n i seen rest ≡ []
+      → items_below introspection d p.whole number n i seen rest ≡ []
   no_nodes i end seen none e = refl
   no_nodes i end seen (leaf k t rest) e = no_nodes (suc i) end seen rest e
   no_nodes i end seen (node k kids rest) e =
       absurd (none_more (at p.whole i) (nodes_from p.whole (suc (i + count kids)) rest) (sym e))
 
   pub left_none : (all found : List Item) (names : Entries (Unit {0})) (left : List Place)
-      → IsLeft d p number n all found names left → left ≡ [] → found ≡ all
+      → IsLeft introspection d p number n all found names left → left ≡ [] → found ≡ all
   left_none all found names left l e =
       sym (append-nil found) ∙ ap (λ xs. found ++ xs) (sym (no_nodes l.index l.end l.seen l.rest (sym e ∙ l.left_are)))
       ∙ l.same

@@ -6,6 +6,7 @@ use Rattle.apollo_tree.specs.Order.{Element, Place, order, order_from}
 use Rattle.validation_names.specs.Names.{Name, Entries, entry_of}
 use Rattle.validation_names.specs.Sites.{Located}
 use Rattle.cost_figures.specs.declared.items.Item.{Item}
+use Rattle.cost_limits.specs.declared.introspection.Introspection.{Introspection}
 use Rattle.cost_limits.specs.Items.{spot, is_among, is_new, with_name, items_of, seen_after, items_below}
 
 -- the number that a fragment's name has in a map
@@ -46,8 +47,8 @@ nodes_from whole i (node k kids rest) = spot whole i ∷ nodes_from whole (suc (
 
 -- what is left of the children of the element `p` of the document with the number `d`: `left` are the nodes among them,
 -- `all` is what there is to be found, and `found` what has been
-pub record IsLeft (d : ℕ) (p : Place) (number : Option Name → ℕ) (n : ℕ) (all found : List Item)
-    (names : Entries (Unit {0})) (left : List Place) : Type 0 where
+pub record IsLeft (introspection : Introspection) (d : ℕ) (p : Place) (number : Option Name → ℕ) (n : ℕ)
+    (all found : List Item) (names : Entries (Unit {0})) (left : List Place) : Type 0 where
   pub rest : Forest
   pub index : ℕ
   pub end : ℕ
@@ -56,4 +57,4 @@ pub record IsLeft (d : ℕ) (p : Place) (number : Option Name → ℕ) (n : ℕ)
   pub further : p.index < index
   pub left_are : left ≡ nodes_from p.whole index rest
   pub names_are : AreNames names seen
-  pub same : found ++ items_below d p.whole number n index seen rest ≡ all
+  pub same : found ++ items_below introspection d p.whole number n index seen rest ≡ all

@@ -1,6 +1,6 @@
 -- The items of an operation or a fragment of one of some documents, in the order of the text.
-use Rattle.std.specs.Prelude.{ℕ, suc, ◌+◌, List, [], ◌∷◌, ◌++◌, Bool, true, not, if◌then◌else◌, Option, Some, None}
-use Rattle.std.specs.Prelude.{bytes_eq}
+use Rattle.std.specs.Prelude.{ℕ, suc, ◌+◌, List, [], ◌∷◌, ◌++◌, Bool, true, false, not, ◌&&◌, ◌||◌, if◌then◌else◌}
+use Rattle.std.specs.Prelude.{Option, Some, None, bytes_eq, codes}
 use Rattle.std.specs.List.{list_any}
 use Rattle.document_grammar.specs.declared.kind.SyntaxKind.TheVariants.{FIELD, ALIAS, DIRECTIVE, FRAGMENT_SPREAD}
 use Rattle.document_grammar.specs.declared.kind.SyntaxKind.TheVariants.{FRAGMENT_NAME}
@@ -14,6 +14,8 @@ use Rattle.validation_names.specs.Mentions.{name_of, name_in}
 use Rattle.cost_figures.specs.declared.items.Item.{Item}
 use Rattle.cost_figures.specs.declared.items.Item.TheVariants.{Field, ResponseName, Alias, Directive, Spread}
 use Rattle.cost_figures.specs.declared.items.Span.{Span}
+use Rattle.cost_limits.specs.declared.introspection.Introspection.{Introspection}
+use Rattle.cost_limits.specs.declared.introspection.Introspection.TheVariants.{Counted, LeftOut}
 
 -- the element with an index
 abbrev pub spot : Forest → ℕ → Place
@@ -66,21 +68,34 @@ seen_after seen p = if is_kind FIELD (kind_at p) then with_name (response_name p
 abbrev pub inside : ℕ → Place → ℕ
 inside n p = if is_kind FIELD (kind_at p) then n + 1 else n
 
+-- the name of a field that introspects the schema (GraphQL October 2021, section 4.2)
+abbrev pub is_introspection : Option Name → Bool
+is_introspection None = false
+is_introspection (Some name) = bytes_eq name (codes "__schema") || bytes_eq name (codes "__type")
+
+-- Whether a node counts, and what is below it. Only a field that introspects the schema may not.
+abbrev pub is_counted : Introspection → Place → Bool
+is_counted Counted p = true
+is_counted LeftOut p = not (is_kind FIELD (kind_at p) && is_introspection (name_of p))
+
 -- the items of the trees of the document with the number `d`, whose trees are `whole`, from the element `i` on, and of
 -- all below them
-abbrev pub items_below : ℕ → Forest → (Option Name → ℕ) → ℕ → ℕ → List Name → Forest → List Item
-items_below d whole number n i seen none = []
-items_below d whole number n i seen (leaf k s rest) = items_below d whole number n (suc i) seen rest
-items_below d whole number n i seen (node k kids rest) =
-    items_of number n seen (located d (spot whole i))
-    ++ (items_below d whole number (inside n (spot whole i)) (suc i) [] kids
-    ++ items_below d whole number n (suc (i + count kids)) (seen_after seen (spot whole i)) rest)
+abbrev pub items_below : Introspection → ℕ → Forest → (Option Name → ℕ) → ℕ → ℕ → List Name → Forest → List Item
+items_below introspection d whole number n i seen none = []
+items_below introspection d whole number n i seen (leaf k s rest) =
+    items_below introspection d whole number n (suc i) seen rest
+items_below introspection d whole number n i seen (node k kids rest) =
+    if is_counted introspection (spot whole i)
+    then items_of number n seen (located d (spot whole i))
+    ++ (items_below introspection d whole number (inside n (spot whole i)) (suc i) [] kids
+    ++ items_below introspection d whole number n (suc (i + count kids)) (seen_after seen (spot whole i)) rest)
+    else items_below introspection d whole number n (suc (i + count kids)) seen rest
 
 -- those of all below a node
-abbrev pub items_inside : (Option Name → ℕ) → ℕ → Located → List Item
-items_inside number n s =
-    items_below s.document s.place.whole number n (suc s.place.index) [] (tree_kids (tree_at s.place))
+abbrev pub items_inside : Introspection → (Option Name → ℕ) → ℕ → Located → List Item
+items_inside introspection number n s =
+    items_below introspection s.document s.place.whole number n (suc s.place.index) [] (tree_kids (tree_at s.place))
 
 -- those of a definition
-abbrev pub definition_items : (Option Name → ℕ) → Located → List Item
-definition_items number s = items_inside number 0 s
+abbrev pub definition_items : Introspection → (Option Name → ℕ) → Located → List Item
+definition_items introspection number s = items_inside introspection number 0 s

@@ -1,6 +1,6 @@
 -- The figures of the operations of some documents, and why there are none.
 use Rattle.std.specs.Prelude.{◌≡◌, ℕ, suc, ◌-◌, ◌^◌, ◌<◌, List, [], ◌∷◌, length, map, Bool, true, false, if◌then◌else◌}
-use Rattle.std.specs.Prelude.{Option, Some, None, unwrap_or, slice_index_or, Contains}
+use Rattle.std.specs.Prelude.{◌&&◌, nat_lt, Option, Some, None, unwrap_or, slice_index_or, Contains}
 use Rattle.std.specs.List.{filter}
 use Rattle.validation_names.specs.Names.{Name, first_number}
 use Rattle.validation_names.specs.Definitions.{Defined, as_defined, fragment_names}
@@ -9,6 +9,9 @@ use Rattle.cost_figures.specs.declared.items.Item.{Item}
 use Rattle.cost_figures.specs.declared.figures.Figures.{Figures}
 use Rattle.cost_figures.specs.Outcome.{AreMeasured, IsCycle, IsUndefined}
 use Rattle.cost_limits.specs.Items.{definition_items}
+use Rattle.cost_limits.specs.declared.introspection.Introspection.{Introspection}
+use Rattle.cost_limits.specs.declared.introspection.Introspection.TheVariants.{Counted}
+use Rattle.cost_limits.specs.declared.measures.MeasureOptions.{MeasureOptions}
 use Rattle.cost_limits.specs.declared.measures.OperationFigures.{OperationFigures}
 use Rattle.cost_limits.specs.declared.measures.MeasureError.{MeasureError}
 use Rattle.cost_limits.specs.declared.measures.MeasureError.TheVariants.{SameName, Cycle, Undefined, Memory}
@@ -19,16 +22,26 @@ number_in names None = 2 ^ 64 - 1
 number_in names (Some s) = unwrap_or (first_number names s) (2 ^ 64 - 1)
 
 -- the items of each definition
-abbrev pub items_of : List Defined → List (List Item)
-items_of ds = map (λ d. definition_items (number_in (fragment_names ds)) d.site) ds
+abbrev pub items_of : Introspection → List Defined → List (List Item)
+items_of introspection ds = map (λ d. definition_items introspection (number_in (fragment_names ds)) d.site) ds
 
 abbrev pub is_operation : Defined → Bool
 is_operation d = elim d.kind [ Operation ↦ true | Fragment ↦ false ]
 
--- the numbers of the operations, where the first definition has the number `i`
-abbrev pub operations : ℕ → List Defined → List ℕ
-operations i [] = []
-operations i (d ∷ ds) = if is_operation d then i ∷ operations (suc i) ds else operations (suc i) ds
+-- an operation of one of the first documents, as many as are measured, or of any document
+abbrev pub is_measured : Option ℕ → Defined → Bool
+is_measured None d = is_operation d
+is_measured (Some count) d = is_operation d && nat_lt d.site.document count
+
+-- the numbers of these operations, where the first definition has the number `i`
+abbrev pub operations : Option ℕ → ℕ → List Defined → List ℕ
+operations measured i [] = []
+operations measured i (d ∷ ds) =
+    if is_measured measured d then i ∷ operations measured (suc i) ds else operations measured (suc i) ds
+
+-- all operations, with all their fields
+abbrev pub everything : MeasureOptions
+everything = record { introspection = Counted; measured = None }
 
 -- an operation with its figures
 pub record Measure : Type 0 where
@@ -53,10 +66,11 @@ pub record IsSecond (names : List (Option Name)) (first second : ℕ) : Type 0 w
   pub second_is : slice_index_or names second None ≡ Some name
   pub apart : first < second
 
--- the measures are those of the operations among the definitions `ds`, in order
-pub record AreMeasures (ds : List Defined) (measures : List Measure) : Type 0 where
-  pub operations_are : map (λ m. m.operation) measures ≡ filter is_operation ds
-  pub figures_are : AreMeasured (items_of ds) (operations 0 ds) (map (λ m. m.figures) measures)
+-- the measures are those of the operations among the definitions `ds` that are measured, in order
+pub record AreMeasures (options : MeasureOptions) (ds : List Defined) (measures : List Measure) : Type 0 where
+  pub operations_are : map (λ m. m.operation) measures ≡ filter (is_measured options.measured) ds
+  pub figures_are :
+      AreMeasured (items_of options.introspection ds) (operations options.measured 0 ds) (map (λ m. m.figures) measures)
   pub distinct : AreDistinct (fragment_names ds)
 
 -- `a` is the first fragment of a name, and `b` a later one of the same name
@@ -68,8 +82,10 @@ pub record AreTwins (ds : List Defined) (a b : Defined) : Type 0 where
   pub second_at : (second < length ds) × (slice_index_or ds second b ≡ b)
 
 -- what an error says of the definitions `ds`
-abbrev pub IsMeasureError : List Defined → MeasureError → Type 0
-IsMeasureError ds (SameName a b) = AreTwins ds (as_defined a) (as_defined b)
-IsMeasureError ds (Cycle span) = (r : ℕ) × Contains (operations 0 ds) r × IsCycle (items_of ds) r span
-IsMeasureError ds (Undefined span) = (r : ℕ) × Contains (operations 0 ds) r × IsUndefined (items_of ds) r span
-IsMeasureError ds Memory = Unit {0}
+abbrev pub IsMeasureError : MeasureOptions → List Defined → MeasureError → Type 0
+IsMeasureError options ds (SameName a b) = AreTwins ds (as_defined a) (as_defined b)
+IsMeasureError options ds (Cycle span) =
+    (r : ℕ) × Contains (operations options.measured 0 ds) r × IsCycle (items_of options.introspection ds) r span
+IsMeasureError options ds (Undefined span) =
+    (r : ℕ) × Contains (operations options.measured 0 ds) r × IsUndefined (items_of options.introspection ds) r span
+IsMeasureError options ds Memory = Unit {0}

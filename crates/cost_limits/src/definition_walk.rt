@@ -6,6 +6,7 @@ ghost use Rattle.validation_names.specs.Sites.{as_located};
 ghost use Rattle.cost_limits.specs.Items.{definition_items, field_items, items_inside, other_items, inside};
 ghost use Rattle.cost_limits.specs.Collecting.{AreNames, Adds, number_of};
 
+use crate::introspection::{Introspection, is_counted};
 use crate::response_names::{is_new, number_of, response_name};
 use apollo_tree::{SyntaxKind, SyntaxNode};
 use cost_figures::{Item, Span};
@@ -94,17 +95,18 @@ fn add<'t, A: Allocator + Copy>(
     Ok(())
 }
 
-// Adds the items of all nodes below a node.
+// Adds the items of all nodes below a node that count.
 fn collect<'t, A: Allocator + Copy>(
     alloc: A,
     site: &Site<'t>,
     fragments: &BTreeMap<&str, usize, A>,
+    introspection: Introspection,
     enclosing: usize,
     found: &mut Vec<Item, A>,
 ) -> Result<(), AllocError>
     requires { enclosing ≤ (node_place site.now.node).index }
     ensures { OnOk result (found.new.items ≡ found.old.items
-        ++ items_inside (number_of fragments.now) enclosing (as_located site.now)) }
+        ++ items_inside introspection (number_of fragments.now) enclosing (as_located site.now)) }
 {
     let mut names: BTreeMap<&'t str, (), A> = BTreeMap::new(alloc);
     for node in site.node.children() {
@@ -112,8 +114,11 @@ fn collect<'t, A: Allocator + Copy>(
             document: site.document,
             node,
         };
-        add(&child, fragments, enclosing, &mut names, found)?;
-        collect(alloc, &child, fragments, inside(enclosing, node), found)?;
+        if is_counted(introspection, &node) {
+            add(&child, fragments, enclosing, &mut names, found)?;
+            let within = inside(enclosing, node);
+            collect(alloc, &child, fragments, introspection, within, found)?;
+        }
     }
     Ok(())
 }
@@ -124,11 +129,12 @@ pub fn items<A: Allocator + Copy>(
     alloc: A,
     definition: &Site<'_>,
     fragments: &BTreeMap<&str, usize, A>,
+    introspection: Introspection,
 ) -> Result<Vec<Item, A>, AllocError>
     ensures { IfOk result (λ items. items.items
-        ≡ definition_items (number_of fragments.now) (as_located definition.now)) }
+        ≡ definition_items introspection (number_of fragments.now) (as_located definition.now)) }
 {
     let mut found = Vec::new(alloc);
-    collect(alloc, definition, fragments, 0, &mut found)?;
+    collect(alloc, definition, fragments, introspection, 0, &mut found)?;
     Ok(found)
 }

@@ -6,7 +6,7 @@
 //! large one: here time and memory are linear in the documents, but for the look-up of names.
 //!
 //!     let tree = Parser::new(text).parse(alloc)?;
-//!     let operations = measure(alloc, &[tree.root()])?;
+//!     let operations = measure(alloc, &[tree.root()], &MeasureOptions::EVERYTHING)?;
 //!     let limits = Figures { depth: 10, fields: 500, ..Figures::UNLIMITED };
 //!     within(operations.as_slice(), &limits)?;
 //!
@@ -14,11 +14,13 @@
 #![tactic(auto)]
 
 mod definition_walk;
+mod introspection;
 mod limits;
 mod measures;
 mod response_names;
 
 pub use cost_figures::{Figures, Limit, Span};
+pub use introspection::Introspection;
 pub use limits::{Exceeded, within};
-pub use measures::{MeasureError, OperationFigures, measure};
+pub use measures::{MeasureError, MeasureOptions, OperationFigures, measure};
 pub use validation_names::{DefinitionKind, ExecutableDefinition};

@@ -18,7 +18,7 @@ use Rattle.validation_rules.specs.TextOrder.{IsInTextOrder}
 use Rattle.validation_rules.specs.Violations.{Breach}
 use Rattle.cost_figures.specs.declared.figures.Figures.{Figures}
 use Rattle.cost_limits.specs.Limits.{IsWithin}
-use Rattle.cost_limits.specs.Measures.{Measure, AreMeasures}
+use Rattle.cost_limits.specs.Measures.{Measure, AreMeasures, everything}
 use Rattle.document_validation.specs.Breaches.{AreValid, breaches}
 use Rattle.document_checks.specs.Checking.{Asked, is_chosen}
 use Rattle.document_checks.specs.Documents.{AllPass, AreJudged, AreJudgedTogether, AreMeasured, IsFounded}
@@ -240,7 +240,7 @@ all_within numbers most ms (r ∷ rs) inside each all = λ k d below.
 
 -- there are figures
 pub measured : (asked : Asked) (documents : List Place) (numbers : List ℕ) (ms : List Measure) (old new : List Report)
-    → AreMeasures (defined documents) ms → ((number : ℕ) → slice_index_or numbers number 0 < length old)
+    → AreMeasures everything (defined documents) ms → ((number : ℕ) → slice_index_or numbers number 0 < length old)
     → (IsThere asked ms
     → AreJudged (HasWithin numbers asked.most (filter (is_chosen asked.operation) ms)) old new)
     → (¬ IsThere asked ms → AreJudged (λ text. text ≢ 0) old new)
@@ -249,8 +249,8 @@ measured asked documents numbers ms old new figures inside if_there if_not =
     elim (is_there asked.operation (filter (is_chosen asked.operation) ms))
     [ inl there ↦ of_there there | inr missing ↦ of_missing missing.0 missing.1 ]
   where
-    same : (others : List Measure) → AreMeasures (defined documents) others → ms ≡ others
-    same others those = one_measures (defined documents) ms others figures those
+    same : (others : List Measure) → AreMeasures everything (defined documents) others → ms ≡ others
+    same others those = one_measures everything (defined documents) ms others figures those
 
     of_there : IsThere asked ms → AreMeasured asked documents numbers old new
     of_there there =
@@ -301,7 +301,7 @@ measured asked documents numbers ms old new figures inside if_there if_not =
 
 -- there are none
 pub unmeasured : (asked : Asked) (documents : List Place) (numbers : List ℕ) (k : ℕ) (old new : List Report)
-    → ((ms : List Measure) → AreMeasures (defined documents) ms → ⊥) → k < length new
+    → ((ms : List Measure) → AreMeasures everything (defined documents) ms → ⊥) → k < length new
     → AreJudged (λ text. text ≢ k) old new → AreMeasured asked documents numbers old new
 unmeasured asked documents numbers k old new none inside judged = record {
   count = judged.count;

@@ -12,6 +12,7 @@ use Rattle.cost_limits.specs.Measures.{Measure, AreMeasures, AreTwins, IsMeasure
 use Rattle.cost_limits.specs.Limits.{IsWithin, IsExceeded}
 use Rattle.cost_limits.specs.declared.limits.Exceeded.{Exceeded}
 use Rattle.cost_limits.specs.declared.measures.MeasureError.{MeasureError}
+use Rattle.cost_limits.specs.declared.measures.MeasureOptions.{MeasureOptions}
 use Rattle.cost_limits.specs.declared.measures.MeasureError.TheVariants.{SameName, Cycle, Undefined, Memory}
 use Rattle.document_checks.proofs.Measuring.{one_list, no_cycle, all_defined}
 
@@ -30,13 +31,16 @@ pairs (m ∷ ms) (n ∷ ns) o f =
     ap₂ (λ (x : Measure) (xs : List Measure). x ∷ xs) (λ i. record { operation = operation i; figures = figures i })
     (pairs ms ns operations_after figures_after)
 
-pub one_measures : (ds : List Defined) (ms ns : List Measure) → AreMeasures ds ms → AreMeasures ds ns → ms ≡ ns
-one_measures ds ms ns a b = pairs ms ns (a.operations_are ∙ sym b.operations_are) (one_list a.figures_are b.figures_are)
+pub one_measures : (options : MeasureOptions) (ds : List Defined) (ms ns : List Measure) → AreMeasures options ds ms
+    → AreMeasures options ds ns → ms ≡ ns
+one_measures options ds ms ns a b =
+    pairs ms ns (a.operations_are ∙ sym b.operations_are) (one_list a.figures_are b.figures_are)
 
 -- ---- with an error there are none
 
-none_of_twins : (ds : List Defined) (a b : Defined) (ms : List Measure) → AreMeasures ds ms → AreTwins ds a b → ⊥
-none_of_twins ds a b ms m t =
+none_of_twins : (options : MeasureOptions) (ds : List Defined) (a b : Defined) (ms : List Measure)
+    → AreMeasures options ds ms → AreTwins ds a b → ⊥
+none_of_twins options ds a b ms m t =
     let s = t.is_second in
     omega (arith, ap number (sym s.first_is ∙ m.distinct t.second s.name s.second_is), s.apart)
   where
@@ -44,12 +48,13 @@ none_of_twins ds a b ms m t =
     number (Some n) = n
     number None = 0
 
-pub no_figures : (ds : List Defined) (e : MeasureError) → e ≢ Memory → IsMeasureError ds e
-    → (ms : List Measure) → AreMeasures ds ms → ⊥
-no_figures ds (SameName a b) other error ms m = none_of_twins ds (as_defined a) (as_defined b) ms m error
-no_figures ds (Cycle span) other error ms m = no_cycle error.0 span m.figures_are error.1 error.2
-no_figures ds (Undefined span) other error ms m = all_defined error.0 span m.figures_are error.1 error.2
-no_figures ds Memory other error ms m = other refl
+pub no_figures : (options : MeasureOptions) (ds : List Defined) (e : MeasureError) → e ≢ Memory
+    → IsMeasureError options ds e → (ms : List Measure) → AreMeasures options ds ms → ⊥
+no_figures options ds (SameName a b) other error ms m =
+    none_of_twins options ds (as_defined a) (as_defined b) ms m error
+no_figures options ds (Cycle span) other error ms m = no_cycle error.0 span m.figures_are error.1 error.2
+no_figures options ds (Undefined span) other error ms m = all_defined error.0 span m.figures_are error.1 error.2
+no_figures options ds Memory other error ms m = other refl
 
 -- ---- limits
 

@@ -11,7 +11,7 @@ use Rattle.validation_names.specs.Names.{Name}
 use Rattle.validation_names.specs.Definitions.{defined, operation_name}
 use Rattle.cost_figures.specs.declared.figures.Figures.{Figures}
 use Rattle.formatter.specs.Within.{HasCommentsAlone}
-use Rattle.cost_limits.specs.Measures.{Measure, AreMeasures}
+use Rattle.cost_limits.specs.Measures.{Measure, AreMeasures, everything}
 use Rattle.cost_limits.specs.Limits.{IsWithin}
 use Rattle.document_validation.specs.Breaches.{AreValid}
 use Rattle.document_checks.specs.declared.report.Checks.{Checks}
@@ -52,7 +52,7 @@ pub record IsChosenWithin (asked : Asked) (measures : List Measure) : Type 0 whe
 -- The operations of some documents have figures, and are so.
 pub record AreWithin (asked : Asked) (documents : List Place) : Type 0 where
   pub measures : List Measure
-  pub figures : AreMeasures (defined documents) measures
+  pub figures : AreMeasures everything (defined documents) measures
   pub chosen : IsChosenWithin asked measures
 
 -- ---- texts

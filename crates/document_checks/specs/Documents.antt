@@ -6,7 +6,7 @@ use Rattle.apollo_lexer.specs.declared.limits.Limits.{Limits}
 use Rattle.apollo_tree.specs.Order.{Place}
 use Rattle.apollo_parser.specs.Promise.{Promise}
 use Rattle.validation_names.specs.Definitions.{defined}
-use Rattle.cost_limits.specs.Measures.{Measure, AreMeasures}
+use Rattle.cost_limits.specs.Measures.{Measure, AreMeasures, everything}
 use Rattle.formatter.specs.Within.{HasCommentsAlone}
 use Rattle.document_validation.specs.Breaches.{AreValid}
 use Rattle.document_checks.specs.Checking.{Asked, AreWithin, is_chosen}
@@ -78,10 +78,10 @@ pub record AreMeasured (asked : Asked) (documents : List Place) (numbers : List 
   pub count : length new ≡ length old
   pub founded : All IsFounded new
   pub within : AllPass new ↔ AreWithin asked documents
-  pub limits : (measures : List Measure) → AreMeasures (defined documents) measures → IsThere asked measures
+  pub limits : (measures : List Measure) → AreMeasures everything (defined documents) measures → IsThere asked measures
       → PassIf (HasWithin numbers asked.most (filter (is_chosen asked.operation) measures)) new
-  pub missing : (measures : List Measure) → AreMeasures (defined documents) measures → ¬ IsThere asked measures
-      → PassIf (λ text. text ≢ 0) new
+  pub missing : (measures : List Measure) → AreMeasures everything (defined documents) measures
+      → ¬ IsThere asked measures → PassIf (λ text. text ≢ 0) new
 
 -- And by the rules too.
 pub record AreJudgedTogether (asked : Asked) (documents : List Place) (numbers : List ℕ) (old new : List Report)

@@ -9,7 +9,7 @@ use Rattle.validation_names.specs.Sites.{Located}
 use Rattle.validation_rules.specs.Violations.{Breach}
 use Rattle.cost_figures.specs.declared.figures.Figures.{Figures}
 use Rattle.cost_limits.specs.Limits.{IsWithin}
-use Rattle.cost_limits.specs.Measures.{Measure, AreMeasures}
+use Rattle.cost_limits.specs.Measures.{Measure, AreMeasures, everything}
 use Rattle.document_validation.specs.Breaches.{AreValid, breaches}
 use Rattle.formatter.specs.Within.{HasCommentsAlone}
 use Rattle.document_checks.specs.Checking.{Asked, HaveDocuments, is_chosen}
@@ -56,11 +56,11 @@ pub record PassByDocuments (asked : Asked) (documents : List Place) (numbers : L
   -- where rules are broken: each text in which none of the first 1001 breaches is
   pub rules : ¬ AreValid documents → PassIf (IsWithout numbers (take 1001 (breaches documents))) reports
   -- where none is broken: each text whose operations are within the limits, of those that are wanted
-  pub limits : (measures : List Measure) → AreValid documents → AreMeasures (defined documents) measures
+  pub limits : (measures : List Measure) → AreValid documents → AreMeasures everything (defined documents) measures
       → IsThere asked measures
       → PassIf (HasWithin numbers asked.most (filter (is_chosen asked.operation) measures)) reports
   -- where the operation that is named is not there: all texts but the first
-  pub missing : (measures : List Measure) → AreValid documents → AreMeasures (defined documents) measures
+  pub missing : (measures : List Measure) → AreValid documents → AreMeasures everything (defined documents) measures
       → ¬ IsThere asked measures → PassIf (λ text. text ≢ 0) reports
 
 -- Which texts pass.

@@ -14,7 +14,7 @@ use crate::documents::{Document, text_of};
 use crate::report::{Checks, ExceededLimit, Finding, OperationReport, Report};
 use apollo_tree::SyntaxNode;
 use cost_figures::{Figures, Limit, Span};
-use cost_limits::{Exceeded, MeasureError, OperationFigures, measure, within};
+use cost_limits::{Exceeded, MeasureError, MeasureOptions, OperationFigures, measure, within};
 use std::alloc::{AllocError, Global};
 
 // Whether an operation is the one that is named, or none is named.
@@ -236,7 +236,7 @@ pub(crate) fn judge_operations(
         (AreMeasured (as_asked checks.now) (map node_place roots.now) (numbers_of documents.now)
         reports.old reports.new) }
 {
-    match measure(alloc, roots) {
+    match measure(alloc, roots, &MeasureOptions::EVERYTHING) {
         Ok(operations) => judge_figures(alloc, operations.as_slice(), documents, checks, reports),
         Err(error) => add_fault(alloc, error, documents, reports),
     }

@@ -1,6 +1,6 @@
 // A limit on the cost of operations, as a gateway sets it.
 use apollo_parser::SyntaxNode;
-use cost_limits::{Figures, MeasureError, measure, within};
+use cost_limits::{Figures, MeasureError, MeasureOptions, measure, within};
 use std::alloc::{AllocError, Global};
 
 // At most two fields in one another, and a hundred in all.
@@ -12,7 +12,7 @@ const LIMITS: Figures = Figures {
 
 /// Why a gateway does not run the operations of a document, or `None` where it runs them.
 pub(crate) fn refusal(alloc: Global, root: &SyntaxNode<'_>) -> Result<Option<String>, AllocError> {
-    let reason = match measure(alloc, &[*root]) {
+    let reason = match measure(alloc, &[*root], &MeasureOptions::EVERYTHING) {
         Ok(operations) => match within(operations.as_slice(), &LIMITS) {
             Ok(()) => return Ok(None),
             Err(over) => {

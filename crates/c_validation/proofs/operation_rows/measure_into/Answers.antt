@@ -2,7 +2,7 @@ use Rattle.std.proofs.Common.{◌≡◌, ◌∙◌, List, ap, length, map, subst
 use Rattle.apollo_parser.specs.Filled.{filled}
 use Rattle.apollo_tree.specs.Order.{Place}
 use Rattle.validation_names.specs.Definitions.{defined}
-use Rattle.cost_limits.specs.Measures.{AreMeasures, IsMeasureError, Measure, as_measure}
+use Rattle.cost_limits.specs.Measures.{AreMeasures, IsMeasureError, Measure, as_measure, everything}
 use Rattle.c_validation.specs.declared.rows.OperationRow.{OperationRow}
 use Rattle.c_validation.specs.Outcomes.{no_memory, root}
 use Rattle.c_validation.specs.Rows.{operation_row}
@@ -15,7 +15,8 @@ returns-in-Err g c = no-measure _ _ _ c.in-Err.status _ c.refused.result c.refus
 pub returns-in-Err-measure_document : goal.returns-in-Err-measure_document
 returns-in-Err-measure_document g c =
     of-fault _ _ _ c.in-Ok.tree c.in-Err-measure_document.error _ c.fault.result c.in-Ok.ensures.document
-    (subst (λ (p : Place). IsMeasureError (defined (p ∷ [])) c.in-Err-measure_document.error) c.root.ensures.place
+    (subst (λ (p : Place). IsMeasureError everything (defined (p ∷ [])) c.in-Err-measure_document.error)
+    c.root.ensures.place
     c.in-Err-measure_document.ensures.error) c.fault.ensures
 
 pub returns-in_default : goal.returns-in_default
@@ -27,8 +28,8 @@ returns g c =
     c.as_slice-rows.ensures.value ∙ c.in-Ok-rows_of.ensures
     ∙ ap (λ xs. map operation_row (map as_measure xs)) c.as_slice.ensures.value in
     let measures : List Measure = map as_measure c.in-Ok-measure_document.measured.items in
-    let are : AreMeasures (defined (root c.in-Ok.tree ∷ [])) measures =
-    subst (λ (p : Place). AreMeasures (defined (p ∷ [])) measures) c.root.ensures.place
+    let are : AreMeasures everything (defined (root c.in-Ok.tree ∷ [])) measures =
+    subst (λ (p : Place). AreMeasures everything (defined (p ∷ [])) measures) c.root.ensures.place
     c.in-Ok-measure_document.ensures.figures in
     rw c.refused-2.ensures (of-figures _ _ _ c.in-Ok.tree measures c.args.operations.now c.write.new.buffer
     (length c.as_slice-rows.result.now) c.in-Ok.ensures.document are

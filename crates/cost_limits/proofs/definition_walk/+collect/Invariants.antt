@@ -12,6 +12,6 @@ decreases-collect g l = length (order (node_place l.site.now.node).whole) - (nod
 
 abbrev pub invariant-loop-node : goal.invariant-loop-node
 invariant-loop-node g l =
-    IsLeft l.site.document (node_place l.site.node) (number_of l.fragments) l.enclosing
-    (l.initial.found.items ++ items_inside (number_of l.fragments) l.enclosing (as_located l.site))
+    IsLeft l.introspection l.site.document (node_place l.site.node) (number_of l.fragments) l.enclosing
+    (l.initial.found.items ++ items_inside l.introspection (number_of l.fragments) l.enclosing (as_located l.site))
     l.found.items l.names (rest_nodes l.node-iterator)

@@ -13,7 +13,7 @@ loop-definition-preserved g c =
     let ds = c.args.definitions.now in
     let i = c.loop-definition.definition-index in
     let items_at : ExecutableDefinition → List Item =
-    λ d. definition_items (number_of c.args.fragments.now) (as_located d.site) in
+    λ d. definition_items c.args.introspection (number_of c.args.fragments.now) (as_located d.site) in
     let is : c.in_ok-items.field-0.items ≡ items_at (get_or ds i c.definition-item.result) =
     c.in_ok-items.ensures ∙ ap items_at c.definition-item.is in
     ap (map (λ items. items.items)) c.in_ok-push.ensures.items
@@ -27,5 +27,5 @@ returns g c =
     let all : take c.loop-definition.definition-index c.args.definitions.now ≡ c.args.definitions.now =
     take_all c.loop-definition.definition-index c.args.definitions.now (omega (arith, c.loop-definition-test.false)) in
     c.loop-definition.invariant
-    ∙ ap (map (λ d. definition_items (number_of c.args.fragments.now) (as_located d.site))) all
-    ∙ items_are c.args.fragments.now c.args.definitions.now c.requires
+    ∙ ap (map (λ d. definition_items c.args.introspection (number_of c.args.fragments.now) (as_located d.site))) all
+    ∙ items_are c.args.introspection c.args.fragments.now c.args.definitions.now c.requires

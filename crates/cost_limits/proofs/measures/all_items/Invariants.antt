@@ -7,5 +7,5 @@ use Rattle.cost_limits.proofs.measures.all_items.Given as goal
 abbrev pub invariant-loop-definition : goal.invariant-loop-definition
 invariant-loop-definition g l =
     map (λ items. items.items) l.found.items
-    ≡ map (λ d. definition_items (number_of l.fragments) (as_located d.site))
+    ≡ map (λ d. definition_items l.introspection (number_of l.fragments) (as_located d.site))
     (take l.definition-index l.definitions)

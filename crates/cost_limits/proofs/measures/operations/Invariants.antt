@@ -1,12 +1,12 @@
 use Rattle.std.proofs.Common.{◌≡◌, map, take}
 use Rattle.std.specs.List.{filter}
 use Rattle.validation_names.specs.Definitions.{as_defined}
-use Rattle.cost_limits.specs.Measures.{is_operation, operations}
+use Rattle.cost_limits.specs.Measures.{is_measured, operations}
 use Rattle.cost_limits.proofs.measures.operations.Given as goal
 
 abbrev pub invariant-loop-number : goal.invariant-loop-number
 invariant-loop-number g l = record {
   operations_are : map as_defined l.operations.items
-      ≡ filter is_operation (map as_defined (take l.number l.definitions));
-  numbers_are : l.numbers.items ≡ operations 0 (map as_defined (take l.number l.definitions));
+      ≡ filter (is_measured l.measured) (map as_defined (take l.number l.definitions));
+  numbers_are : l.numbers.items ≡ operations l.measured 0 (map as_defined (take l.number l.definitions));
 }
