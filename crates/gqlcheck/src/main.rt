@@ -9,6 +9,7 @@ use byte_streams::{Patient, StdSink, StdSource, views, words};
 use gqlcheck_run::{Checker, run};
 use std::process::ExitCode;
 use std_files::StdFiles;
+use unignored_files::Unignored;
 
 fn main(rt: HostRuntime) -> ExitCode {
     let Ok(words) = words(&rt) else {
@@ -23,7 +24,7 @@ fn main(rt: HostRuntime) -> ExitCode {
     let mut reader = StdSource::new(Patient::new(&rt, rt.stdin()));
     let mut writer = StdSink::new(rt.stdout());
     let mut complaints = StdSink::new(rt.stderr());
-    let mut files = StdFiles::any(&rt);
+    let mut files = Unignored::new(rt.alloc(), StdFiles::any(&rt));
     let status = run(
         rt.alloc(),
         &checker,

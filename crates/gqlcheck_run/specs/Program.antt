@@ -1,5 +1,5 @@
 -- What a run of the program does, by the request in its words.
-use Rattle.std.specs.Prelude.{◌≡◌, ◌⊎◌, ℕ, zero, suc, max, List, [], codes, Option, Some, None, Result}
+use Rattle.std.specs.Prelude.{◌≡◌, ◌⊎◌, ℕ, zero, suc, max, Bool, List, [], codes, Option, Some, None, Result}
 use Rattle.std.specs.declared.io.Error.{Error}
 use Rattle.byte_streams.specs.Devices.{Account}
 use Rattle.document_checks.specs.Checking.{Asked}
@@ -32,8 +32,8 @@ asked_by given = record { limits = limits_of given; most = most_of given; operat
 abbrev pub printing_of : Given → Printing
 printing_of given = record { figures = is_set (codes "--figures") given; format = format_of given }
 
--- the files, as a trait tells what listing a folder and reading a file do
-module _ {S : Type 0} (lists : S → List ℕ → Listing → S → Type 0)
+-- the files, as a trait tells what three of its calls do
+module _ {S : Type 0} (lists : S → List ℕ → Listing → S → Type 0) (omits : S → List ℕ → Result Bool Error → S → Type 0)
     (reads : S → List ℕ → Result (List ℕ) Error → S → Type 0) where
   -- The texts are read, and those that were are judged together. The status is the greater of both.
   pub record ChecksTexts (asked : Asked) (printing : Printing) (paths : List (List ℕ)) (status : ℕ)
@@ -41,7 +41,7 @@ module _ {S : Type 0} (lists : S → List ℕ → Listing → S → Type 0)
     pub inputs : List Input
     pub complaints : Account
     pub read : ℕ
-    pub reads_all : ReadsTexts lists reads paths read old.input new.input
+    pub reads_all : ReadsTexts lists omits reads paths read old.input new.input
         (record { files = old.files; complaints = old.complaints; inputs = [] })
         (record { files = new.files; complaints = complaints; inputs = inputs })
     pub found : ℕ

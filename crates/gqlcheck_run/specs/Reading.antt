@@ -1,5 +1,5 @@
 -- Reading the texts of a run.
-use Rattle.std.specs.Prelude.{◌≡◌, ◌≢◌, ◌⊎◌, ℕ, List, [], ◌∷◌, Result, Ok, Err}
+use Rattle.std.specs.Prelude.{◌≡◌, ◌≢◌, ◌⊎◌, ℕ, Bool, true, false, List, [], ◌∷◌, Result, Ok, Err}
 use Rattle.std.specs.declared.io.Error.{Error}
 use Rattle.byte_streams.specs.Devices.{Account}
 use Rattle.byte_streams.specs.Runs.{Reads}
@@ -8,7 +8,7 @@ use Rattle.byte_streams.specs.declared.fault.Fault.TheVariants.{Read, Memory}
 use Rattle.file_access.specs.Listing.{Listing}
 use Rattle.named_files.specs.Finding.{FoundPath, IsNamed, Lists, file, unreadable, path_of}
 use Rattle.named_files.specs.Handling.{InTurn}
-use Rattle.command_lines.specs.Complaints.{Tells}
+use Rattle.command_lines.specs.Complaints.{Tells, TellsOfFile}
 use Rattle.command_lines.specs.declared.complaints.FileFault.{FileFault}
 use Rattle.command_lines.specs.declared.complaints.FileFault.TheVariants.{Device, NotRead}
 use Rattle.gqlcheck_run.specs.declared.command.TheConstants.{PROGRAM}
@@ -77,8 +77,28 @@ module _ {S : Type 0} (lists : S → List ℕ → Listing → S → Type 0)
     pub none : new.inputs ≡ old.inputs
     pub tells : Tells PROGRAM.now path Memory old.complaints new.complaints
 
-  abbrev pub ReadsPath : List ℕ → ℕ → Reading S → Reading S → Type 0
-  ReadsPath path status old new = FindsAndReads path status old new ⊎ GivesUp path status old new
+  -- one or the other
+  abbrev pub ReadsNamed : List ℕ → ℕ → Reading S → Reading S → Type 0
+  ReadsNamed path status old new = FindsAndReads path status old new ⊎ GivesUp path status old new
+
+-- the same, as a trait tells whether a path is left out, too
+module _ {S : Type 0} (lists : S → List ℕ → Listing → S → Type 0) (omits : S → List ℕ → Result Bool Error → S → Type 0)
+    (reads : S → List ℕ → Result (List ℕ) Error → S → Type 0) where
+  -- What follows the answer whether a path is left out. It is passed over, or the files that it names are read. Where
+  -- there is no answer, nothing is done but to say why.
+  abbrev pub FollowsAnswer : Result Bool Error → List ℕ → ℕ → Reading S → Reading S → Type 0
+  FollowsAnswer (Ok true) path status old new = (status ≡ 0) × (new ≡ old)
+  FollowsAnswer (Ok false) path status old new = ReadsNamed lists reads path status old new
+  FollowsAnswer (Err error) path status old new =
+      (status ≡ 2) × TellsOfFile PROGRAM.now path (NotRead error) old.complaints new.complaints
+      × (new.files ≡ old.files) × (new.inputs ≡ old.inputs)
+
+  -- The files are asked whether a path is left out, and this follows.
+  pub record ReadsPath (path : List ℕ) (status : ℕ) (old new : Reading S) : Type 0 where
+    pub answer : Result Bool Error
+    pub asked : S
+    pub asks : omits old.files path answer asked
+    pub follows : FollowsAnswer answer path status (record old { files = asked }) new
 
   -- The files that these paths name are read, one path after the other, or standard input where there are none.
   abbrev pub ReadsTexts : List (List ℕ) → ℕ → Account → Account → Reading S → Reading S → Type 0

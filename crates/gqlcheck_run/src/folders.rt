@@ -3,26 +3,26 @@ ghost use Rattle.std.specs.Prelude.{◌≡◌, map};
 ghost use Rattle.command_lines.specs.Words.{texts};
 ghost use Rattle.named_files.specs.Handling.{InTurn};
 ghost use Rattle.gqlcheck_run.specs.Inputs.{as_input};
-ghost use Rattle.gqlcheck_run.specs.Reading.{ReadsPath};
+ghost use Rattle.gqlcheck_run.specs.Reading.{ReadsNamed, ReadsPath};
 
 use crate::command::PROGRAM;
 use crate::files::read_files;
 use crate::inputs::Input;
 use byte_streams::{Fault, Sink};
-use command_lines::complaints::tell;
+use command_lines::complaints::{FileFault, tell, tell_of_file};
 use file_access::Files;
 use named_files::named_files;
 use std::alloc::Allocator;
 
 // Reads the files that a path names, and gives the greatest of their statuses.
-fn read_path<A: Allocator + Copy, F: Files, E: Sink>(
+fn read_named<A: Allocator + Copy, F: Files, E: Sink>(
     alloc: A,
     files: &mut F,
     complaints: &mut E,
     inputs: &mut Vec<Input<A>, A>,
     path: &str,
 ) -> u8
-    ensures { ReadsPath F.lists F.reads path.now result
+    ensures { ReadsNamed F.lists F.reads path.now result
         (record { files = files.old; complaints = E.account complaints.old; inputs = map as_input inputs.old.items })
         (record { files = files.new; complaints = E.account complaints.new; inputs = map as_input inputs.new.items }) }
 {
@@ -35,8 +35,31 @@ fn read_path<A: Allocator + Copy, F: Files, E: Sink>(
     }
 }
 
-/// Reads the files that these paths name in order, also after one that is not read, adds their texts, and gives the
-/// greatest of their statuses, of which each is 0 or 2.
+// Does that unless what is at the path is left out.
+fn read_path<A: Allocator + Copy, F: Files, E: Sink>(
+    alloc: A,
+    files: &mut F,
+    complaints: &mut E,
+    inputs: &mut Vec<Input<A>, A>,
+    path: &str,
+) -> u8
+    ensures { ReadsPath F.lists F.omits F.reads path.now result
+        (record { files = files.old; complaints = E.account complaints.old; inputs = map as_input inputs.old.items })
+        (record { files = files.new; complaints = E.account complaints.new; inputs = map as_input inputs.new.items }) }
+{
+    match files.leaves_out(alloc, path) {
+        Ok(true) => 0,
+        Ok(false) => read_named(alloc, files, complaints, inputs, path),
+        Err(error) => {
+            let fault = FileFault::NotRead(error);
+            tell_of_file(alloc, PROGRAM, complaints, path, &fault);
+            2
+        }
+    }
+}
+
+/// Reads the files that these paths name in order, without those that `files` leaves out, also after one that is not
+/// read. Adds their texts, and gives the greatest of their statuses, of which each is 0 or 2.
 pub fn read_paths<A: Allocator + Copy, F: Files, E: Sink>(
     alloc: A,
     files: &mut F,
@@ -44,7 +67,7 @@ pub fn read_paths<A: Allocator + Copy, F: Files, E: Sink>(
     inputs: &mut Vec<Input<A>, A>,
     paths: &[&str],
 ) -> u8
-    ensures { InTurn (ReadsPath F.lists F.reads) (texts paths.now) result
+    ensures { InTurn (ReadsPath F.lists F.omits F.reads) (texts paths.now) result
         (record { files = files.old; complaints = E.account complaints.old; inputs = map as_input inputs.old.items })
         (record { files = files.new; complaints = E.account complaints.new; inputs = map as_input inputs.new.items }) }
 {

@@ -49,7 +49,7 @@ fn read_texts<A: Allocator + Copy, R: Source, E: Sink, F: Files>(
     inputs: &mut Vec<Input<A>, A>,
     paths: &[&str],
 ) -> u8
-    ensures { ReadsTexts F.lists F.reads (texts paths.now) result
+    ensures { ReadsTexts F.lists F.omits F.reads (texts paths.now) result
         (R.account reader.old) (R.account reader.new)
         (record { files = files.old; complaints = E.account complaints.old; inputs = map as_input inputs.old.items })
         (record { files = files.new; complaints = E.account complaints.new; inputs = map as_input inputs.new.items }) }
@@ -93,7 +93,7 @@ impl<'c, 'w, A: Allocator + Copy, C: DocumentChecker> Job<'c, 'w, A, C> {
         tally: &mut Tally,
         paths: &[&str],
     ) -> u8
-        ensures checks { ChecksTexts F.lists F.reads (as_asked self.now.checks) self.now.printing
+        ensures checks { ChecksTexts F.lists F.omits F.reads (as_asked self.now.checks) self.now.printing
             (texts paths.now) result
             (record {
               input = R.account reader.old;
@@ -124,7 +124,8 @@ impl<'c, 'w, A: Allocator + Copy, C: DocumentChecker> Job<'c, 'w, A, C> {
         files: &mut F,
         paths: &[&str],
     ) -> u8
-        ensures { ChecksAll F.lists F.reads (as_asked self.now.checks) self.now.printing (texts paths.now) result
+        ensures { ChecksAll F.lists F.omits F.reads (as_asked self.now.checks) self.now.printing
+            (texts paths.now) result
             (record {
               input = R.account reader.old;
               output = W.account writer.old;
@@ -163,7 +164,7 @@ pub fn run<A: Allocator + Copy, C: DocumentChecker, R: Source, W: Sink, E: Sink,
     files: &mut F,
     words: &[&str],
 ) -> u8
-    ensures { Runs F.lists F.reads (texts words.now) result
+    ensures { Runs F.lists F.omits F.reads (texts words.now) result
         (record {
           input = R.account reader.old;
           output = W.account writer.old;

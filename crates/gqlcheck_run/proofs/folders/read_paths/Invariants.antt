@@ -7,7 +7,7 @@ use Rattle.gqlcheck_run.proofs.folders.read_paths.Given as goal
 
 abbrev pub invariant-loop-path : goal.invariant-loop-path
 invariant-loop-path g l =
-    InTurn (ReadsPath g.F.Files.lists g.F.Files.reads) (texts (take l.path-index l.paths)) l.status
+    InTurn (ReadsPath g.F.Files.lists g.F.Files.omits g.F.Files.reads) (texts (take l.path-index l.paths)) l.status
     (record {
       files = l.initial.files;
       complaints = g.E.Sink.account l.initial.complaints;

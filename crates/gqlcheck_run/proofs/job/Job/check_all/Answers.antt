@@ -16,7 +16,7 @@ returns-then-opened-ne0 g c = record {
   opens = (rw c.opening.ensures at c.print-opened.ensures, refl);
   files = refl;
   continues =
-      stopped g.F.Files.lists g.F.Files.reads (as_asked c.args.self.now.checks) c.args.self.now.printing
+      stopped g.F.Files.lists g.F.Files.omits g.F.Files.reads (as_asked c.args.self.now.checks) c.args.self.now.printing
       (texts c.args.paths.now) c.print-opened.result _
       c.if-opened-ne0.true;
 }
@@ -33,7 +33,7 @@ returns g c = record {
   opens = (rw c.opening.ensures at c.print-opened.ensures, refl);
   files = refl;
   continues =
-      went_on g.F.Files.lists g.F.Files.reads (as_asked c.args.self.now.checks) c.args.self.now.printing
+      went_on g.F.Files.lists g.F.Files.omits g.F.Files.reads (as_asked c.args.self.now.checks) c.args.self.now.printing
       (texts c.args.paths.now) c.print-opened.result
       c.close.result _ _ c.if-opened-ne0.false (record {
         checked = record {
