@@ -4,3 +4,4 @@ pub mod Openings
 pub mod Lines
 pub mod Quiet
 pub mod Judged
+pub mod Marks

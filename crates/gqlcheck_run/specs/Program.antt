@@ -1,5 +1,5 @@
 -- What a run of the program does, by the request in its words.
-use Rattle.std.specs.Prelude.{◌≡◌, ◌⊎◌, ℕ, zero, suc, max, Bool, List, [], codes, Option, Some, None, Result}
+use Rattle.std.specs.Prelude.{◌≡◌, ◌⊎◌, ℕ, zero, suc, max, Bool, List, codes, Option, Some, None, Result}
 use Rattle.std.specs.declared.io.Error.{Error}
 use Rattle.byte_streams.specs.Devices.{Account}
 use Rattle.document_checks.specs.Checking.{Asked}
@@ -16,7 +16,7 @@ use Rattle.command_lines.specs.declared.information.Information.TheVariants.{Hel
 use Rattle.gqlcheck_run.specs.declared.command.TheConstants.{PROGRAM, USAGE, HELP, VERSION}
 use Rattle.gqlcheck_run.specs.declared.job.Printing.{Printing}
 use Rattle.gqlcheck_run.specs.Framing.{Closes, opening}
-use Rattle.gqlcheck_run.specs.Inputs.{Input}
+use Rattle.gqlcheck_run.specs.Inputs.{Texts, no_texts}
 use Rattle.gqlcheck_run.specs.Judging.{JudgesTexts}
 use Rattle.gqlcheck_run.specs.Reading.{ReadsTexts}
 
@@ -38,14 +38,14 @@ module _ {S : Type 0} (lists : S → List ℕ → Listing → S → Type 0) (omi
   -- The texts are read, and those that were are judged together. The status is the greater of both.
   pub record ChecksTexts (asked : Asked) (printing : Printing) (paths : List (List ℕ)) (status : ℕ)
       (old new : State S) : Type 0 where
-    pub inputs : List Input
+    pub texts : Texts
     pub complaints : Account
     pub read : ℕ
     pub reads_all : ReadsTexts lists omits reads paths read old.input new.input
-        (record { files = old.files; complaints = old.complaints; inputs = [] })
-        (record { files = new.files; complaints = complaints; inputs = inputs })
+        (record { files = old.files; complaints = old.complaints; texts = no_texts })
+        (record { files = new.files; complaints = complaints; texts = texts })
     pub found : ℕ
-    pub judges : JudgesTexts asked printing inputs found (record { output = old.output; complaints = complaints })
+    pub judges : JudgesTexts asked printing texts.inputs found (record { output = old.output; complaints = complaints })
         (record { output = new.output; complaints = new.complaints })
     pub greater : status ≡ max read found
 

@@ -22,8 +22,9 @@ FILE is -, it reads standard input. A FILE that is a folder means the files
 below it that end in .graphql, .graphqls or .gql, but for hidden names,
 node_modules and symbolic links. What a .gitignore, a .prettierignore or a
 .gqlfmtignore in its folder or above it leaves out is passed over, up to the top
-of the repository. It prints what it finds and changes no file. Files without
-definitions pass, unless an operation is named.
+of the repository. A path that is named twice is read once. It prints what it
+finds and changes no file. Files without definitions pass, unless an operation
+is named.
 
   --max-depth N       fields in one another
   --max-fields N      fields, with each fragment counted where it is spread

@@ -2,10 +2,10 @@
 ghost use Rattle.std.specs.Prelude.{◌≡◌, map};
 ghost use Rattle.named_files.specs.Finding.{as_named};
 ghost use Rattle.named_files.specs.Handling.{InTurn};
-ghost use Rattle.gqlcheck_run.specs.Inputs.{as_input};
-ghost use Rattle.gqlcheck_run.specs.Reading.{KeepsFile, KeepsFound, ReadsFound};
+ghost use Rattle.gqlcheck_run.specs.Inputs.{as_texts};
+ghost use Rattle.gqlcheck_run.specs.Reading.{KeepsFile, KeepsFound, KeepsOnce, ReadsFound};
 
-use crate::inputs::{Input, keep};
+use crate::inputs::{Texts, keep};
 use crate::outcome::end_of_file;
 use byte_streams::Sink;
 use command_lines::complaints::FileFault;
@@ -17,33 +17,50 @@ use std::alloc::Allocator;
 fn keep_file<A: Allocator + Copy, F: Files>(
     alloc: A,
     files: &mut F,
-    inputs: &mut Vec<Input<A>, A>,
+    kept: &mut Texts<A>,
     path: &str,
 ) -> Result<(), FileFault>
     ensures { KeepsFile F.reads path.now result files.old files.new
-        (map as_input inputs.old.items) (map as_input inputs.new.items) }
+        (as_texts kept.old) (as_texts kept.new) }
 {
     match files.read(alloc, path) {
         Ok(bytes) => {
-            keep(alloc, inputs, path, bytes)?;
+            kept.mark(alloc, path)?;
+            keep(alloc, &mut kept.inputs, path, bytes)?;
             Ok(())
         }
         Err(error) => Err(FileFault::NotRead(error)),
     }
 }
 
+// Does that, unless the file was read before.
+fn keep_once<A: Allocator + Copy, F: Files>(
+    alloc: A,
+    files: &mut F,
+    kept: &mut Texts<A>,
+    path: &str,
+) -> Result<(), FileFault>
+    ensures { KeepsOnce F.reads ((as_texts kept.old).was_read path.now) path.now result files.old files.new
+        (as_texts kept.old) (as_texts kept.new) }
+{
+    if kept.was_read(path) {
+        return Ok(());
+    }
+    keep_file(alloc, files, kept, path)
+}
+
 // Reads the file that was found, if it is one, and keeps its text.
 fn keep_found<A: Allocator + Copy, F: Files>(
     alloc: A,
     files: &mut F,
-    inputs: &mut Vec<Input<A>, A>,
+    kept: &mut Texts<A>,
     named: &Named<A>,
 ) -> Result<(), FileFault>
     ensures { KeepsFound F.reads (as_named named.now) result files.old files.new
-        (map as_input inputs.old.items) (map as_input inputs.new.items) }
+        (as_texts kept.old) (as_texts kept.new) }
 {
     match named {
-        Named::File(path) => keep_file(alloc, files, inputs, path.as_str()),
+        Named::File(path) => keep_once(alloc, files, kept, path.as_str()),
         Named::Failed(_, error) => Err(FileFault::NotRead(*error)),
     }
 }
@@ -53,32 +70,33 @@ fn read_found<A: Allocator + Copy, F: Files, E: Sink>(
     alloc: A,
     files: &mut F,
     complaints: &mut E,
-    inputs: &mut Vec<Input<A>, A>,
+    kept: &mut Texts<A>,
     named: &Named<A>,
 ) -> u8
     ensures { ReadsFound F.reads (as_named named.now) result
-        (record { files = files.old; complaints = E.account complaints.old; inputs = map as_input inputs.old.items })
-        (record { files = files.new; complaints = E.account complaints.new; inputs = map as_input inputs.new.items }) }
+        (record { files = files.old; complaints = E.account complaints.old; texts = as_texts kept.old })
+        (record { files = files.new; complaints = E.account complaints.new; texts = as_texts kept.new }) }
 {
-    let ended = keep_found(alloc, files, inputs, named);
+    let ended = keep_found(alloc, files, kept, named);
     end_of_file(alloc, complaints, named.path(), &ended)
 }
 
-/// Reads the files that were found in order, also after one that is not read, and gives the greatest of their statuses.
+/// Reads the files that were found in order, each once, also after one that is not read, and gives the greatest of
+/// their statuses.
 pub fn read_files<A: Allocator + Copy, F: Files, E: Sink>(
     alloc: A,
     files: &mut F,
     complaints: &mut E,
-    inputs: &mut Vec<Input<A>, A>,
+    kept: &mut Texts<A>,
     found: &[Named<A>],
 ) -> u8
     ensures { InTurn (ReadsFound F.reads) (map as_named found.now) result
-        (record { files = files.old; complaints = E.account complaints.old; inputs = map as_input inputs.old.items })
-        (record { files = files.new; complaints = E.account complaints.new; inputs = map as_input inputs.new.items }) }
+        (record { files = files.old; complaints = E.account complaints.old; texts = as_texts kept.old })
+        (record { files = files.new; complaints = E.account complaints.new; texts = as_texts kept.new }) }
 {
     let mut status = 0;
     for named in found {
-        let one = read_found(alloc, files, complaints, inputs, named);
+        let one = read_found(alloc, files, complaints, kept, named);
         status = status.max(one);
     }
     status

@@ -1,17 +1,56 @@
 // The texts of a run.
 ghost use Rattle.std.specs.Prelude.{◌≡◌, ◌≢◌, ◌∷◌, ◌++◌, [], ℕ, List, IfErr, IfOk, OnOk, map, string_bytes};
+ghost use Rattle.std.specs.BTreeSet.{contains_text};
 ghost use Rattle.byte_streams.specs.Runs.{Reads};
 ghost use Rattle.byte_streams.specs.declared.fault.Fault.TheVariants.{Read};
 ghost use Rattle.document_checks.specs.Checking.{texts_of};
-ghost use Rattle.gqlcheck_run.specs.Inputs.{Keeps, as_input, text_of};
+ghost use Rattle.gqlcheck_run.specs.Inputs.{Keeps, Marks, as_input, as_texts, no_texts, text_of};
 ghost use Rattle.gqlcheck_run.specs.Reading.{ReadsInput};
 
 use crate::outcome::end;
 use byte_streams::{Fault, Sink, Source, read_to_end};
 use std::alloc::{AllocError, Allocator};
+use std::collections::BTreeSet;
 
 /// The name of standard input in messages.
 pub const INPUT: &str = "<stdin>";
+
+/// The texts that are kept, and the paths of the files that were read.
+#[derive(Drop)]
+pub struct Texts<A: Allocator> {
+    pub inputs: Vec<Input<A>, A>,
+    paths: BTreeSet<String<A>, A>,
+}
+
+impl<A: Allocator + Copy> Texts<A> {
+    /// No texts.
+    pub fn new(alloc: A) -> Texts<A>
+        ensures { as_texts result ≡ no_texts }
+    {
+        Texts {
+            inputs: Vec::new(alloc),
+            paths: BTreeSet::new(alloc),
+        }
+    }
+
+    /// Whether the file at a path was read before.
+    pub fn was_read(&self, path: &str) -> bool
+        ensures { result ≡ contains_text self.now.paths path.now }
+    {
+        self.paths.contains(path)
+    }
+
+    /// Says that the file at a path was read.
+    pub fn mark(&mut self, alloc: A, path: &str) -> Result<(), AllocError>
+        ensures inputs { self.new.inputs ≡ self.old.inputs }
+        ensures ok { OnOk result (Marks path.now (contains_text self.old.paths) (contains_text self.new.paths)) }
+        ensures err { IfErr result (λ _. contains_text self.new.paths ≡ contains_text self.old.paths) }
+    {
+        let path = String::from_str(alloc, path)?;
+        self.paths.insert(path)?;
+        Ok(())
+    }
+}
 
 /// A text, and the name that it has in messages.
 #[derive(Drop)]

@@ -1,16 +1,16 @@
 // A run of the program.
-ghost use Rattle.std.specs.Prelude.{◌≡◌, map};
+ghost use Rattle.std.specs.Prelude.{◌≡◌};
 ghost use Rattle.document_checks.specs.Checking.{as_asked};
 ghost use Rattle.command_lines.specs.Words.{texts};
 ghost use Rattle.command_lines.specs.Reading.{as_given};
-ghost use Rattle.gqlcheck_run.specs.Inputs.{as_input};
+ghost use Rattle.gqlcheck_run.specs.Inputs.{as_texts};
 ghost use Rattle.gqlcheck_run.specs.Reading.{ReadsTexts};
 ghost use Rattle.gqlcheck_run.specs.Program.{ChecksAll, ChecksTexts, Runs, asked_by, information_text, printing_of};
 
 use crate::command::{HELP, PROGRAM, USAGE, VERSION};
 use crate::folders::read_paths;
 use crate::framing::{close, opening};
-use crate::inputs::{Input, read_input};
+use crate::inputs::{Texts, read_input};
 use crate::job::{Job, Printing};
 use crate::tally::Tally;
 use byte_streams::{Sink, Source};
@@ -46,17 +46,17 @@ fn read_texts<A: Allocator + Copy, R: Source, E: Sink, F: Files>(
     reader: &mut R,
     complaints: &mut E,
     files: &mut F,
-    inputs: &mut Vec<Input<A>, A>,
+    kept: &mut Texts<A>,
     paths: &[&str],
 ) -> u8
     ensures { ReadsTexts F.lists F.omits F.reads (texts paths.now) result
         (R.account reader.old) (R.account reader.new)
-        (record { files = files.old; complaints = E.account complaints.old; inputs = map as_input inputs.old.items })
-        (record { files = files.new; complaints = E.account complaints.new; inputs = map as_input inputs.new.items }) }
+        (record { files = files.old; complaints = E.account complaints.old; texts = as_texts kept.old })
+        (record { files = files.new; complaints = E.account complaints.new; texts = as_texts kept.new }) }
 {
     match paths {
-        [] => read_input(alloc, reader, complaints, inputs),
-        _ => read_paths(alloc, files, complaints, inputs, paths),
+        [] => read_input(alloc, reader, complaints, &mut kept.inputs),
+        _ => read_paths(alloc, files, complaints, kept, paths),
     }
 }
 
@@ -109,9 +109,9 @@ impl<'c, 'w, A: Allocator + Copy, C: DocumentChecker> Job<'c, 'w, A, C> {
             }) }
         ensures quiet { result ≡ 0 → tally.new.errors ≡ tally.old.errors }
     {
-        let mut inputs = Vec::new(self.alloc);
-        let read = read_texts(self.alloc, reader, complaints, files, &mut inputs, paths);
-        let found = self.check_inputs(writer, complaints, tally, inputs.as_slice());
+        let mut kept = Texts::new(self.alloc);
+        let read = read_texts(self.alloc, reader, complaints, files, &mut kept, paths);
+        let found = self.check_inputs(writer, complaints, tally, kept.inputs.as_slice());
         read.max(found)
     }
 

@@ -1,7 +1,7 @@
 use Rattle.std.proofs.Common.{map, take}
 use Rattle.named_files.specs.Finding.{as_named}
 use Rattle.named_files.specs.Handling.{InTurn}
-use Rattle.gqlcheck_run.specs.Inputs.{as_input}
+use Rattle.gqlcheck_run.specs.Inputs.{as_texts}
 use Rattle.gqlcheck_run.specs.Reading.{ReadsFound}
 use Rattle.gqlcheck_run.proofs.files.read_files.Given as goal
 
@@ -11,10 +11,10 @@ invariant-loop-named g l =
     (record {
       files = l.initial.files;
       complaints = g.E.Sink.account l.initial.complaints;
-      inputs = map as_input l.initial.inputs.items;
+      texts = as_texts l.initial.kept;
     })
     (record {
       files = l.files;
       complaints = g.E.Sink.account l.complaints;
-      inputs = map as_input l.inputs.items;
+      texts = as_texts l.kept;
     })

@@ -1,7 +1,7 @@
-use Rattle.std.proofs.Common.{map, take}
+use Rattle.std.proofs.Common.{take}
 use Rattle.command_lines.specs.Words.{texts}
 use Rattle.named_files.specs.Handling.{InTurn}
-use Rattle.gqlcheck_run.specs.Inputs.{as_input}
+use Rattle.gqlcheck_run.specs.Inputs.{as_texts}
 use Rattle.gqlcheck_run.specs.Reading.{ReadsPath}
 use Rattle.gqlcheck_run.proofs.folders.read_paths.Given as goal
 
@@ -11,10 +11,10 @@ invariant-loop-path g l =
     (record {
       files = l.initial.files;
       complaints = g.E.Sink.account l.initial.complaints;
-      inputs = map as_input l.initial.inputs.items;
+      texts = as_texts l.initial.kept;
     })
     (record {
       files = l.files;
       complaints = g.E.Sink.account l.complaints;
-      inputs = map as_input l.inputs.items;
+      texts = as_texts l.kept;
     })
