@@ -7,7 +7,9 @@ use Rattle.std.proofs.lemmas.List.{get_or_default}
 use Rattle.std.proofs.lemmas.List.Elements.{All-cons, All-head, All-nil, All-tail}
 use Rattle.std.proofs.lemmas.Slice.Zip.{get_or-zip}
 use Rattle.apollo_lexer.specs.declared.limits.Limits.{Limits}
+use Rattle.document_checks.specs.Checking.{Asked}
 use Rattle.document_checks.specs.Findings.{AreFindings, AreReports, HasErrors}
+use Rattle.document_checks.specs.Passing.{PassEach}
 use Rattle.document_checks.specs.declared.report.Report.{Report}
 use Rattle.gqlcheck_run.specs.Inputs.{Input, as_input, text_of}
 use Rattle.gqlcheck_run.specs.Judging.{Judged, as_judged, judged_by}
@@ -17,10 +19,10 @@ abbrev report_passes : Report → Type 0
 report_passes report = report.passes ≡ true
 
 abbrev judged_passes : Judged → Type 0
-judged_passes it = it.passes ≡ true
+judged_passes it = it.report.passes ≡ true
 
 abbrev is_refused : Limits → Judged → Type 0
-is_refused limits it = HasErrors limits it.input.text → it.passes ≡ false
+is_refused limits it = HasErrors limits it.input.text → it.report.passes ≡ false
 
 module _ {A : Type 0} (limits : Limits) where
   -- there are as many reports as texts
@@ -43,6 +45,14 @@ module _ {A : Type 0} (limits : Limits) where
   each [] reports are = refl
   each (i ∷ is) [] are = absurd are
   each (i ∷ is) (r ∷ rs) are = ap (λ (others : List Input). as_input i ∷ others) (each is rs are.1)
+
+  pub reports_of : (inputs : List (declared.Input A)) (reports : List Report)
+      → AreReports limits (map text_of (map as_input inputs)) reports
+      → map (λ (it : Judged). it.report) (judged_by inputs reports) ≡ reports
+  reports_of [] [] are = refl
+  reports_of [] (r ∷ rs) are = absurd are
+  reports_of (i ∷ is) [] are = absurd are
+  reports_of (i ∷ is) (r ∷ rs) are = ap (λ (others : List Report). r ∷ others) (reports_of is rs are.1)
 
   pub all_pass : (inputs : List (declared.Input A)) (reports : List Report)
       → AreReports limits (map text_of (map as_input inputs)) reports → All report_passes reports
@@ -95,11 +105,20 @@ module _ {A : Type 0} (limits : Limits) where
   pub all_together : {P : Type 0} (inputs : List (declared.Input A)) (reports : List Report)
       → AreReports limits (map text_of (map as_input inputs)) reports
       → All (λ (r : Report). r.passes ≡ true) reports ↔ P
-      → All (λ (it : Judged). it.passes ≡ true) (judged_by inputs reports) ↔ P
+      → All (λ (it : Judged). it.report.passes ≡ true) (judged_by inputs reports) ↔ P
   all_together inputs reports are h = (
     λ all. h.0 (all_passed inputs reports are all),
     λ together. all_pass inputs reports are (h.1 together),
   )
+
+-- which of them pass
+pub which : {A : Type 0} (asked : Asked) (inputs : List (declared.Input A)) (reports : List Report)
+    → AreReports asked.limits (map text_of (map as_input inputs)) reports
+    → PassEach asked (map text_of (map as_input inputs)) reports
+    → PassEach asked (map text_of (map as_input inputs)) (map (λ (it : Judged). it.report) (judged_by inputs reports))
+which asked inputs reports are pass =
+    subst (λ (rs : List Report). PassEach asked (map text_of (map as_input inputs)) rs)
+    (sym (reports_of asked.limits inputs reports are)) pass
 
 -- a text and its report, as the code has them
 pub pair_at : {A B : Type 0} (xs : List A) (ys : List B) (i : ℕ) (x d : A) (y e : B)

@@ -7,6 +7,7 @@ use Rattle.byte_streams.specs.declared.fault.Fault.{Fault}
 use Rattle.byte_streams.specs.declared.fault.Fault.TheVariants.{Read, Utf8, Memory, Write}
 use Rattle.document_checks.specs.Checking.{Asked, PassTogether}
 use Rattle.document_checks.specs.Findings.{HasErrors}
+use Rattle.document_checks.specs.Passing.{PassEach}
 use Rattle.document_checks.specs.declared.report.Report.{Report}
 use Rattle.named_files.specs.Handling.{InTurn}
 use Rattle.command_lines.specs.Streams.{IsSaid, no_memory}
@@ -17,13 +18,13 @@ use Rattle.gqlcheck_run.specs.Ending.{Says, prints_figures, status_of, verdict_o
 use Rattle.gqlcheck_run.specs.Inputs.{Input, as_input, text_of}
 use Rattle.gqlcheck_run.specs.Places.{IsAboutFirst}
 
--- a text, and whether nothing is found in it that keeps the texts from passing
+-- a text, and what is found of it
 pub record Judged : Type 0 where
   pub input : Input
-  pub passes : Bool
+  pub report : Report
 
 abbrev pub as_judged : {A : Type 0} → declared.Input A × Report → Judged
-as_judged it = record { input = as_input it.0; passes = it.1.passes }
+as_judged it = record { input = as_input it.0; report = it.1 }
 
 abbrev pub judged_by : {A : Type 0} → List (declared.Input A) → List Report → List Judged
 judged_by inputs reports = map as_judged (zip inputs reports)
@@ -52,18 +53,19 @@ Prints IsOutputHere (Err Utf8) old new = ⊥
 pub record WritesReport (asked : Asked) (printing : Printing) (judged : Judged) (status : ℕ)
     (old new : Printed) : Type 0 where
   pub ended : Result (Unit {0}) Fault
-  pub prints : Prints (IsOutput asked printing judged.input judged.passes) ended old.output new.output
+  pub prints : Prints (IsOutput asked printing judged.input judged.report.passes) ended old.output new.output
   pub says : Says judged.input.name ended old.complaints new.complaints
-  pub counted : status ≡ max (verdict_of judged.passes) (status_of ended)
+  pub counted : status ≡ max (verdict_of judged.report.passes) (status_of ended)
 
--- Something keeps the texts from passing exactly if they do not pass together, and a text that has errors does. What is
--- found of them is written, of one after the other.
+-- Something keeps the texts from passing exactly if they do not pass together, and a text that has errors does. Which
+-- texts pass is as `PassEach` has it. What is found of them is written, of one after the other.
 pub record JudgesAndWrites (asked : Asked) (printing : Printing) (inputs : List Input) (status : ℕ)
     (old new : Printed) : Type 0 where
   pub judged : List Judged
   pub each : map (λ it. it.input) judged ≡ inputs
-  pub together : All (λ it. it.passes ≡ true) judged ↔ PassTogether asked (map text_of inputs)
-  pub refused : All (λ it. HasErrors asked.limits it.input.text → it.passes ≡ false) judged
+  pub together : All (λ it. it.report.passes ≡ true) judged ↔ PassTogether asked (map text_of inputs)
+  pub refused : All (λ it. HasErrors asked.limits it.input.text → it.report.passes ≡ false) judged
+  pub which : PassEach asked (map text_of inputs) (map (λ it. it.report) judged)
   pub writes : InTurn (WritesReport asked printing) judged status old new
 
 -- That is done; or memory is refused for judging them, and only that is said.

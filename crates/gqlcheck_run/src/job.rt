@@ -3,6 +3,7 @@ ghost use Rattle.std.specs.Prelude.{◌≡◌, ◌↔◌, All, IfOk, OnOk, false
 ghost use Rattle.byte_streams.specs.Runs.{Writes};
 ghost use Rattle.document_checks.specs.Checking.{PassTogether, as_asked};
 ghost use Rattle.document_checks.specs.Findings.{AreFindings, AreReports};
+ghost use Rattle.document_checks.specs.Passing.{PassEach};
 ghost use Rattle.document_checks.specs.declared.report.Report.{Report};
 ghost use Rattle.named_files.specs.Handling.{InTurn};
 ghost use Rattle.gqlcheck_run.specs.Ending.{has_figures, prints_figures};
@@ -65,6 +66,8 @@ impl<A: Allocator + Copy, C: DocumentChecker> Job<'_, '_, A, C> {
             ↔ PassTogether (as_asked self.now.checks) (map text_of (map as_input inputs.now))) }
         ensures found { IfOk result
             (λ reports. AreReports self.now.checks.limits (map text_of (map as_input inputs.now)) reports.items) }
+        ensures each { IfOk result
+            (λ reports. PassEach (as_asked self.now.checks) (map text_of (map as_input inputs.now)) reports.items) }
     {
         let sources = sources(self.alloc, inputs)?;
         self.checker.check(sources.as_slice(), &self.checks)
@@ -144,7 +147,7 @@ impl<A: Allocator + Copy, C: DocumentChecker> Job<'_, '_, A, C> {
         requires { report.now.passes ≡ false
             → AreFindings self.now.checks.limits (string_bytes input.now.text) report.now.findings.items }
         ensures writes { WritesReport (as_asked self.now.checks) self.now.printing
-            (record { input = as_input input.now; passes = report.now.passes }) result
+            (record { input = as_input input.now; report = report.now }) result
             (record { output = W.account writer.old; complaints = E.account complaints.old })
             (record { output = W.account writer.new; complaints = E.account complaints.new }) }
         ensures quiet { result ≡ 0 → tally.new.errors ≡ tally.old.errors }

@@ -1,6 +1,7 @@
 use Rattle.std.proofs.Common.{inl}
+use Rattle.document_checks.specs.Checking.{as_asked}
 use Rattle.gqlcheck_run.specs.Judging.{judged_by}
-use Rattle.gqlcheck_run.proofs.Judged.{all_refused, all_together, each}
+use Rattle.gqlcheck_run.proofs.Judged.{all_refused, all_together, each, which}
 use Rattle.gqlcheck_run.proofs.job.Job.check_inputs.Goals as goal
 
 pub returns-in-Ok-clause-judges : goal.returns-in-Ok-clause-judges
@@ -12,5 +13,8 @@ returns-in-Ok-clause-judges g c = inl (record {
       c.in-Ok.ensures.judged;
   refused =
       all_refused c.args.self.now.checks.limits c.args.inputs.now c.in-Ok.reports.items c.in-Ok.ensures.found;
+  which =
+      which (as_asked c.args.self.now.checks) c.args.inputs.now c.in-Ok.reports.items c.in-Ok.ensures.found
+      c.in-Ok.ensures.each;
   writes = rw c.as_slice.ensures.value at c.write_reports.ensures.writes;
 })

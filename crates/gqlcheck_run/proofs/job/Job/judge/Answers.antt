@@ -8,3 +8,9 @@ returns-clause-judged g c =
     let same : texts_of c.as_slice.result.now ≡ map text_of (map as_input c.args.inputs.now) =
     ap texts_of c.as_slice.ensures.value ∙ c.in_ok-sources.ensures in
     rw same at c.check.ensures.judged
+
+pub returns-clause-each : goal.returns-clause-each
+returns-clause-each g c =
+    let same : texts_of c.as_slice.result.now ≡ map text_of (map as_input c.args.inputs.now) =
+    ap texts_of c.as_slice.ensures.value ∙ c.in_ok-sources.ensures in
+    rw same at c.check.ensures.each
