@@ -55,7 +55,7 @@ module _ {S : Type 0} (lists : S → List ℕ → Listing → S → Type 0) (omi
     pub checked : State S
     pub texts : ℕ
     pub checks : ChecksTexts asked printing paths texts old checked
-    pub closes : Closes printing.format texts status checked.output new.output checked.complaints new.complaints
+    pub closes : Closes printing texts status checked.output new.output checked.complaints new.complaints
     pub input : new.input ≡ checked.input
     pub files : new.files ≡ checked.files
 

@@ -35,7 +35,7 @@ is named.
   --max-distinct-root-fields N
                       root fields, counted like the height
   --operation NAME    limits and figures of this operation alone
-  --figures           print the figures of each operation
+  --figures           print each operation's figures, and the greatest of each
   --format text|json|github|sarif
                       print findings for people (if not given), as JSON with an
                       object a line, as annotations of GitHub Actions, or as one

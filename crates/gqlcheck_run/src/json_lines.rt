@@ -16,8 +16,8 @@ use json::Writer;
 use line_index::LineIndex;
 use std::alloc::{AllocError, Allocator};
 
-// The name of a member.
-fn key_of(limit: Limit) -> &'static str {
+/// The name of a member for a figure.
+pub fn key_of(limit: Limit) -> &'static str {
     match limit {
         Limit::Depth => "depth",
         Limit::Fields => "fields",

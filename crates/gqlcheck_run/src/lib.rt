@@ -10,6 +10,7 @@ mod files;
 mod folders;
 mod framing;
 mod github;
+mod greatest;
 mod inputs;
 mod job;
 mod json_lines;

@@ -139,14 +139,20 @@ impl<'c, 'w, A: Allocator + Copy, C: DocumentChecker> Job<'c, 'w, A, C> {
               files = files.new;
             }) }
     {
-        let format = self.printing.format;
-        let opened = print(PROGRAM, writer, complaints, opening(format));
+        let opened = print(PROGRAM, writer, complaints, opening(self.printing.format));
         if opened != 0 {
             return opened;
         }
         let mut tally = Tally::NONE;
         let status = self.check_texts(reader, writer, complaints, files, &mut tally, paths);
-        close(self.alloc, format, writer, complaints, &tally, status)
+        close(
+            self.alloc,
+            self.printing,
+            writer,
+            complaints,
+            &tally,
+            status,
+        )
     }
 }
 

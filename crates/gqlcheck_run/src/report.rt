@@ -121,8 +121,8 @@ fn findings_text<A: Allocator + Copy>(
     Ok(text)
 }
 
-/// The words for a figure.
-pub fn words_of(limit: Limit) -> &'static str {
+// The words for a figure.
+fn words_of(limit: Limit) -> &'static str {
     match limit {
         Limit::Depth => "depth",
         Limit::Fields => "fields",
@@ -139,8 +139,8 @@ fn sign_before(index: usize) -> &'static str {
     if index == 0 { ":" } else { "," }
 }
 
-// Each figure, after a colon or a comma.
-fn push_figures<A: Allocator>(text: &mut String<A>, figures: &Figures) -> Result<(), AllocError>
+/// Each figure, after a colon or a comma.
+pub fn push_figures<A: Allocator>(text: &mut String<A>, figures: &Figures) -> Result<(), AllocError>
     ensures { IfOk result (λ _. BeginsWith (string_bytes text.new) (string_bytes text.old)) }
 {
     for (index, limit) in Limit::ALL.iter().enumerate() {

@@ -1,7 +1,8 @@
 // What a run has found so far.
 ghost use Rattle.std.specs.Prelude.{◌≡◌, [], IfOk, true, string_bytes};
 
-use document_checks::Report;
+use crate::greatest::greatest_of;
+use document_checks::{Figures, Report};
 use std::alloc::{AllocError, Allocator};
 
 /// What comes before a number, by whether it is at least that.
@@ -20,6 +21,8 @@ pub struct Tally {
     pub texts: u64,
     /// Texts with findings.
     pub with_findings: u64,
+    /// The greatest of each figure, if any operation has figures.
+    pub greatest: Option<Figures>,
 }
 
 impl Tally {
@@ -29,6 +32,7 @@ impl Tally {
         at_least: false,
         texts: 0,
         with_findings: 0,
+        greatest: None,
     };
 
     /// Adds what was found in a text.
@@ -36,6 +40,7 @@ impl Tally {
         ensures { report.now.passes ≡ true → self.new.errors ≡ self.old.errors }
     {
         self.texts = self.texts.saturating_add(1);
+        self.greatest = greatest_of(self.greatest, report.operations.as_slice());
         if report.passes {
             return;
         }
