@@ -76,7 +76,7 @@ found_none most all xs same some = (to, from)
         let long : length (map as_breach xs) ≡ 0 = length_permutation _ _ same ∙ ap length empty in
         no_items xs (nil_from_length (map as_breach xs) long)
 
--- ---- everything is asked for
+-- ---- everything is selected
 pub all_selected : (selection : Selection) (bs : List Breach)
     → ((rule : Rule) (site : Located) → is_selected_at selection rule site ≡ true) → selected selection bs ≡ bs
 all_selected selection [] all = refl

@@ -61,7 +61,8 @@ ends_back steps ds es numbers ended_at are same ends =
 
 -- all rules, one after another
 pub adds_in_order :
-    (documents : List Place) (ended_at : Option ℕ) (v0 v1 v2 v3 v4 v5 v6 v7 v8 v9 : Violations) → Adds (of_each foreign_in documents) v0 v1
+    (documents : List Place) (ended_at : Option ℕ) (v0 v1 v2 v3 v4 v5 v6 v7 v8 v9 : Violations)
+    → Adds (of_each foreign_in documents) v0 v1
     → Adds (repeats UniqueOperationNames (named_definitions Operation (defined documents))) v1 v2
     → Adds (not_alone (parts_in documents)) v2 v3
     → Adds (of_each repeats_in documents) v3 v4

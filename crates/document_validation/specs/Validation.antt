@@ -1,4 +1,4 @@
--- What a validation finds, of the rules and in the documents that are asked for, and within a number of steps.
+-- What a validation finds, of the rules and in the documents that are selected, and within a number of steps.
 use Rattle.std.specs.Prelude.{◌≡◌, ℕ, ◌<◌, ◌≤◌, List, [], length, map, slice_index, Option, None, option_map, IfSome}
 use Rattle.apollo_tree.specs.Order.{Place}
 use Rattle.validation_names.specs.Sites.{Located, as_located}
@@ -10,7 +10,7 @@ use Rattle.document_validation.specs.Breaches.{AreFound, breaches, breaches_befo
 use Rattle.document_validation.specs.declared.validation.Validation.{Validation}
 use Rattle.document_validation.specs.declared.validation.ValidationOptions.{ValidationOptions}
 
--- Nothing that is asked for breaks a rule.
+-- Nothing that is selected breaks a rule.
 abbrev pub AreValidIn : Selection → List Place → Type 0
 AreValidIn selection documents = selected selection (breaches documents) ≡ []
 
@@ -29,7 +29,7 @@ operation_site documents number = site_at (parts_in documents) (slice_index (ope
 
 -- What a validation finds.
 pub record IsValidation (options : ValidationOptions) (documents : List Place) (validation : Validation) : Type 0 where
-  -- the first breaches that are asked for, up to a bound, in the order of the text: on variables, those of the
+  -- the first breaches that are selected, up to a bound, in the order of the text: on variables, those of the
   -- operations before the one at which the steps are used up
   pub found : (end : Option ℕ) → ValidationEndsAt options.steps documents end
       → AreFound options.most (selected options.selection (breaches_before end documents))

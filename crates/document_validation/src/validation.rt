@@ -27,7 +27,7 @@ use validation_rules::{
 };
 use variable_rules::add_variables;
 
-/// What a validation is asked for.
+/// What a validation selects, and its limits.
 #[derive(Clone, Copy)]
 pub struct ValidationOptions {
     /// Which rules are judged, and which documents.
@@ -41,7 +41,7 @@ pub struct ValidationOptions {
 /// What a validation found.
 #[derive(Drop)]
 pub struct Validation<'t> {
-    /// The violations that are asked for, in the order of the text.
+    /// The violations that are selected, in the order of the text.
     pub violations: Vec<Violation<'t>>,
     /// The operation before which the steps were used up. The variables of this one and of those after it were not
     /// judged. It is `None`, too, if the list is full.
@@ -119,7 +119,7 @@ fn operation_site<'t>(
 }
 
 /// The places at which documents that are judged together break a rule, by the roots of their trees: those of the rules
-/// and in the documents that are asked for, no more than a number of them, each once, in the order of the text. If
+/// and in the documents that are selected, no more than a number of them, each once, in the order of the text. If
 /// there are fewer, they are all.
 ///
 /// Operations, fragments and variables are those of all documents together. A document that has definitions, but
@@ -127,7 +127,7 @@ fn operation_site<'t>(
 /// or given twice in one list. Other rules of section 3 are not judged.
 ///
 /// The rules on variables (sections 5.8.3 and 5.8.4) take steps, and end where these are used up. The documents keep
-/// the rules that are asked for, and this is decided within the steps, exactly if nothing is found and no operation is
+/// the rules that are selected, and this is decided within the steps, exactly if nothing is found and no operation is
 /// undecided. It fails only where memory is refused.
 pub fn validate_with<'t>(
     alloc: Global,

@@ -71,7 +71,7 @@ adds_full xs ys old new full adds = adds_then xs ys old new new adds (record {
 pub is_full : (v : Violations) → true ≡ nat_le v.most (length v.list.items) → v.most ≤ length (found v)
 is_full v full = let le : v.most ≤ length v.list.items = grind (arith, nat_tests, full) in rw length-map le
 
--- one more in a list that is not full, if it is asked for
+-- one more in a list that is not full, if it is selected
 pub adds_push : (b : Breach) (old new : Violations) → new.most ≡ old.most → new.selection ≡ old.selection
     → found new ≡ found old ++ b ∷ [] → length old.list.items < old.most → is_selected old.selection b ≡ true
     → Adds (b ∷ []) old new
@@ -85,7 +85,7 @@ adds_push b old new same alike is less asked = record {
       is ∙ rw (one, room, take_nil {X = Breach} (old.most - length (found old) - 1)) refl;
 }
 
--- one that is not asked for
+-- one that is not selected
 pub adds_left_out : (b : Breach) (v : Violations) → is_selected v.selection b ≡ false → Adds (b ∷ []) v v
 adds_left_out b v left_out = record {
   most = refl;

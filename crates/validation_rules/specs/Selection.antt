@@ -1,4 +1,4 @@
--- Which breaches are asked for.
+-- Which breaches are selected.
 use Rattle.std.specs.Prelude.{ℕ, Bool, true, false, ◌&&◌, nat_lt, Option, Some, None, slice_index_or}
 use Rattle.validation_names.specs.Sites.{Located}
 use Rattle.validation_rules.specs.declared.violations.Rule.{Rule}
@@ -15,6 +15,6 @@ abbrev pub is_judged : Option ℕ → Located → Bool
 is_judged None site = true
 is_judged (Some judged) site = nat_lt site.document judged
 
--- breaches of this rule at this place are asked for
+-- breaches of this rule at this place are selected
 abbrev pub is_selected_at : Selection → Rule → Located → Bool
 is_selected_at selection rule site = has_rule selection.rules rule && is_judged selection.judged site

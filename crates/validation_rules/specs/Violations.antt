@@ -24,15 +24,15 @@ as_breach v = breach v.rule (as_located v.site) (option_map as_located v.other)
 abbrev pub found : Violations → List Breach
 found violations = map as_breach violations.list.items
 
--- the breach is asked for
+-- the breach is selected
 abbrev pub is_selected : Selection → Breach → Bool
 is_selected selection b = is_selected_at selection b.rule b.site
 
--- those of some breaches that are asked for
+-- those of some breaches that are selected
 abbrev pub selected : Selection → List Breach → List Breach
 selected selection breaches = filter (is_selected selection) breaches
 
--- Those of these breaches that are asked for were added in this order, as many of them as there was room for, and
+-- Those of these breaches that are selected were added in this order, as many of them as there was room for, and
 -- nothing else.
 pub record Adds (breaches : List Breach) (old new : Violations) : Type 0 where
   pub most : new.most ≡ old.most

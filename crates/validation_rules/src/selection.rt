@@ -1,4 +1,4 @@
-// Which violations are asked for.
+// Which violations are selected.
 ghost use Rattle.validation_rules.specs.Selection.{has_rule};
 
 use crate::violations::Rule;
@@ -62,7 +62,7 @@ impl RuleSet {
     }
 }
 
-/// Which violations are asked for: those of some rules, and in some of the documents.
+/// Which violations are selected: those of some rules, and in some of the documents.
 #[derive(Clone, Copy)]
 pub struct Selection {
     pub rules: RuleSet,
@@ -97,7 +97,7 @@ impl Selection {
         }
     }
 
-    /// Whether violations of a rule at a site are asked for.
+    /// Whether violations of a rule at a site are selected.
     pub fn includes(&self, rule: Rule, site: &Site<'_>) -> bool
         ensures { result ≡ is_selected_at self.now rule (as_located site.now) }
     {

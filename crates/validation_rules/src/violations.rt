@@ -1,4 +1,4 @@
-// Violations of rules, collected up to a bound, of the rules and documents that are asked for.
+// Violations of rules, collected up to a bound, of the rules and documents that are selected.
 ghost use Rattle.std.specs.Prelude.{◌≡◌};
 ghost use Rattle.validation_names.specs.Sites.{as_located};
 ghost use Rattle.validation_rules.specs.TextOrder.{site_key};
@@ -148,7 +148,7 @@ impl<'t> Violation<'t> {
     }
 }
 
-/// Violations of the rules and in the documents that are asked for, no more than a bound.
+/// Violations of the rules and in the documents that are selected, no more than a bound.
 #[derive(Drop)]
 pub struct Violations<'t> {
     pub list: Vec<Violation<'t>>,
@@ -162,7 +162,7 @@ impl<'t> Violations<'t> {
     ghost use Rattle.validation_rules.specs.TextOrder.{IsInTextOrder};
     ghost use Rattle.validation_rules.specs.Violations.{Adds, as_breach, breach, found};
 
-    /// None yet, and room for a number of those that are asked for.
+    /// None yet, and room for a number of those that are selected.
     pub fn new(alloc: Global, most: usize, selection: Selection) -> Violations<'t>
         ensures none { result.list.items ≡ [] }
         ensures most { result.most ≡ most }
@@ -182,7 +182,7 @@ impl<'t> Violations<'t> {
         self.most <= self.list.len()
     }
 
-    /// Adds one, unless it is not asked for or the list is full.
+    /// Adds one, unless it is not selected or the list is full.
     pub fn add(
         &mut self,
         rule: Rule,

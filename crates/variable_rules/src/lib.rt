@@ -4,7 +4,7 @@
 //! `add_variables` finds the variables that an operation uses and does not declare, and those that it declares and does
 //! not use. The names that a definition uses are read once, so a walk from an operation takes a step for each name, and
 //! not for each use. It ends before the next operation when the steps that the caller sets are used up.
-//! `document_validation`, a crate above, sets none.
+//! `document_validation`, a crate above, hands them on.
 #![tactic(auto)]
 
 mod judging;
