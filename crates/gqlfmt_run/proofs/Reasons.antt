@@ -1,5 +1,5 @@
 -- Why a text is refused, in words.
-use Rattle.std.proofs.Common.{◌≡◌, ◌≢◌, ℕ, List, [], ◌∷◌, map, take, refl, sym, ap, ◌∙◌, arith, inl}
+use Rattle.std.proofs.Common.{◌≡◌, ◌≢◌, ℕ, List, [], ◌∷◌, map, take, refl, sym, ap, ◌∙◌, arith, inl, inr}
 use Rattle.apollo_parser.specs.Diagnostics.{Diagnostic}
 use Rattle.apollo_parser.specs.Parsed.{Parsed}
 use Rattle.apollo_parser.specs.Promise.{Promise}
@@ -11,8 +11,10 @@ use Rattle.formatter.specs.Finding.{AreFirstOf}
 use Rattle.formatter.specs.Formatted as format
 use Rattle.marked_lines.specs.Places.{BeginsWith, OfFirst, place}
 use Rattle.gqlfmt_run.specs.Complaints.{IsErrorReport, IsReason}
-use Rattle.gqlfmt_run.specs.Formatting.{HasErrors, most_shown}
+use Rattle.gqlfmt_run.specs.Formatting.{HasErrors, IsRefused, IsRefusedFor, most_shown}
 use Rattle.gqlfmt_run.specs.declared.job.Bounds.{Bounds}
+use Rattle.gqlfmt_run.specs.declared.revision.Refusal.{Refusal}
+use Rattle.gqlfmt_run.specs.declared.revision.Refusal.TheVariants.{Errors, Outgrown, TooLong}
 
 -- the first error that is shown is the first error of the parse, which is there
 first-of : {E : Type 0} (of : E → Diagnostic) (limits : Limits) (name source report : List ℕ) (t : Parsed)
@@ -58,3 +60,10 @@ pub of-errors : {E : Type 0} (of : E → Diagnostic) (bounds : Bounds) (name sou
     → IsReason bounds name source report
 of-errors of bounds name source report shown more refused begins =
     inl (refused.0, error-report of bounds.limits name source report shown more refused.0.refused refused.1 begins)
+
+-- a text with such a reason is left as it is
+pub is-refused : {A : Type 0} (bounds : Bounds) (source : List ℕ) (refusal : Refusal A)
+    → IsRefusedFor bounds source refusal → IsRefused bounds source
+is-refused bounds source (Errors first) h = inl h.0
+is-refused bounds source Outgrown h = inr (inl h)
+is-refused bounds source TooLong h = inr (inr h)

@@ -1,25 +1,18 @@
 -- What is said on standard error, by how a text ended.
-use Rattle.std.proofs.Common.{◌≡◌, ℕ, Bool, List, [], length, refl, sym, ap, ◌∙◌, subst, arith, length-append, Result}
+use Rattle.std.proofs.Common.{◌≡◌, ℕ, List, [], length, refl, sym, ap, ◌∙◌, subst, arith, length-append, Result}
 use Rattle.std.specs.Prelude.{Ok, Err}
 use Rattle.std.specs.declared.io.Error.{Error}
 use Rattle.byte_streams.specs.Devices.{Account}
 use Rattle.byte_streams.specs.Writing.{EndsWriting}
 use Rattle.byte_streams.specs.declared.fault.Fault.{Fault}
 use Rattle.byte_streams.specs.declared.fault.Fault.TheVariants.{Read, Utf8, Memory, Write}
-use Rattle.gqlfmt_run.specs.Settling.{Settles}
-use Rattle.command_lines.specs.declared.gqlfmt.Mode.{Mode}
-use Rattle.command_lines.specs.declared.gqlfmt.Mode.TheVariants as mode
-use Rattle.gqlfmt_run.specs.declared.settlement.Revised.{Revised}
-use Rattle.gqlfmt_run.specs.declared.settlement.Revised.TheVariants as revised
 use Rattle.gqlfmt_run.specs.declared.settlement.Settled.{Settled}
 use Rattle.gqlfmt_run.specs.declared.settlement.Settled.TheVariants.{Done, Found, Refused}
 use Rattle.command_lines.specs.Complaints.{Tells}
 use Rattle.command_lines.specs.declared.complaints.FileFault.{FileFault}
-use Rattle.gqlfmt_run.specs.Complaints.{Complains, IsSilent, Says, SaysFault, SaysFileFault, SaysOfFile, SaysReason}
+use Rattle.gqlfmt_run.specs.Complaints.{IsSilent, Says, SaysFault, SaysFileFault, SaysOfFile, SaysReason}
 use Rattle.gqlfmt_run.specs.Complaints.{TellsOfFileAndCopy}
-use Rattle.gqlfmt_run.specs.Formatting.{IsRevised}
 use Rattle.gqlfmt_run.specs.declared.command.TheConstants.{PROGRAM}
-use Rattle.gqlfmt_run.specs.declared.revision.Refusal.{Refusal}
 use Rattle.gqlfmt_run.specs.declared.job.Bounds.{Bounds}
 
 module _ (bounds : Bounds) (name : List ℕ) where
@@ -73,29 +66,3 @@ silent-broken bounds name source Done fault text bytes out out' old new same end
 silent-broken bounds name source Found fault text bytes out out' old new same ends empty silent = silent
 silent-broken bounds name source Refused fault text bytes out out' old new same ends empty silent =
     absurd (all-written fault bytes out out' ends (same ∙ empty refl))
-
--- The refusal of a file's text in mode write is said, and nothing else.
-pub complained : {A S : Type 0} (replaces : S → List ℕ → List ℕ → Bool → S → Type 0) (X Y : Type 0) (m : Mode)
-    (bounds : Bounds) (path source : List ℕ)
-    (revised : Revised A (Refusal A)) (settled : Settled) (files files' : S) (old new : Account) → m ≡ mode.Write
-    → IsRevised bounds source revised
-    → Settles replaces {X = X} m path revised (Ok settled) files files'
-    → Complains {X = Y} bounds path source revised (Ok tt) old new
-    → IsSilent {E = FileFault} bounds path (Ok source) (Ok settled) old new
-complained replaces X Y m bounds path source revised.Same Done files files' old new writes made settles said = said
-complained replaces X Y m bounds path source revised.Same Found files files' old new writes made settles said =
-    absurd settles
-complained replaces X Y m bounds path source revised.Same Refused files files' old new writes made settles said =
-    absurd settles
-complained replaces X Y m bounds path source (revised.Changed text) Done files files' old new writes made settles said =
-    said
-complained replaces X Y m bounds path source (revised.Changed text) Found files files' old new writes made
-    settles said = said
-complained replaces X Y m bounds path source (revised.Changed text) Refused files files' old new writes made
-    settles said = absurd settles
-complained replaces X Y m bounds path source (revised.Refused refusal) Done files files' old new writes made
-    settles said = absurd settles
-complained replaces X Y m bounds path source (revised.Refused refusal) Found files files' old new writes made
-    settles said = absurd settles
-complained replaces X Y m bounds path source (revised.Refused refusal) Refused files files' old new writes made
-    settles said = said made

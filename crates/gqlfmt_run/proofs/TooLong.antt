@@ -1,7 +1,6 @@
 -- Texts whose formatted text has more bytes than are allowed.
 use Rattle.std.proofs.Common.{◌≡◌, ℕ, ◌*◌, ◌<◌, ◌≤◌, List, length, arith}
 use Rattle.std.proofs.Math.Nat.{mul-le-mul_left, mul-le-mul_right}
-use Rattle.formatter.specs.Formatted as format
 use Rattle.formatter.specs.Lengths.{longest_layout}
 use Rattle.formatter.specs.declared.line_ends.LineEnd.{LineEnd}
 use Rattle.formatter.specs.declared.line_ends.LineEnd.TheVariants.{Lf, Crlf}

@@ -6,8 +6,6 @@ use Rattle.apollo_parser.specs.declared.Limits.{Limits}
 use Rattle.byte_streams.specs.Devices.{Account}
 use Rattle.byte_streams.specs.declared.fault.Fault.{Fault}
 use Rattle.first_errors.specs.Places.{IsFirstErrorOf, shown_at}
-use Rattle.gqlfmt_run.specs.declared.settlement.Revised.{Revised}
-use Rattle.gqlfmt_run.specs.declared.settlement.Revised.TheVariants as revised
 use Rattle.gqlfmt_run.specs.declared.settlement.Settled.{Settled}
 use Rattle.gqlfmt_run.specs.declared.settlement.Settled.TheVariants.{Done, Found, Refused}
 use Rattle.marked_lines.specs.Places.{BeginsWith, place}
@@ -15,9 +13,8 @@ use Rattle.command_lines.specs.Complaints.{Tells, TellsOfFile, line_about}
 use Rattle.command_lines.specs.Streams.{IsSaid}
 use Rattle.command_lines.specs.declared.complaints.FileFault.{FileFault}
 use Rattle.command_lines.specs.declared.complaints.FileFault.TheVariants.{NotRead, NotReplaced, Device}
-use Rattle.gqlfmt_run.specs.Formatting.{HasErrors, HasOutgrown, IsRefusedFor, IsTooLong}
+use Rattle.gqlfmt_run.specs.Formatting.{HasErrors, HasOutgrown, IsTooLong}
 use Rattle.gqlfmt_run.specs.declared.command.TheConstants.{PROGRAM}
-use Rattle.gqlfmt_run.specs.declared.revision.Refusal.{Refusal}
 use Rattle.gqlfmt_run.specs.declared.job.Bounds.{Bounds}
 use Rattle.gqlfmt_run.specs.declared.report.TheConstants.{COPY_ADVICE, OUTGROWN, TOO_LONG}
 
@@ -97,12 +94,3 @@ IsSilent bounds name given (Ok Found) old new = new ≡ old
 IsSilent bounds name (Ok source) (Ok Refused) old new = SaysReason bounds name source old new
 IsSilent bounds name (Err error) (Ok Refused) old new = ⊥
 IsSilent bounds name given (Err fault) old new = new ≡ old
-
--- Only why a text is refused is said, if memory for that is there.
-abbrev pub Complains : {A E X : Type 0} → Bounds → List ℕ → List ℕ → Revised A (Refusal E) → Result (Unit {0}) X
-    → Account → Account → Type 0
-Complains bounds name source (revised.Refused refusal) (Ok _) old new =
-    IsRefusedFor bounds source refusal → SaysReason bounds name source old new
-Complains bounds name source (revised.Refused refusal) (Err error) old new = new ≡ old
-Complains bounds name source revised.Same ended old new = new ≡ old
-Complains bounds name source (revised.Changed text) ended old new = new ≡ old

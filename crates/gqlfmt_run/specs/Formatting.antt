@@ -1,6 +1,6 @@
 -- What formatting makes of a text, and what is shown of that.
 use Rattle.std.specs.Prelude.{◌≡◌, ◌≢◌, ◌<◌, ◌≤◌, ◌⊎◌, ◌*◌, ◌-◌, ◌^◌, ℕ, min, max, List, [], ◌∷◌, ◌++◌, length, map}
-use Rattle.std.specs.Prelude.{codes, string_bytes, Option, Some, None}
+use Rattle.std.specs.Prelude.{codes, string_bytes, Option, Some, None, Result, Ok, Err, String}
 use mathlib.Core.Logic.{inl, inr}
 use Rattle.document_grammar.specs.Derivation.{nest}
 use Rattle.apollo_parser.specs.Errors.{error_of}
@@ -18,11 +18,7 @@ use Rattle.command_lines.specs.declared.gqlfmt.LineEndings.TheVariants.{Lf, Crlf
 use Rattle.gqlfmt_run.specs.declared.job.Bounds.{Bounds}
 use Rattle.gqlfmt_run.specs.declared.revision.Refusal.{Refusal}
 use Rattle.gqlfmt_run.specs.declared.revision.Refusal.TheVariants.{Errors, Outgrown, TooLong}
-use Rattle.command_lines.specs.declared.gqlfmt.Mode.{Mode}
 use Rattle.gqlfmt_run.specs.Quoting.{head_name, quoted}
-use Rattle.command_lines.specs.declared.gqlfmt.Mode.TheVariants.{Write, Check, Diff, Print}
-use Rattle.gqlfmt_run.specs.declared.settlement.Revised.{Revised}
-use Rattle.gqlfmt_run.specs.declared.settlement.Revised.TheVariants.{Same, Changed, Refused}
 
 -- How many bytes a formatted text may have: as many as are said, or else 64 MiB, or 16 for each byte of the source if
 -- these are more.
@@ -91,28 +87,21 @@ pub record IsChanged (bounds : Bounds) (source text : List ℕ) : Type 0 where
   pub formatted : IsLaidOut bounds source text
   pub other : text ≢ source
 
--- what formatting makes of a source
-abbrev pub IsRevised : {A : Type 0} → Bounds → List ℕ → Revised A (Refusal A) → Type 0
-IsRevised bounds source Same = IsLaidOut bounds source source
-IsRevised bounds source (Changed text) = IsChanged bounds source (string_bytes text)
-IsRevised bounds source (Refused refusal) = IsRefusedFor bounds source refusal
+-- what formatting makes of a source: its formatted text, or why it is left as it is
+abbrev pub IsRevised : {A : Type 0} → Bounds → List ℕ → Result (String A) (Refusal A) → Type 0
+IsRevised bounds source (Ok text) = IsLaidOut bounds source (string_bytes text)
+IsRevised bounds source (Err refusal) = IsRefusedFor bounds source refusal
 
--- a unified diff of two texts that have this name: both names at its head, and hunks
+-- the source has a formatted text that is another one
+abbrev pub HasAnotherLayout : Bounds → List ℕ → Type 0
+HasAnotherLayout bounds source = (text : List ℕ) × IsChanged bounds source text
+
+-- the name as a line
+abbrev pub IsListing : List ℕ → List ℕ → Type 0
+IsListing name output = output ≡ quoted name ++ 10 ∷ []
+
+-- a unified diff of two texts that have this name: both names at its head, and hunks. Which
+-- lines these show is not stated.
 abbrev pub IsDiff : List ℕ → List ℕ → Type 0
 IsDiff name output = (hunks : List ℕ)
     × (output ≡ codes "--- " ++ head_name name ++ codes "\n+++ " ++ head_name name ++ codes "\n" ++ hunks)
-
--- What is written of a source that has this name and another text when formatted: that text, the name as a line, or the
--- changes under the name. Which lines are shown of a change is not stated.
-abbrev pub IsShown : Mode → List ℕ → List ℕ → List ℕ → Type 0
-IsShown Write name text output = output ≡ text
-IsShown Check name text output = output ≡ quoted name ++ 10 ∷ []
-IsShown Diff name text output = IsDiff name output
-IsShown Print name text output = output ≡ text
-
--- In a mode that looks for another layout, the source has one, and this is shown of that.
-pub record IsListed (mode : Mode) (bounds : Bounds) (name source output : List ℕ) : Type 0 where
-  pub looks : mode ≢ Write
-  pub text : List ℕ
-  pub changed : IsChanged bounds source text
-  pub shown : IsShown mode name text output

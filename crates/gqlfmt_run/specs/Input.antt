@@ -1,5 +1,5 @@
 -- What is written of standard input.
-use Rattle.std.specs.Prelude.{◌≡◌, ℕ, List, [], Result, Ok, Err}
+use Rattle.std.specs.Prelude.{◌≡◌, ◌≢◌, ℕ, List, [], Result, Ok, Err}
 use Rattle.byte_streams.specs.Devices.{Account, moved}
 use Rattle.byte_streams.specs.Writing.{IsBroken}
 use Rattle.byte_streams.specs.declared.fault.Fault.{Fault}
@@ -9,34 +9,39 @@ use Rattle.command_lines.specs.declared.gqlfmt.Mode.TheVariants.{Write, Check, D
 use Rattle.gqlfmt_run.specs.declared.settlement.Settled.{Settled}
 use Rattle.gqlfmt_run.specs.declared.settlement.Settled.TheVariants.{Done, Found, Refused}
 use Rattle.gqlfmt_run.specs.declared.job.Bounds.{Bounds}
-use Rattle.gqlfmt_run.specs.Formatting.{IsLaidOut, IsRefused, IsListed}
+use Rattle.gqlfmt_run.specs.Formatting.{HasAnotherLayout, IsDiff, IsLaidOut, IsListing, IsRefused}
 
 -- What is written of a text of this name, by the outcome for it. In the modes write and print that is the formatted
--- text, and nothing of a text that is refused.
+-- text. In the modes check and diff it is nothing where the text has the layout. Where it has another one, it is the
+-- name as a line, or the changes under the name. Nothing is written of a text that is refused.
 abbrev pub IsOutput : Mode → Bounds → List ℕ → List ℕ → Settled → List ℕ → Type 0
 IsOutput Write bounds name source Done output = IsLaidOut bounds source output
 IsOutput Print bounds name source Done output = IsLaidOut bounds source output
 IsOutput Check bounds name source Done output = IsLaidOut bounds source source × (output ≡ [])
 IsOutput Diff bounds name source Done output = IsLaidOut bounds source source × (output ≡ [])
-IsOutput mode bounds name source Found output = IsListed mode bounds name source output
+IsOutput Check bounds name source Found output = HasAnotherLayout bounds source × IsListing name output
+IsOutput Diff bounds name source Found output = HasAnotherLayout bounds source × IsDiff name output
+IsOutput mode bounds name source Found output = ⊥
 IsOutput mode bounds name source Refused output = IsRefused bounds source × (output ≡ [])
 
--- the parts of that: what is written of a text that has the layout
+-- What is written of a source that has this name and this formatted text, by the outcome for it.
+abbrev pub IsShown : Mode → List ℕ → List ℕ → List ℕ → Settled → List ℕ → Type 0
+IsShown Write name source text Done output = output ≡ text
+IsShown Print name source text Done output = output ≡ text
+IsShown Check name source text Done output = (text ≡ source) × (output ≡ [])
+IsShown Diff name source text Done output = (text ≡ source) × (output ≡ [])
+IsShown Check name source text Found output = (text ≢ source) × IsListing name output
+IsShown Diff name source text Found output = (text ≢ source) × IsDiff name output
+IsShown mode name source text settled output = ⊥
+
+-- what is written of a text that is left alone: the text itself, and nothing in a mode that shows what would change
 abbrev pub kept : Mode → List ℕ → List ℕ
 kept Write source = source
 kept Print source = source
 kept Check source = []
 kept Diff source = []
 
--- and what comes of one that has another
-abbrev pub settled_of : Mode → Settled
-settled_of Write = Done
-settled_of Print = Done
-settled_of Check = Found
-settled_of Diff = Found
-
--- What is written of an input that is left alone, by how that ended: the text itself, and nothing in a mode that shows
--- what would change.
+-- That is written of an input, by how that ended.
 abbrev pub PassesOn : Mode → Result Settled Fault → List ℕ → Account → Account → Type 0
 PassesOn mode (Ok settled) input old new = (settled ≡ Done) × (new ≡ moved old (kept mode input))
 PassesOn mode (Err fault.Read) input old new = new ≡ old

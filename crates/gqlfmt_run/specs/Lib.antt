@@ -6,5 +6,4 @@ pub mod Input
 pub mod Paths
 pub mod Program
 pub mod Quoting
-pub mod Settling
 pub mod Status

@@ -1,31 +1,22 @@
-// Formatting standard input.
-ghost use Rattle.std.specs.Prelude.{◌≡◌, ◌≢◌, ℕ, List, [], Ok, IfErr, IfOk, MatchResult, string_bytes};
+// Formatting a text, and standard input.
+ghost use Rattle.std.specs.Prelude.{◌≡◌, ◌≢◌, ℕ, List, [], Ok, IfErr, IfOk, MatchOption, MatchResult, string_bytes};
 ghost use Rattle.byte_streams.specs.Runs.{Reads, Writes};
 ghost use Rattle.byte_streams.specs.declared.fault.Fault.TheVariants.{Read};
 ghost use Rattle.gqlfmt_run.specs.declared.settlement.Settled.TheVariants.{Refused};
-ghost use Rattle.gqlfmt_run.specs.Complaints.{IsSilent};
+ghost use Rattle.gqlfmt_run.specs.Complaints.{IsSilent, SaysReason};
+ghost use Rattle.gqlfmt_run.specs.Formatting.{IsLaidOut, IsRefused};
 ghost use Rattle.gqlfmt_run.specs.Input.{IsOutput, PassesOn, kept};
 
 use crate::job::Job;
-use crate::settlement::{Revised, Settled};
+use crate::settlement::Settled;
 use crate::shown_changes::shown;
 use byte_streams::{Fault, Sink, Source, read_to_end, write_all};
 use command_lines::gqlfmt::Mode;
 use formatter::DocumentFormatter;
 use std::alloc::{AllocError, Allocator};
 
-// What is written of a text that has the layout.
-fn kept<A: Allocator>(alloc: A, mode: Mode, source: &str) -> Result<String<A>, AllocError>
-    ensures { IfOk result (λ output. string_bytes output ≡ kept mode source.now) }
-{
-    match mode {
-        Mode::Write | Mode::Print => String::from_str(alloc, source),
-        Mode::Check | Mode::Diff => Ok(String::new(alloc)),
-    }
-}
-
 // What is written of a text that is left alone.
-fn kept_bytes(mode: Mode, bytes: &[u8]) -> &[u8]
+fn kept(mode: Mode, bytes: &[u8]) -> &[u8]
     ensures { result.now ≡ kept mode bytes.now }
 {
     match mode {
@@ -35,9 +26,35 @@ fn kept_bytes(mode: Mode, bytes: &[u8]) -> &[u8]
 }
 
 impl<A: Allocator + Copy, L: DocumentFormatter> Job<'_, A, L> {
+    /// The formatted text of a source of this name, or `None` where it is refused. `complaints` have why, and nothing
+    /// else.
+    pub fn format_or_complain<E: Sink>(
+        &self,
+        complaints: &mut E,
+        name: &str,
+        source: &str,
+    ) -> Result<Option<String<A>>, AllocError>
+        ensures formatted { IfOk result
+            (λ formatted. MatchOption formatted (IsRefused self.now.bounds source.now)
+            (λ text. IsLaidOut self.now.bounds source.now (string_bytes text))) }
+        ensures silent { MatchResult result
+            (λ formatted. MatchOption formatted
+            (SaysReason self.now.bounds name.now source.now (E.account complaints.old) (E.account complaints.new))
+            (λ _. E.account complaints.new ≡ E.account complaints.old))
+            (λ _. E.account complaints.new ≡ E.account complaints.old) }
+    {
+        match self.revise(source)? {
+            Ok(text) => Ok(Some(text)),
+            Err(refusal) => {
+                self.complain(complaints, name, source, &refusal)?;
+                Ok(None)
+            }
+        }
+    }
+
     // What is written of a text of this name, and what came of it: nothing where it is refused, and `complaints` have
     // why.
-    #[tactic(auto, using(crate::proofs::Outputs::of_same, crate::proofs::Outputs::of_changed, crate::proofs::Outputs::of_refused))]
+    #[tactic(auto, using(crate::proofs::Outputs::shown_output))]
     fn output_of<E: Sink>(
         &self,
         complaints: &mut E,
@@ -52,16 +69,12 @@ impl<A: Allocator + Copy, L: DocumentFormatter> Job<'_, A, L> {
             (E.account complaints.new))
             (λ error. E.account complaints.new ≡ E.account complaints.old) }
     {
-        match self.revise(source)? {
-            Revised::Same => Ok((Settled::Done, kept(self.alloc, self.mode, source)?)),
-            Revised::Changed(text) => {
+        match self.format_or_complain(complaints, name, source)? {
+            Some(text) => {
                 let (settled, output) = shown(self.alloc, self.mode, name, source, text)?;
                 Ok((settled, output))
             }
-            Revised::Refused(refusal) => {
-                self.complain(complaints, name, source, &refusal)?;
-                Ok((Settled::Refused, String::new(self.alloc)))
-            }
+            None => Ok((Settled::Refused, String::new(self.alloc))),
         }
     }
 
@@ -116,7 +129,7 @@ impl<A: Allocator + Copy, L: DocumentFormatter> Job<'_, A, L> {
             × PassesOn self.now.mode result input (W.account writer.old) (W.account writer.new) }
     {
         let bytes = read_to_end(self.alloc, reader)?;
-        write_all(writer, kept_bytes(self.mode, bytes.as_slice()))?;
+        write_all(writer, kept(self.mode, bytes.as_slice()))?;
         Ok(Settled::Done)
     }
 }

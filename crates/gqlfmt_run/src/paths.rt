@@ -1,17 +1,16 @@
 // Formatting files.
-ghost use Rattle.std.specs.Prelude.{ℕ, List, Result, map};
+ghost use Rattle.std.specs.Prelude.{ℕ, List, Ok, Result, map};
 ghost use Rattle.std.specs.declared.io.Error.{Error};
 ghost use Rattle.named_files.specs.Finding.{as_named, path_of};
-ghost use Rattle.named_files.specs.Handling.{FollowsRead, InTurn};
+ghost use Rattle.named_files.specs.Handling.{InTurn};
 ghost use Rattle.gqlfmt_run.specs.Complaints.{IsSilent};
 ghost use Rattle.gqlfmt_run.specs.Desks.{desk_of};
-ghost use Rattle.gqlfmt_run.specs.Input.{IsOutput};
-ghost use Rattle.gqlfmt_run.specs.Paths.{FormatsFound, HandlesFile, HandlesFound, Rewrites};
+ghost use Rattle.gqlfmt_run.specs.Paths.{FollowsText, FormatsFound, HandlesFile, HandlesFound};
 
 use crate::desk::Desk;
 use crate::job::Job;
 use crate::outcome::end_of_file;
-use crate::settlement::{Settled, settle};
+use crate::settlement::Settled;
 use byte_streams::{Fault, Sink};
 use command_lines::complaints::FileFault;
 use command_lines::gqlfmt::Mode;
@@ -21,52 +20,32 @@ use named_files::Named;
 use std::alloc::Allocator;
 
 impl<A: Allocator + Copy, L: DocumentFormatter> Job<'_, A, L> {
-    // Replaces the file at a path, if formatting changes its text. `complaints` have why it is refused, and nothing
-    // else.
-    fn rewrite_file<F: Files, E: Sink>(
+    // Replaces the file at a path, which has this text, if formatting changes the text. `complaints` have why it is
+    // refused, and nothing else. Here is the one call of the program that destroys something, so the function is small,
+    // and its contract can be read alone.
+    fn rewrite<F: Files, E: Sink>(
         &self,
         files: &mut F,
         complaints: &mut E,
         path: &str,
+        bytes: &[u8],
     ) -> Result<Settled, FileFault>
-        ensures { (given : Result (List ℕ) Error)
-            × Rewrites F.reads F.replaces self.now.bounds path.now given result files.old files.new
-            × IsSilent self.now.bounds path.now given result (E.account complaints.old) (E.account complaints.new) }
+        ensures follows { FollowsText F.reads F.replaces self.now.bounds path.now bytes.now result files.old files.new }
+        ensures silent { IsSilent self.now.bounds path.now (Ok bytes.now) result (E.account complaints.old)
+            (E.account complaints.new) }
     {
-        let bytes = match files.read(self.alloc, path) {
-            Ok(bytes) => bytes,
-            Err(error) => return Err(FileFault::NotRead(error)),
-        };
-        let Ok(source) = str::from_utf8(bytes.as_slice()) else {
+        let Ok(source) = str::from_utf8(bytes) else {
             return Err(FileFault::Device(Fault::Utf8));
         };
-        let revised = self.revise(source)?;
-        self.complain_if_refused(complaints, path, source, &revised)?;
-        match settle(files, path, &revised) {
-            Ok(settled) => Ok(settled),
-            Err(error) => Err(FileFault::NotReplaced(error)),
+        let Some(text) = self.format_or_complain(complaints, path, source)? else {
+            return Ok(Settled::Refused);
+        };
+        if text.as_str() == source {
+            return Ok(Settled::Done);
         }
-    }
-
-    // Writes what the mode shows of the file at a path. `complaints` have why its text is refused, and nothing else.
-    fn show_file<F: Files, W: Sink, E: Sink>(
-        &self,
-        files: &mut F,
-        writer: &mut W,
-        complaints: &mut E,
-        path: &str,
-    ) -> Result<Settled, FileFault>
-        ensures { (given : Result (List ℕ) Error) × F.reads files.old path.now given files.new
-            × FollowsRead (IsOutput self.now.mode self.now.bounds path.now) given result (W.account writer.old)
-            (W.account writer.new)
-            × IsSilent self.now.bounds path.now given result (E.account complaints.old) (E.account complaints.new) }
-    {
-        match files.read(self.alloc, path) {
-            Ok(bytes) => {
-                let settled = self.write_layout(writer, complaints, path, bytes.as_slice())?;
-                Ok(settled)
-            }
-            Err(error) => Err(FileFault::NotRead(error)),
+        match files.replace(path, text.as_str()) {
+            Ok(()) => Ok(Settled::Done),
+            Err(error) => Err(FileFault::NotReplaced(error)),
         }
     }
 
@@ -83,14 +62,22 @@ impl<A: Allocator + Copy, L: DocumentFormatter> Job<'_, A, L> {
             × IsSilent self.now.bounds path.now given result (E.account desk.old.complaints)
             (E.account desk.new.complaints) }
     {
+        let bytes = match desk.files.read(self.alloc, path) {
+            Ok(bytes) => bytes,
+            Err(error) => return Err(FileFault::NotRead(error)),
+        };
+        let text = bytes.as_slice();
         match self.mode {
-            Mode::Write => self.rewrite_file(&mut desk.files, &mut desk.complaints, path),
-            Mode::Check | Mode::Diff | Mode::Print => self.show_file(
-                &mut desk.files,
-                &mut desk.output,
-                &mut desk.complaints,
-                path,
-            ),
+            Mode::Write => self.rewrite(&mut desk.files, &mut desk.complaints, path, text),
+            Mode::Check | Mode::Diff | Mode::Print => {
+                let settled = self.write_layout(
+                    &mut desk.output,
+                    &mut desk.complaints,
+                    path,
+                    text,
+                )?;
+                Ok(settled)
+            }
         }
     }
 

@@ -3,13 +3,12 @@ ghost use Rattle.std.specs.Prelude.{◌≡◌, ◌++◌, IfOk, MatchResult, stri
 ghost use Rattle.apollo_parser.specs.Errors.{error_of};
 ghost use Rattle.first_errors.specs.Places.{shown_at};
 ghost use Rattle.marked_lines.specs.Places.{BeginsWith, OfFirst, place};
-ghost use Rattle.gqlfmt_run.specs.Complaints.{Complains, IsReason, MayMentionCopy, MentionsCopy, SaysReason};
+ghost use Rattle.gqlfmt_run.specs.Complaints.{IsReason, MayMentionCopy, MentionsCopy, SaysReason};
 ghost use Rattle.gqlfmt_run.specs.Formatting.{IsRefusedFor};
 
 use crate::command::PROGRAM;
 use crate::job::Job;
 use crate::revision::Refusal;
-use crate::settlement::Revised;
 use apollo_parser::BorrowedError;
 use byte_streams::Sink;
 use command_lines::complaints::FileFault;
@@ -105,23 +104,6 @@ impl<A: Allocator + Copy, L> Job<'_, A, L> {
         let report = self.reasons(name, source, refusal)?;
         say(complaints, report.as_str());
         Ok(())
-    }
-
-    /// Tells why a text is left as it is, if it is refused.
-    pub fn complain_if_refused<E: Sink>(
-        &self,
-        complaints: &mut E,
-        name: &str,
-        source: &str,
-        revised: &Revised<A, Refusal<'_, A>>,
-    ) -> Result<(), AllocError>
-        ensures { Complains self.now.bounds name.now source.now revised.now result (E.account complaints.old)
-            (E.account complaints.new) }
-    {
-        match revised {
-            Revised::Refused(refusal) => self.complain(complaints, name, source, refusal),
-            Revised::Same | Revised::Changed(_) => Ok(()),
-        }
     }
 }
 

@@ -11,7 +11,6 @@ ghost use Rattle.formatter.specs.LineEnds.{HasLineEnd};
 ghost use Rattle.gqlfmt_run.specs.Formatting.{IsRevised, line_end_of, most_of, most_shown};
 
 use crate::job::{Bounds, Job};
-use crate::settlement::Revised;
 use first_errors::FirstErrors;
 use formatter::{DocumentFormatter, WriteError, keeps_document, stays_within, with_line_end};
 use std::alloc::{AllocError, Allocator};
@@ -30,12 +29,12 @@ pub enum Refusal<'s, A: Allocator> {
     TooLong,
 }
 
-// What a formatted text is to its source.
-fn compared<'s, A: Allocator>(
+// The formatted text of a source, unless it has more items than are allowed.
+fn bounded<'s, A: Allocator>(
     source: &str,
     text: String<A>,
     bounds: Bounds,
-) -> Revised<A, Refusal<'s, A>>
+) -> Result<String<A>, Refusal<'s, A>>
     ensures document { format.IsFormatted source.now bounds.limits.recursion bounds.limits.tokens (string_bytes text)
         → length (items_of (string_bytes text)) ≤ most_items (length (items_of source.now))
         → length (string_bytes text) ≤ most_of bounds.most_output source.now
@@ -49,22 +48,22 @@ fn compared<'s, A: Allocator>(
         → IsRevised bounds source.now result }
 {
     if text.as_str() == source {
-        return Revised::Same;
+        return Ok(text);
     }
     if stays_within(text.as_str(), bounds.limits.tokens) {
-        Revised::Changed(text)
+        Ok(text)
     } else {
-        Revised::Refused(Refusal::Outgrown)
+        Err(Refusal::Outgrown)
     }
 }
 
 impl<A: Allocator + Copy, L: DocumentFormatter> Job<'_, A, L> {
-    // What a formatted text is to its source, with the line ends that are wanted.
-    fn compared_with_ends<'s>(
+    // That with the line ends that are wanted, unless it is too long.
+    fn bounded_with_ends<'s>(
         &self,
         source: &str,
         text: String<A>,
-    ) -> Result<Revised<A, Refusal<'s, A>>, AllocError>
+    ) -> Result<Result<String<A>, Refusal<'s, A>>, AllocError>
         ensures document { IfOk result
             (λ revised. format.IsFormatted source.now self.now.bounds.limits.recursion
             self.now.bounds.limits.tokens (string_bytes text)
@@ -84,10 +83,10 @@ impl<A: Allocator + Copy, L: DocumentFormatter> Job<'_, A, L> {
         let end = self.bounds.line_end_of(source);
         let ended = with_line_end(self.alloc, text, end)?;
         if ended.len() > self.bounds.most_of(source) {
-            return Ok(Revised::Refused(Refusal::TooLong));
+            return Ok(Err(Refusal::TooLong));
         }
         keeps_document();
-        Ok(compared(source, ended, self.bounds))
+        Ok(bounded(source, ended, self.bounds))
     }
 
     // Formats a text that is no document: one of comments alone, or else it has errors, of which these are the first.
@@ -95,7 +94,7 @@ impl<A: Allocator + Copy, L: DocumentFormatter> Job<'_, A, L> {
         &self,
         source: &'s str,
         first: FirstErrors<'s, A>,
-    ) -> Result<Revised<A, Refusal<'s, A>>, AllocError>
+    ) -> Result<Result<String<A>, Refusal<'s, A>>, AllocError>
         ensures { IfOk result (λ revised. format.IsNoDocument source.now self.now.bounds.limits.recursion
             self.now.bounds.limits.tokens
             → AreFirstOf self.now.bounds.limits source.now most_shown
@@ -103,19 +102,22 @@ impl<A: Allocator + Copy, L: DocumentFormatter> Job<'_, A, L> {
             → IsRevised self.now.bounds source.now revised) }
     {
         if !stays_within(source, self.bounds.limits.tokens) {
-            return Ok(Revised::Refused(Refusal::Errors(first)));
+            return Ok(Err(Refusal::Errors(first)));
         }
         let most = self.bounds.most_of(source);
         match self.formatter.format_comments(self.alloc, source, most) {
-            Ok(Some(text)) => self.compared_with_ends(source, text),
-            Ok(None) => Ok(Revised::Refused(Refusal::Errors(first))),
-            Err(WriteError::TooLong) => Ok(Revised::Refused(Refusal::TooLong)),
+            Ok(Some(text)) => self.bounded_with_ends(source, text),
+            Ok(None) => Ok(Err(Refusal::Errors(first))),
+            Err(WriteError::TooLong) => Ok(Err(Refusal::TooLong)),
             Err(WriteError::Memory) => Err(AllocError),
         }
     }
 
-    /// Formats a text, and says whether that changes it. What it gives is not refused when it is formatted again.
-    pub fn revise<'s>(&self, source: &'s str) -> Result<Revised<A, Refusal<'s, A>>, AllocError>
+    /// The formatted text of a source, which is not refused when it is formatted again; or why there is none.
+    pub fn revise<'s>(
+        &self,
+        source: &'s str,
+    ) -> Result<Result<String<A>, Refusal<'s, A>>, AllocError>
         ensures { IfOk result (IsRevised self.now.bounds source.now) }
     {
         let limits = self.bounds.limits;
@@ -124,9 +126,9 @@ impl<A: Allocator + Copy, L: DocumentFormatter> Job<'_, A, L> {
             .formatter
             .format_or_errors(self.alloc, source, limits, most, SHOWN)
         {
-            Ok(Ok(document)) => self.compared_with_ends(source, document),
+            Ok(Ok(document)) => self.bounded_with_ends(source, document),
             Ok(Err(first)) => self.revise_comments(source, first),
-            Err(WriteError::TooLong) => Ok(Revised::Refused(Refusal::TooLong)),
+            Err(WriteError::TooLong) => Ok(Err(Refusal::TooLong)),
             Err(WriteError::Memory) => Err(AllocError),
         }
     }

@@ -1,7 +1,7 @@
-// What is written to standard output of a text that formatting changes.
-ghost use Rattle.std.specs.Prelude.{◌≡◌, ◌≢◌, IfOk, string_bytes};
-ghost use Rattle.gqlfmt_run.specs.Formatting.{IsShown};
-ghost use Rattle.gqlfmt_run.specs.Input.{settled_of};
+// What is written to standard output of a text that is not refused.
+ghost use Rattle.std.specs.Prelude.{◌≢◌, IfOk, string_bytes};
+ghost use Rattle.gqlfmt_run.specs.declared.settlement.Settled.TheVariants.{Refused};
+ghost use Rattle.gqlfmt_run.specs.Input.{IsShown};
 
 use crate::diff::unified_diff;
 use crate::quoted_names::quoted;
@@ -9,8 +9,9 @@ use crate::settlement::Settled;
 use command_lines::gqlfmt::Mode;
 use std::alloc::{AllocError, Allocator};
 
-/// What comes of a text that has another layout than its source, and what is shown of it: the formatted text itself,
-/// the quoted name of its source as a line, or the changes from the source.
+/// What comes of a source of this name that has this formatted text, and what is written of it. In the modes write and
+/// print that is the formatted text. In the modes check and diff it is the quoted name as a line, or the changes from
+/// the source, and nothing where formatting changes nothing.
 pub fn shown<A: Allocator + Copy>(
     alloc: A,
     mode: Mode,
@@ -18,12 +19,15 @@ pub fn shown<A: Allocator + Copy>(
     source: &str,
     text: String<A>,
 ) -> Result<(Settled, String<A>), AllocError>
-    ensures settled { IfOk result (λ it. it.0 ≡ settled_of mode) }
     ensures shown { IfOk result
-        (λ it. string_bytes text ≢ source.now → IsShown mode name.now (string_bytes text) (string_bytes it.1)) }
+        (λ it. IsShown mode name.now source.now (string_bytes text) it.0 (string_bytes it.1)) }
+    ensures settled { IfOk result (λ it. it.0 ≢ Refused) }
 {
     match mode {
         Mode::Write | Mode::Print => Ok((Settled::Done, text)),
+        Mode::Check | Mode::Diff if text.as_str() == source => {
+            Ok((Settled::Done, String::new(alloc)))
+        }
         Mode::Check => {
             let mut line = quoted(alloc, name)?;
             line.push_str("\n")?;
