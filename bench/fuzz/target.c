@@ -201,16 +201,17 @@ static void try_format(const uint8_t *text, size_t length, dumyroke_limits limit
 }
 
 /* What is found lies in the text. */
-static void try_rules(const uint8_t *text, size_t length, dumyroke_limits limits, size_t errors, size_t most)
+static void try_rules(const uint8_t *text, size_t length, dumyroke_limits limits, size_t errors, size_t most, size_t steps)
 {
     dumyroke_violation_counts found, again;
     dumyroke_measure_counts measured;
-    uint32_t status = dumyroke_validate(text, length, limits, most, NULL, 0, NULL, 0, &found);
+    uint32_t status = dumyroke_validate(text, length, limits, most, steps, NULL, 0, NULL, 0, &found);
     size_t i;
-    WANT(status == (errors ? DUMYROKE_NOT_A_DOCUMENT : DUMYROKE_OK) && found.violations <= most);
+    WANT(errors ? status == DUMYROKE_NOT_A_DOCUMENT : status == DUMYROKE_OK || (status == DUMYROKE_UNDECIDED && found.violations < most && steps < SIZE_MAX));
+    WANT(found.violations <= most && found.undecided_end <= length && (found.undecided_start < found.undecided_end) == (status == DUMYROKE_UNDECIDED));
     dumyroke_violation *rows = (dumyroke_violation *)room_at(1, found.violations * sizeof *rows);
     uint8_t *messages = room_at(2, found.message_bytes);
-    dumyroke_validate(text, length, limits, most, rows, found.violations, messages, found.message_bytes, &again);
+    dumyroke_validate(text, length, limits, most, steps, rows, found.violations, messages, found.message_bytes, &again);
     WANT(!memcmp(&found, &again, sizeof found) && is_utf8(messages, found.message_bytes));
     for (i = 0; i < found.violations; i++)
         WANT(rows[i].start < rows[i].end && rows[i].end <= length && rows[i].other_end <= length);
@@ -244,7 +245,7 @@ int LLVMFuzzerTestOneInput(const uint8_t *data, size_t size)
     if (counts.status == DUMYROKE_OK) {
         try_lex(text, length, limits.tokens);
         try_format(text, length, limits, counts.errors);
-        try_rules(text, length, limits, counts.errors, data[3]);
+        try_rules(text, length, limits, counts.errors, data[3], data[0] >> 5 ? SIZE_MAX : data[1]);
     }
     free(text);
     return 0;

@@ -29,6 +29,8 @@ export const STATUS: {
   readonly CYCLE: number;
   /** An operation leads to a spread of no fragment. */
   readonly UNDEFINED: number;
+  /** Too much to validate. No call of this package has this status. */
+  readonly UNDECIDED: number;
 };
 
 /** A whole number from 0 on, or null or Infinity for no limit. Another one is a RangeError, and what is no number a

@@ -39,6 +39,16 @@ def names(elements):
     return [element.name.text for element in elements]
 
 
+def chain(count):
+    """A text and the operations in it. Each declares a variable without a use, and spreads the first of as many
+    fragments. Each fragment spreads the next one. So an operation takes a step for itself and for each fragment, and
+    one for each spread in these: 2 * count + 1 steps."""
+    operations = [f"query Q{number}($v: T) {{ ...F0 }}" for number in range(count)]
+    bodies = [f"...F{number + 1}" for number in range(count - 1)] + ["a"]
+    fragments = [f"fragment F{number} on T {{ {body} }}" for number, body in enumerate(bodies)]
+    return "\n".join(line for pair in zip(operations, fragments) for line in pair), operations
+
+
 class Trees(unittest.TestCase):
     def test_tree(self):
         tree = dumyroke.parse("scalar")
@@ -387,6 +397,29 @@ class Validation(unittest.TestCase):
         self.assertEqual([len(dumyroke.validate(text, most)) for most in (0, 1, 17, 5000)], [0, 1, 17, 2000])
         self.assertEqual(len(dumyroke.validate(text)), 1000)
 
+    def test_steps(self):
+        text, operations = chain(3)
+        for steps, end in ((0, 0), (1, 1), (7, 1), (8, 2), (14, 2)):
+            with self.assertRaises(dumyroke.Undecided) as caught:
+                dumyroke.validate(text, max_steps=steps)
+            error = caught.exception
+            self.assertEqual(text[slice(*error.operation.span)], operations[end])
+            self.assertEqual([text[slice(*found.other.span)] for found in error.violations], operations[:end])
+            line = f"{1 + 2 * end}:1: too much to validate: the steps were used up before this operation"
+            self.assertEqual(str(error), line)
+        for steps in (15, 21, 2**64 - 1, 2**64, None):
+            self.assertEqual(len(dumyroke.validate(text, max_steps=steps)), 3)
+        self.assertEqual(len(dumyroke.validate(text, most=2, max_steps=8)), 2, "a list that is full is no error")
+        self.assertEqual(dumyroke.validate(text, most=0, max_steps=0), [])
+
+    def test_too_much(self):
+        text, operations = chain(1000)
+        end = -(-(1_000_000 + 10 * len(text)) // 2001)
+        with self.assertRaises(dumyroke.Undecided) as caught:
+            dumyroke.validate(text, most=None)
+        self.assertEqual(text[slice(*caught.exception.operation.span)], operations[end])
+        self.assertEqual(len(caught.exception.violations), end)
+
     def test_figures(self):
         text = "{ a a } query Q { b: a @d { b ...F } } fragment F on T { c d }"
         first, second = dumyroke.measure(text)
@@ -468,7 +501,7 @@ class Numbers(unittest.TestCase):
 
     def test_large(self):
         for number in LARGE:
-            self.assertEqual(len(dumyroke.validate(self.TWO, most=number)), 2)
+            self.assertEqual(len(dumyroke.validate(self.TWO, most=number, max_steps=number)), 2)
             for name, calls in self.CALLS.items():
                 for call in calls:
                     self.assertEqual(str(call("{a{b}}", **{name: number})), str(call("{a{b}}")), (call, name, number))
@@ -489,6 +522,7 @@ class Numbers(unittest.TestCase):
         dumyroke.parse("{a}", 1, 1)
         for number, error in WRONG:
             self.assertRaises(error, dumyroke.validate, self.TWO, most=number)
+            self.assertRaises(error, dumyroke.validate, self.TWO, max_steps=number)
             for name, calls in self.CALLS.items():
                 for call in calls:
                     self.assertRaises(error, call, "{a}", **{name: number})
@@ -554,6 +588,17 @@ class Copies(unittest.TestCase):
                     (dumyroke.NoFigures, str(error), error.reason, error.place.span),
                 )
                 self.assertEqual(same.other and same.other.position, error.other and error.other.position)
+
+    def test_undecided(self):
+        text, operations = chain(3)
+        with self.assertRaises(dumyroke.Undecided) as caught:
+            dumyroke.validate(text, max_steps=14)
+        error = caught.exception
+        for way in self.WAYS:
+            same = way(error)
+            self.assertEqual((type(same), str(same)), (dumyroke.Undecided, str(error)))
+            self.assertEqual(text[slice(*same.operation.span)], operations[2])
+            self.assertEqual([str(found) for found in same.violations], [str(found) for found in error.violations])
 
     def test_process_pool(self):
         """An exception of a process is raised here, and the pool goes on."""

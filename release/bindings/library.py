@@ -8,10 +8,10 @@ from pathlib import Path
 from .shared import BUILD, C, INCLUDE, PACKAGE, TOP, kit, need, rattle, run, static_library, stop, version
 
 CALLS = [
-    "dumyroke_format", "dumyroke_lex", "dumyroke_measure", "dumyroke_parse", "dumyroke_parse_selection_set",
-    "dumyroke_parse_type",
+    "dumyroke_default_steps", "dumyroke_format", "dumyroke_lex", "dumyroke_measure", "dumyroke_parse",
+    "dumyroke_parse_selection_set",
 ]
-CALLS += ["dumyroke_string_value", "dumyroke_validate"]
+CALLS += ["dumyroke_parse_type", "dumyroke_string_value", "dumyroke_validate"]
 
 
 def make_archive(archive):

@@ -27,7 +27,7 @@ PARTS = {
         gqlfmt_run/src/program.rt""",
     "C, Python and the page": """
         c_parsing/src/parse.rt c_parsing/src/items.rt c_parsing/src/strings.rt
-        c_parsing/src/format.rt c_parsing/src/laws.rt c_validation/src/violation_rows.rt
+        c_parsing/src/format.rt c_parsing/src/laws.rt c_validation/src/laws.rt c_validation/src/violation_rows.rt
         c_validation/src/operation_rows.rt c_exports/src/lib.rt""",
     "positions, and `gqlls`": """
         line_index/src editor_text/src rpc_messages/src rpc_serving/src editor_diagnostics/src editor_validation/src

@@ -35,7 +35,9 @@ enum dumyroke_status {
     DUMYROKE_CYCLE = 7,
     DUMYROKE_UNDEFINED = 8,
     /* The formatted text has more bytes than there is room for. Only from dumyroke_format. */
-    DUMYROKE_NO_ROOM = 9
+    DUMYROKE_NO_ROOM = 9,
+    /* Too much to validate: the steps were used up before an operation. What was found is written, as with DUMYROKE_OK. Only from dumyroke_validate. */
+    DUMYROKE_UNDECIDED = 10
 };
 
 /* The limits of a parse. Any number is allowed, and SIZE_MAX is no limit. C makes a number near SIZE_MAX of one below 0, so also no limit: a program that
@@ -221,32 +223,45 @@ typedef struct dumyroke_violation {
     uint32_t has_other;
 } dumyroke_violation;
 
-/* What dumyroke_validate found, whether or not there was room for it. All numbers are 0 unless the status is DUMYROKE_OK. */
+/* What dumyroke_validate found, whether or not there was room for it. All numbers are 0 unless the status is DUMYROKE_OK or DUMYROKE_UNDECIDED. */
 typedef struct dumyroke_violation_counts {
-    /* At most `most`. The text is a document that keeps all rules exactly if the status is DUMYROKE_OK, this is 0, and `most` is not. */
+    /* At most `most`. The text is a document that keeps all rules, and the steps suffice to say so, exactly if the status is DUMYROKE_OK, this is 0, and
+     * `most` is not. */
     size_t violations;
     /* The bytes of all messages together. */
     size_t message_bytes;
+    /* DUMYROKE_UNDECIDED: the operation before which validation ended. Otherwise zeros. */
+    size_t undecided_start, undecided_end;
     /* One of enum dumyroke_status, also the result of the call. */
     uint32_t status;
 } dumyroke_violation_counts;
 
+/* The limit of steps for dumyroke_validate, if there is no reason for another one: a million, and 10 for each byte of the text. */
+size_t dumyroke_default_steps(size_t text_length);
+
 /* Validates a document by the rules of dumyroke_rule, within both limits of a parse.
  *
  * Writes the violations and their messages, each as far as there is room, as dumyroke_parse does. They are in the order of the text, and no two are
- * the same. If there are fewer than `most`, they are all, and a second call needs just the counted room. With `most` violations that is tested, not
- * proved.
+ * the same. If the status is DUMYROKE_OK and there are fewer than `most`, they are all. A second call needs just the counted room.
+ *
+ * The rules on variables judge one operation after another, and this takes steps. An operation takes one for each definition that it reaches (itself, and
+ * the fragments that it spreads directly or through others), one for each spread of a fragment in these, and one for each name of a variable that one of
+ * these uses. A definition that uses a variable which the operation does not declare takes one for each use, too. Many operations may reach the same
+ * fragments, so a text of a megabyte could take a minute. If the operations before one took all steps, validation ends before it. The variables of this
+ * operation and of those after it are not judged; all else is. Then the status is DUMYROKE_UNDECIDED, unless `most` violations were found.
  *
  *   text       `text_length` bytes of UTF-8.
  *   most       how many violations are looked for at most: SIZE_MAX for all. With 0 nothing is looked for.
+ *   step_limit how many steps there are: SIZE_MAX for any number. With 0 the variables of no operation are judged.
  *   violations room for `violation_room` violations.
  *   messages   room for `message_room` bytes.
  *   counts     what there is. Never NULL.
  *
  * Any other pointer may be NULL where its length is 0. No two of the four may overlap.
  *
- * Returns DUMYROKE_OK, DUMYROKE_NOT_UTF8, DUMYROKE_NOT_A_DOCUMENT or DUMYROKE_NO_MEMORY. Unless it is DUMYROKE_OK, only `counts` is written. */
-uint32_t dumyroke_validate(const uint8_t *text, size_t text_length, dumyroke_limits limits, size_t most,
+ * Returns DUMYROKE_OK, DUMYROKE_UNDECIDED, DUMYROKE_NOT_UTF8, DUMYROKE_NOT_A_DOCUMENT or DUMYROKE_NO_MEMORY. With one of the last three only `counts` is
+ * written. */
+uint32_t dumyroke_validate(const uint8_t *text, size_t text_length, dumyroke_limits limits, size_t most, size_t step_limit,
                            dumyroke_violation *violations, size_t violation_room,
                            uint8_t *messages, size_t message_room,
                            dumyroke_violation_counts *counts);
@@ -294,7 +309,8 @@ typedef struct dumyroke_measure_counts {
  *
  * Any other pointer may be NULL where its length is 0. No two of the three may overlap.
  *
- * Returns one of enum dumyroke_status but DUMYROKE_TOO_LONG and DUMYROKE_NOT_A_STRING. Unless it is DUMYROKE_OK, only `counts` is written. */
+ * Returns DUMYROKE_OK, DUMYROKE_NOT_UTF8, DUMYROKE_NOT_A_DOCUMENT, DUMYROKE_SAME_NAME, DUMYROKE_CYCLE, DUMYROKE_UNDEFINED or DUMYROKE_NO_MEMORY. Unless
+ * it is DUMYROKE_OK, only `counts` is written. */
 uint32_t dumyroke_measure(const uint8_t *text, size_t text_length, dumyroke_limits limits,
                           dumyroke_operation *operations, size_t operation_room,
                           dumyroke_measure_counts *counts);

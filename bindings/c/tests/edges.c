@@ -1,5 +1,5 @@
 /* Calls at the edges: no text, no room, too little room, texts that are not UTF-8, strings that are none, parts of documents, items, both limits,
- * violations of rules, figures of operations, large numbers.
+ * violations of rules, steps of validation, figures of operations, large numbers.
  * Ends with status 1 at the first check that fails, and says which. */
 #include <stdio.h>
 #include <time.h>
@@ -98,7 +98,7 @@ static void large_limits(void)
         CHECK(part(dumyroke_parse_type, "[A]", large[i], large[i], &root, &counts) == DUMYROKE_OK && counts.errors == 0 && counts.text_bytes == 3);
         CHECK(part(dumyroke_parse_selection_set, "{a}", large[i], large[i], &root, &counts) == DUMYROKE_OK && counts.errors == 0);
         CHECK(dumyroke_lex(text, 21, large[i], NULL, 0, NULL, 0, NULL, 0, &counts) == DUMYROKE_OK && counts.elements == 18 && counts.errors == 0);
-        CHECK(dumyroke_validate(text, 21, limits, large[i], NULL, 0, NULL, 0, &found) == DUMYROKE_OK && found.violations == 2);
+        CHECK(dumyroke_validate(text, 21, limits, large[i], large[i], NULL, 0, NULL, 0, &found) == DUMYROKE_OK && found.violations == 2);
         CHECK(dumyroke_format(text, 21, limits, NULL, 0, &bytes) == DUMYROKE_NO_ROOM);
     }
 }
@@ -432,7 +432,8 @@ static uint32_t validate(const char *text, size_t most, dumyroke_violation *viol
 {
     memset(counts, UNTOUCHED, sizeof *counts);
     memset(said, UNTOUCHED, sizeof said);
-    return dumyroke_validate(bytes_of(text), strlen(text), dumyroke_default_limits(), most, violations, room, said, sizeof said, counts);
+    size_t length = strlen(text), steps = dumyroke_default_steps(length);
+    return dumyroke_validate(bytes_of(text), length, dumyroke_default_limits(), most, steps, violations, room, said, sizeof said, counts);
 }
 
 /* The standard forbids the spread of a fragment that is not defined (5.5.2.1) and a variable that is not used (5.8.4). The variable comes first in the
@@ -456,7 +457,7 @@ static void violations(void)
     CHECK(counts.message_bytes == 66 && !memcmp(said, messages, 67));
     CHECK(found[0].message == 0 && found[0].message_length == 45 && found[1].message == 45 && found[1].message_length == 21);
     memset(said, UNTOUCHED, sizeof said);
-    CHECK(dumyroke_validate(bytes_of(text), 27, dumyroke_default_limits(), 9, NULL, 0, said, 7, &counts) == DUMYROKE_OK && counts.message_bytes == 66);
+    CHECK(dumyroke_validate(bytes_of(text), 27, dumyroke_default_limits(), 9, 9, NULL, 0, said, 7, &counts) == DUMYROKE_OK && counts.message_bytes == 66);
     CHECK(!memcmp(said, "Variabl\xee", 8));
     CHECK(validate("union U = A | A", 9, found, 2, &counts) == DUMYROKE_OK && counts.violations == 1);
     CHECK(found[0].rule == DUMYROKE_UNIQUE_UNION_MEMBER_TYPES && found[0].start == 14 && found[0].other_start == 10);
@@ -470,8 +471,70 @@ static void violations(void)
     CHECK(validate("{a", 9, found, 2, &counts) == DUMYROKE_NOT_A_DOCUMENT && counts.violations == 0 && found[0].start == 14 && said[0] == UNTOUCHED);
     CHECK(validate("", 9, NULL, 0, &counts) == DUMYROKE_NOT_A_DOCUMENT && counts.status == DUMYROKE_NOT_A_DOCUMENT);
     CHECK(validate("{\xff}", 9, NULL, 0, &counts) == DUMYROKE_NOT_UTF8 && counts.violations == 0);
-    CHECK(dumyroke_validate(NULL, 0, shallow, 9, NULL, 0, NULL, 0, &counts) == DUMYROKE_NOT_A_DOCUMENT);
-    CHECK(dumyroke_validate(bytes_of("{a}"), 3, shallow, 9, NULL, 0, NULL, 0, &counts) == DUMYROKE_NOT_A_DOCUMENT);
+    CHECK(dumyroke_validate(NULL, 0, shallow, 9, 9, NULL, 0, NULL, 0, &counts) == DUMYROKE_NOT_A_DOCUMENT);
+    CHECK(dumyroke_validate(bytes_of("{a}"), 3, shallow, 9, 9, NULL, 0, NULL, 0, &counts) == DUMYROKE_NOT_A_DOCUMENT);
+    CHECK(!counts.undecided_start && !counts.undecided_end);
+}
+
+/* As many operations as fragments. Each operation spreads the first fragment, and each fragment the next one, so an operation takes a step for itself and
+ * for each fragment, and one for each spread in these. No variable is used. Each operation but the first declares one. */
+enum { OPERATIONS = 1000, STEPS = OPERATIONS + 1 + OPERATIONS };
+static char chain[100 * OPERATIONS];
+static size_t operation_at[OPERATIONS], operation_end[OPERATIONS];
+
+static size_t make_chain(void)
+{
+    size_t length = 0;
+    int i;
+    for (i = 0; i < OPERATIONS; i++) {
+        operation_at[i] = length;
+        length += (size_t)sprintf(chain + length, "query Q%d%s { ...F0 }", i, i ? "($v: T)" : "");
+        operation_end[i] = length;
+        if (i + 1 < OPERATIONS)
+            length += (size_t)sprintf(chain + length, " fragment F%d on T { ...F%d }", i, i + 1);
+    }
+    return length + (size_t)sprintf(chain + length, " fragment F%d on T { a }", OPERATIONS - 1);
+}
+
+/* Validates the chain, and checks that the operation with a number is named, and all violations before it are found. */
+static void ends_at(size_t number, size_t length, size_t step_limit)
+{
+    static dumyroke_violation found[OPERATIONS];
+    dumyroke_violation_counts counts;
+    size_t i;
+    CHECK(dumyroke_validate(bytes_of(chain), length, dumyroke_default_limits(), SIZE_MAX, step_limit, found, OPERATIONS, NULL, 0, &counts) == DUMYROKE_UNDECIDED);
+    CHECK(counts.status == DUMYROKE_UNDECIDED && counts.undecided_start == operation_at[number] && counts.undecided_end == operation_end[number]);
+    CHECK(counts.violations == (number ? number - 1 : 0) && (counts.message_bytes > 0) == (number > 1));
+    for (i = 0; i < counts.violations; i++)
+        CHECK(found[i].rule == DUMYROKE_NO_UNUSED_VARIABLES && found[i].other_start == operation_at[i + 1]);
+}
+
+/* Validates the chain with no room. */
+static uint32_t within(size_t length, size_t most, size_t step_limit, dumyroke_violation_counts *counts)
+{
+    return dumyroke_validate(bytes_of(chain), length, dumyroke_default_limits(), most, step_limit, NULL, 0, NULL, 0, counts);
+}
+
+static void steps(void)
+{
+    dumyroke_violation_counts counts;
+    size_t length = make_chain(), usual = 1000000 + 10 * length, before_last = STEPS * (OPERATIONS - 1), i;
+    const size_t enough[] = {before_last + 1, SIZE_MAX - 1, SIZE_MAX};
+    CHECK(dumyroke_default_steps(length) == usual && dumyroke_default_steps(0) == 1000000 && dumyroke_default_steps(SIZE_MAX) == SIZE_MAX);
+    ends_at(0, length, 0);
+    ends_at(1, length, 1);
+    ends_at(1, length, STEPS);
+    ends_at(2, length, STEPS + 1);
+    ends_at(OPERATIONS - 1, length, before_last);
+    ends_at((usual + STEPS - 1) / STEPS, length, usual);
+    for (i = 0; i < sizeof enough / sizeof *enough; i++) {
+        CHECK(within(length, SIZE_MAX, enough[i], &counts) == DUMYROKE_OK && counts.violations == OPERATIONS - 1);
+        CHECK(!counts.undecided_start && !counts.undecided_end);
+    }
+    /* a list that is full names no operation */
+    CHECK(within(length, 1, STEPS, &counts) == DUMYROKE_UNDECIDED && counts.violations == 0);
+    CHECK(within(length, 1, STEPS + 1, &counts) == DUMYROKE_OK && counts.violations == 1 && !counts.undecided_end);
+    CHECK(within(length, 0, 0, &counts) == DUMYROKE_OK && counts.violations == 0);
 }
 
 static uint32_t measure(const char *text, dumyroke_operation *operations, size_t room, dumyroke_measure_counts *counts)
@@ -552,6 +615,7 @@ int main(void)
     strings();
     formatted();
     violations();
+    steps();
     figures();
     no_figures();
     return 0;

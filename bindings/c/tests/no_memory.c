@@ -30,7 +30,7 @@ static int all_give(uint32_t status)
 {
     const uint8_t *source = (const uint8_t *)text;
     dumyroke_counts counts = {1, 1, 1, 1, 1, 1, 1};
-    dumyroke_violation_counts violations = {1, 1, 1};
+    dumyroke_violation_counts violations = {1, 1, 1, 1, 1};
     dumyroke_measure_counts measured = {1, 1, 1, 1, 1, 1};
     dumyroke_tree tree;
     size_t bytes = 1;
@@ -42,8 +42,8 @@ static int all_give(uint32_t status)
         && (counts.elements == 0) == (status != DUMYROKE_OK)
         && dumyroke_format(source, LENGTH, dumyroke_default_limits(), formatted, sizeof formatted, &bytes) == status
         && (bytes == 0) == (status != DUMYROKE_OK)
-        && dumyroke_validate(source, LENGTH, dumyroke_default_limits(), SIZE_MAX, NULL, 0, NULL, 0, &violations) == status
-        && violations.violations == 0 && violations.message_bytes == 0 && violations.status == status
+        && dumyroke_validate(source, LENGTH, dumyroke_default_limits(), SIZE_MAX, SIZE_MAX, NULL, 0, NULL, 0, &violations) == status
+        && violations.violations == 0 && violations.message_bytes == 0 && violations.undecided_end == 0 && violations.status == status
         && dumyroke_measure(source, LENGTH, dumyroke_default_limits(), NULL, 0, &measured) == status
         && measured.operations == (status == DUMYROKE_OK) && measured.end == 0
         && dumyroke_tree_parse(&tree, text, LENGTH, dumyroke_default_limits()) == status;

@@ -24,7 +24,9 @@ from .errors import Error, Errors
 from .items import Item
 from .positions import Position
 from .tree import Element, Node, Token, Tree
-from .validation import Exceeded, Figures, NoFigures, Operation, Violation, check_limits, measure, validate
+from .validation import (
+    Exceeded, Figures, NoFigures, Operation, Undecided, Violation, check_limits, measure, validate,
+)
 
 __version__ = "0.1.0"
 
@@ -33,6 +35,6 @@ __all__ = [
     "nodes", "parse",
 ]
 __all__ += [
-    "parse_selection_set", "parse_type", "Exceeded", "Figures", "NoFigures", "Operation", "Violation", "check_limits",
-    "measure", "validate",
+    "parse_selection_set", "parse_type", "Exceeded", "Figures", "NoFigures", "Operation", "Undecided", "Violation",
+    "check_limits", "measure", "validate",
 ]

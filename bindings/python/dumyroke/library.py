@@ -38,10 +38,14 @@ format_document = _library.dumyroke_format
 format_document.restype = c_uint32
 format_document.argtypes = [c_char_p, c_size_t, Limits, c_void_p, c_size_t, POINTER(c_size_t)]
 
+default_steps = _library.dumyroke_default_steps
+default_steps.restype = c_size_t
+default_steps.argtypes = [c_size_t]
+
 validate = _library.dumyroke_validate
 validate.restype = c_uint32
 validate.argtypes = [
-    c_char_p, c_size_t, Limits, c_size_t, c_void_p, c_size_t, c_void_p, c_size_t, POINTER(ViolationCounts),
+    c_char_p, c_size_t, Limits, c_size_t, c_size_t, c_void_p, c_size_t, c_void_p, c_size_t, POINTER(ViolationCounts),
 ]
 
 measure = _library.dumyroke_measure

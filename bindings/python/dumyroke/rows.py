@@ -13,6 +13,7 @@ NO_ROOM = 9
 SAME_NAME = 6
 CYCLE = 7
 UNDEFINED = 8
+UNDECIDED = 10
 
 RULES = (
     "ExecutableDefinitions",
@@ -98,6 +99,8 @@ class ViolationCounts(Structure):
     _fields_ = [
         ("violations", c_size_t),
         ("message_bytes", c_size_t),
+        ("undecided_start", c_size_t),
+        ("undecided_end", c_size_t),
         ("status", c_uint32),
     ]
 

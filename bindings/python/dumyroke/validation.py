@@ -10,7 +10,8 @@ from .calls import NotADocument, Text, check, given
 from .library import number
 from .positions import Placed, Positions
 from .rows import (
-    CYCLE, NOT_A_DOCUMENT, OK, RULES, SAME_NAME, UNDEFINED, MeasureCounts, OperationRow, ViolationCounts, ViolationRow,
+    CYCLE, NOT_A_DOCUMENT, OK, RULES, SAME_NAME, UNDECIDED, UNDEFINED, MeasureCounts, OperationRow, ViolationCounts,
+    ViolationRow,
 )
 
 # Room for a first call, which is enough for most texts.
@@ -44,8 +45,30 @@ class Violation(Placed):
         return f"<{self.rule} {self.range[0]}..{self.range[1]}>"
 
 
+class Undecided(ValueError):
+    """Too much to validate: the steps were used up before an operation. Its words are `LINE:COLUMN: REASON`."""
+
+    operation: Placed
+    """The operation. Its variables and those of later operations are not judged."""
+    violations: list[Violation]
+    """The violations that were found."""
+
+    def __init__(self, operation: Placed, violations: list[Violation]):
+        at = operation.position
+        super().__init__(f"{at.line}:{at.column}: too much to validate: the steps were used up before this operation")
+        self.operation, self.violations = operation, violations
+
+    def __reduce__(self) -> tuple[Any, ...]:
+        """As that of `NotADocument`."""
+        return type(self), (self.operation, self.violations), self.__dict__
+
+
 def validate(
-    text: Text, most: int | None = 1000, recursion_limit: int | None = 500, token_limit: int | None = None
+    text: Text,
+    most: int | None = 1000,
+    recursion_limit: int | None = 500,
+    token_limit: int | None = None,
+    max_steps: int | None = None,
 ) -> list[Violation]:
     """The places at which a document breaks a rule of the standard's section 5 that needs no schema, in the order of
     the text: at most so many, or all with None. No two are the same. If there are fewer, they are all, and unless
@@ -53,23 +76,33 @@ def validate(
     one definition may not have twice: fields, arguments, input fields, enum values, union members and interfaces of one
     name.
 
-    Raises `NotADocument` with the errors if the text is none within both limits, and else as `parse` does."""
+    `max_steps` is how many steps the rules on variables may take, if not given a million, and 10 for each byte of the
+    text. These rules judge one operation after another. An operation takes a step for each definition that it reaches,
+    for each spread of a fragment in these, and for each name of a variable that one of these uses. A definition that
+    uses a variable which the operation does not declare takes a step for each use, too.
+
+    Raises `NotADocument` with the errors if the text is none within both limits; `Undecided` if the operations before
+    one took all steps, unless `most` violations were found; and else as `parse` does."""
     source, limits = given(text, recursion_limit, token_limit)
     at_most = number("most", most)
+    steps = library.default_steps(len(source)) if max_steps is None else number("max_steps", max_steps)
     rows, room = _FEW_ROWS, _FEW_MESSAGE_BYTES
     while True:
         found, messages, counts = (ViolationRow * rows)(), bytearray(room), ViolationCounts()
         words = library.place(messages), room, ctypes.byref(counts)
-        status = library.validate(source, len(source), limits, at_most, ctypes.byref(found), rows, *words)
+        status = library.validate(source, len(source), limits, at_most, steps, ctypes.byref(found), rows, *words)
         _raise_for(status, source, recursion_limit, token_limit)
         if counts.violations <= rows and counts.message_bytes <= room:
             break
         rows, room = counts.violations, max(counts.message_bytes, 1)
     positions = Positions(source)
-    return [
+    violations = [
         Violation(row, messages[row.message : row.message + row.message_length].decode(), positions)
         for row in found[: counts.violations]
     ]
+    if status == UNDECIDED:
+        raise Undecided(Placed((counts.undecided_start, counts.undecided_end), positions), violations)
+    return violations
 
 
 class Figures(NamedTuple):

@@ -39,11 +39,13 @@ class Summary:
 
 
 def fault_of(query: str) -> str | None:
-    """The first rule that a document breaks, or "syntax"; None if it keeps all."""
+    """The first rule that a document breaks, or "syntax", or "too much to validate"; None if it keeps all."""
     try:
         violations = dumyroke.validate(query, most=1)
     except (dumyroke.NotADocument, UnicodeError):
         return "syntax"
+    except dumyroke.Undecided:
+        return "too much to validate"
     return violations[0].rule if violations else None
 
 

@@ -16,7 +16,7 @@
 #![deny(unsafe_op_in_unsafe_fn)]
 
 use crate::rows::{CompactElement, Counts, ErrorRow, ItemRow, Limits, MeasureCounts, OperationRow, ViolationCounts, ViolationRow};
-use crate::rows::{CYCLE, NOT_A_DOCUMENT, NO_MEMORY, OK, SAME_NAME, TOO_LONG, UNDEFINED};
+use crate::rows::{CYCLE, NOT_A_DOCUMENT, NO_MEMORY, OK, SAME_NAME, TOO_LONG, UNDECIDED, UNDEFINED};
 use crate::{Error, SyntaxKind};
 use std::alloc::{handle_alloc_error, Layout};
 use std::mem::{size_of_val, MaybeUninit};
@@ -57,11 +57,14 @@ extern "C" {
 
     fn dumyroke_string_value(literal: *const u8, literal_length: usize, value: *mut MaybeUninit<u8>, room: usize, bytes: *mut usize) -> u32;
 
+    fn dumyroke_default_steps(text_length: usize) -> usize;
+
     fn dumyroke_validate(
         text: *const u8,
         text_length: usize,
         limits: Limits,
         most: usize,
+        step_limit: usize,
         violations: *mut MaybeUninit<ViolationRow>,
         violation_room: usize,
         messages: *mut MaybeUninit<u8>,
@@ -294,8 +297,14 @@ pub(crate) fn string_value(literal: &str) -> Option<String> {
     }
 }
 
-/// The violations of a document with the bytes of their messages, at most so many; `None` if the text is no document within both limits.
-pub(crate) fn validate(text: &str, limits: Limits, most: usize) -> Option<(Vec<ViolationRow>, Vec<u8>)> {
+/// The limit of steps for a text of so many bytes, if there is no reason for another one.
+pub(crate) fn default_steps(bytes: usize) -> usize {
+    // SAFETY: it takes and gives a number, and touches no memory
+    unsafe { dumyroke_default_steps(bytes) }
+}
+
+/// The violations of a document with the bytes of their messages, and the counts; `None` if the text is no document within both limits.
+pub(crate) fn validate(text: &str, limits: Limits, most: usize, steps: usize) -> Option<(Vec<ViolationRow>, Vec<u8>, ViolationCounts)> {
     let mut counts = ViolationCounts::default();
     let (mut rows, mut messages) = (Vec::with_capacity(most.min(FEW_ERRORS)), Vec::with_capacity(FEW_BYTES));
     loop {
@@ -304,14 +313,14 @@ pub(crate) fn validate(text: &str, limits: Limits, most: usize) -> Option<(Vec<V
         // SAFETY: as in `parse`
         let status = unsafe {
             let (violations, bytes) = (row_room.as_mut_ptr(), room.as_mut_ptr());
-            dumyroke_validate(text.as_ptr(), text.len(), limits, most, violations, row_room.len(), bytes, room.len(), &mut counts)
+            dumyroke_validate(text.as_ptr(), text.len(), limits, most, steps, violations, row_room.len(), bytes, room.len(), &mut counts)
         };
         match status {
-            OK if counts.violations <= rows.capacity() && counts.message_bytes <= messages.capacity() => {
-                // SAFETY: the call had the status OK and this room, which is enough for what it counts, so it wrote all of it
-                return Some(unsafe { (filled(rows, counts.violations), filled(messages, counts.message_bytes)) });
+            OK | UNDECIDED if counts.violations <= rows.capacity() && counts.message_bytes <= messages.capacity() => {
+                // SAFETY: the call had one of these statuses and this room, which is enough for what it counts, so it wrote all of it
+                return Some(unsafe { (filled(rows, counts.violations), filled(messages, counts.message_bytes), counts) });
             }
-            OK => {
+            OK | UNDECIDED => {
                 rows.reserve_exact(counts.violations);
                 messages.reserve_exact(counts.message_bytes);
             }

@@ -12,6 +12,7 @@ pub(crate) const NO_ROOM: u32 = 9;
 pub(crate) const SAME_NAME: u32 = 6;
 pub(crate) const CYCLE: u32 = 7;
 pub(crate) const UNDEFINED: u32 = 8;
+pub(crate) const UNDECIDED: u32 = 10;
 
 /// `dumyroke_limits`
 #[repr(C)]
@@ -87,6 +88,8 @@ pub(crate) struct ViolationRow {
 pub(crate) struct ViolationCounts {
     pub(crate) violations: usize,
     pub(crate) message_bytes: usize,
+    pub(crate) undecided_start: usize,
+    pub(crate) undecided_end: usize,
     pub(crate) status: u32,
 }
 

@@ -18,9 +18,32 @@ pub struct Violation {
     pub message: String,
 }
 
+/// Why the violations of a document are not known, or not all of them.
+#[derive(Debug, Clone, PartialEq, Eq)]
+pub enum ValidationError {
+    /// The text is no document within both limits: the errors of its parse.
+    NotADocument(Vec<Error>),
+    /// Too much to validate: the steps were used up before this operation, the bytes of which are given. Its variables and those of later operations are
+    /// not judged. The violations are those that were found.
+    Undecided(Range<usize>, Vec<Violation>),
+}
+
+impl fmt::Display for ValidationError {
+    fn fmt(&self, f: &mut fmt::Formatter<'_>) -> fmt::Result {
+        match self {
+            ValidationError::NotADocument(_) => write!(f, "the text is no document"),
+            ValidationError::Undecided(operation, _) => {
+                write!(f, "too much to validate: the steps were used up before the operation at the byte {}", operation.start)
+            }
+        }
+    }
+}
+
+impl std::error::Error for ValidationError {}
+
 /// The places at which a document breaks a [`Rule`], at most `most` of them, in the order of the text. No two are the same. If there are fewer, they are
 /// all, and there are none exactly if the document keeps all these rules. A document of the type system is judged only by those on what one definition
-/// has twice.
+/// has twice. The rules on variables have [`default_steps`] for the text.
 ///
 /// ```
 /// use dumyroke::validation::{validate, Rule};
@@ -32,10 +55,34 @@ pub struct Violation {
 ///
 /// # Errors
 ///
-/// Those of the parse, if the text is no document within both limits.
-pub fn validate(parser: Parser<'_>, most: usize) -> Result<Vec<Violation>, Vec<Error>> {
-    let Some((rows, messages)) = ffi::validate(parser.text, parser.limits, most) else {
-        return Err(parser.parse().errors().cloned().collect());
+/// See [`ValidationError`].
+pub fn validate(parser: Parser<'_>, most: usize) -> Result<Vec<Violation>, ValidationError> {
+    let steps = default_steps(parser.text.len());
+    validate_within(parser, most, steps)
+}
+
+/// The same with another number of steps, `usize::MAX` for any number.
+///
+/// The rules on variables judge one operation after another. An operation takes a step for each definition that it reaches, for each spread of a fragment in
+/// these, and for each name of a variable that one of these uses. A definition that uses a variable which the operation does not declare takes a step for
+/// each use, too. If the operations before one took all steps, validation ends before it: see [`ValidationError::Undecided`]. If `most` violations were
+/// found, that is no error.
+///
+/// ```
+/// use dumyroke::validation::{validate_within, ValidationError};
+/// use dumyroke::Parser;
+///
+/// // each operation takes one step
+/// let found = validate_within(Parser::new("query A { a } query B { b }"), 10, 1);
+/// assert_eq!(found, Err(ValidationError::Undecided(14..27, vec![])));
+/// ```
+///
+/// # Errors
+///
+/// See [`ValidationError`].
+pub fn validate_within(parser: Parser<'_>, most: usize, steps: usize) -> Result<Vec<Violation>, ValidationError> {
+    let Some((rows, messages, counts)) = ffi::validate(parser.text, parser.limits, most, steps) else {
+        return Err(ValidationError::NotADocument(parser.parse().errors().cloned().collect()));
     };
     let violation = |row: &crate::rows::ViolationRow| Violation {
         rule: crate::rows::RULES[row.rule as usize],
@@ -43,7 +90,16 @@ pub fn validate(parser: Parser<'_>, most: usize) -> Result<Vec<Violation>, Vec<E
         other: (row.has_other != 0).then_some(row.other_start..row.other_end),
         message: String::from_utf8_lossy(&messages[row.message..row.message + row.message_length]).into_owned(),
     };
-    Ok(rows.iter().map(violation).collect())
+    let violations = rows.iter().map(violation).collect();
+    match counts.status {
+        crate::rows::UNDECIDED => Err(ValidationError::Undecided(counts.undecided_start..counts.undecided_end, violations)),
+        _ => Ok(violations),
+    }
+}
+
+/// The steps of [`validate`] for a text of so many bytes: a million, and 10 for each byte.
+pub fn default_steps(bytes: usize) -> usize {
+    ffi::default_steps(bytes)
 }
 
 /// How large an operation is with the selections of its fragment in place of each fragment spread. A figure stops at `u64::MAX`.

@@ -1,5 +1,5 @@
 //! Violations of rules, and figures of operations.
-use dumyroke::validation::{measure, validate, MeasureError, Rule};
+use dumyroke::validation::{default_steps, measure, validate, validate_within, MeasureError, Rule, ValidationError};
 use dumyroke::Parser;
 
 fn rules(text: &str) -> Vec<Rule> {
@@ -62,12 +62,61 @@ fn large_limits() {
     let parser = |text, limit| Parser::new(text).recursion_limit(limit).token_limit(limit);
     for limit in large() {
         assert_eq!(validate(parser("{...F ...G a { b }}", limit), limit).unwrap().len(), 2);
+        assert_eq!(validate_within(parser("{...F ...G a { b }}", limit), limit, limit).unwrap().len(), 2);
         assert_eq!(measure(parser("{a {b}}", limit)).unwrap()[0].figures.depth, 2);
         assert_eq!(parser("{a {b}}", limit).parse().errors().len(), 0);
         assert_eq!(parser("{a {b}}", limit).parse_selection_set().errors().len(), 0);
         assert_eq!(parser("[A]", limit).parse_type().errors().len(), 0);
         assert_eq!(dumyroke::Lexer::new("{a}").with_limit(limit).lex().1.len(), 0);
     }
+}
+
+/// Operations that declare a variable without a use, as many as there are fragments: they spread the first fragment, and each fragment the next one. With it
+/// the bytes of each operation.
+fn chain(count: usize) -> (String, Vec<std::ops::Range<usize>>) {
+    let (mut text, mut operations) = (String::new(), Vec::new());
+    for number in 0..count {
+        let start = text.len();
+        text += &format!("query Q{number}($v: T) {{ ...F0 }}");
+        operations.push(start..text.len());
+        let next = if number + 1 < count { format!("...F{}", number + 1) } else { "a".into() };
+        text += &format!(" fragment F{number} on T {{ {next} }}\n");
+    }
+    (text, operations)
+}
+
+/// Each operation of a chain reaches itself and the fragments, with a spread in each but the last.
+fn steps_of_an_operation(count: usize) -> usize {
+    (count + 1) + count
+}
+
+#[test]
+fn steps_that_are_used_up() {
+    let (text, operations) = chain(3);
+    let judged = |steps| validate_within(Parser::new(&text), 100, steps);
+    for (steps, end) in [(0, 0), (1, 1), (7, 1), (8, 2), (14, 2)] {
+        let Err(ValidationError::Undecided(operation, violations)) = judged(steps) else { panic!("{steps} steps suffice") };
+        assert_eq!(operation, operations[end]);
+        assert_eq!(violations.iter().map(|found| found.other.clone().unwrap()).collect::<Vec<_>>(), operations[..end]);
+    }
+    for steps in [15, 21, usize::MAX - 1, usize::MAX] {
+        assert_eq!(judged(steps).unwrap().len(), 3);
+    }
+    // a list that is full is no error
+    assert_eq!(validate_within(Parser::new(&text), 2, 8).unwrap().len(), 2);
+    assert_eq!(validate_within(Parser::new(&text), 0, 0), Ok(vec![]));
+}
+
+#[test]
+fn too_much_to_validate() {
+    let (text, operations) = chain(1000);
+    let limit = 1_000_000 + 10 * text.len();
+    assert_eq!(default_steps(text.len()), limit);
+    let end = limit.div_ceil(steps_of_an_operation(1000));
+    let error = validate(Parser::new(&text), usize::MAX).unwrap_err();
+    assert_eq!(error.to_string(), format!("too much to validate: the steps were used up before the operation at the byte {}", operations[end].start));
+    let ValidationError::Undecided(operation, violations) = error else { panic!("it is a document") };
+    assert_eq!((operation, violations.len()), (operations[end].clone(), end));
 }
 
 #[test]
@@ -89,5 +138,5 @@ fn no_figures() {
     assert!(matches!(error("{a"), MeasureError::NotADocument(errors) if errors.len() == 1));
     let deep = || Parser::new("{a{b}}").recursion_limit(1);
     assert!(matches!(measure(deep()), Err(MeasureError::NotADocument(errors)) if errors[0].is_limit()));
-    assert!(validate(deep(), 1).unwrap_err()[0].is_limit());
+    assert!(matches!(validate(deep(), 1), Err(ValidationError::NotADocument(errors)) if errors[0].is_limit()));
 }

@@ -4,7 +4,7 @@
 //! each of them.
 #![tactic(auto)]
 
-ghost use Rattle.std.specs.Prelude.{◌≡◌};
+ghost use Rattle.std.specs.Prelude.{◌≡◌, ◌+◌, ◌*◌, ◌-◌, ◌^◌, min};
 ghost use Rattle.c_parsing.specs.Items.{ItemsOutcome};
 ghost use Rattle.c_parsing.specs.Outcomes.{FormatOutcome, Outcome, SelectionSetOutcome, StringOutcome, TypeOutcome};
 ghost use Rattle.c_validation.specs.Outcomes.{MeasureOutcome, ValidationOutcome};
@@ -14,7 +14,8 @@ use c_parsing::{
     parse_selection_set_into, parse_type_into, string_value_into,
 };
 use c_validation::{
-    MeasureCounts, OperationRow, ViolationCounts, ViolationRow, measure_into, validate_into,
+    MeasureCounts, OperationRow, ViolationCounts, ViolationRow, default_steps, measure_into,
+    validate_into,
 };
 use std::alloc::Global;
 
@@ -130,6 +131,15 @@ pub extern "C" fn dumyroke_format(
     count.status
 }
 
+/// `default_steps` of `variable_rules`: the limit of steps for a text of this number of bytes, if there is no reason
+/// for another one.
+#[unsafe(no_mangle)]
+pub extern "C" fn dumyroke_default_steps(text_length: usize) -> usize
+    ensures { result ≡ min (1000000 + 10 * text_length) (2 ^ 64 - 1) }
+{
+    default_steps(text_length)
+}
+
 /// `validate_into`. It answers the status of the counts.
 #[unsafe(no_mangle)]
 pub extern "C" fn dumyroke_validate(
@@ -137,16 +147,19 @@ pub extern "C" fn dumyroke_validate(
     source: &[u8],
     limits: Limits,
     most: usize,
+    step_limit: usize,
     violations: &mut [ViolationRow],
     messages: &mut [u8],
     counts: &mut ViolationCounts,
 ) -> u32
     ensures status { result ≡ counts.new.status }
-    ensures outcome { ValidationOutcome source.now limits.recursion limits.tokens most
+    ensures outcome { ValidationOutcome source.now limits.recursion limits.tokens most step_limit
         (record { violations = violations.old; messages = messages.old })
         (record { violations = violations.new; messages = messages.new }) counts.new }
 {
-    *counts = validate_into(alloc, source, limits, most, violations, messages);
+    *counts = validate_into(
+        alloc, source, limits, most, step_limit, violations, messages,
+    );
     counts.status
 }
 

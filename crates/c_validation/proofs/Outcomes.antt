@@ -1,8 +1,9 @@
 -- What a call gives, by its status.
-use Rattle.std.proofs.Common.{◌≡◌, ◌∙◌, ℕ, List, length, map, ap, [], ◌∷◌}
+use Rattle.std.proofs.Common.{◌≡◌, ◌∙◌, ℕ, List, length, map, ap, [], ◌∷◌, option_map}
 use Rattle.std.proofs.lemmas.List.{length-map}
 use Rattle.apollo_parser.specs.Filled.{filled}
 use Rattle.apollo_parser.specs.Parsed.{Parsed}
+use Rattle.apollo_tree.specs.References.{node_place}
 use Rattle.validation_names.specs.Definitions.{defined}
 use Rattle.cost_limits.specs.Measures.{AreMeasures, IsMeasureError, Measure, everything}
 use Rattle.cost_limits.specs.declared.measures.MeasureError.{MeasureError}
@@ -14,31 +15,39 @@ use Rattle.c_validation.specs.declared.rows.ViolationRow.{ViolationRow}
 use Rattle.c_validation.specs.declared.violation_rows.Report.{Report}
 use Rattle.c_validation.specs.Rows.{messages, operation_row, violation_rows}
 use Rattle.c_validation.specs.Outcomes.{IsDocumentParse, IsRefusal, IsReport, MeasureOutcome, ValidationOutcome}
-use Rattle.c_validation.specs.Outcomes.{ViolationBuffers, fault_counts, no_measures, no_violations, root, measured}
+use Rattle.c_validation.specs.Outcomes.{ViolationBuffers, counts_of, fault_counts, limit_of, no_measures}
+use Rattle.c_validation.specs.Outcomes.{no_violations, root, violation_counts, measured}
 use Rattle.c_validation.specs.Outcomes.{not_measurable, not_measured, not_validated, validated}
 use Rattle.c_validation.proofs.Reports.{length-rows}
 
-pub no-validation : (source : List ℕ) (r k most status : ℕ) (before : ViolationBuffers) (counts : ViolationCounts)
+pub no-validation : (source : List ℕ) (r k most steps status : ℕ) (before : ViolationBuffers)
+    (counts : ViolationCounts)
     → counts ≡ no_violations status
-    → IsRefusal source r k status → ValidationOutcome source r k most before before counts
-no-validation source r k most status before counts is why = rw is (not_validated why)
+    → IsRefusal source r k status → ValidationOutcome source r k most steps before before counts
+no-validation source r k most steps status before counts is why = rw is (not_validated why)
 
-pub of-report : (source : List ℕ) (r k most : ℕ) (parsed : Parsed) (report : Report) (before : ViolationBuffers)
-    (rows : List ViolationRow) (said : List ℕ)
-    (count bytes : ℕ) → IsDocumentParse source r k parsed → IsReport most (root parsed) report
+pub of-report : (source : List ℕ) (r k most steps : ℕ) (parsed : Parsed) (report : Report) (before : ViolationBuffers)
+    (rows : List ViolationRow) (said : List ℕ) (count bytes : ℕ) (counts : ViolationCounts)
+    → IsDocumentParse source r k parsed
+    → IsReport most (limit_of steps) (root parsed) report
     → rows ≡ filled before.violations report.rows.items
     → said ≡ filled before.messages report.messages.items → count ≡ length report.rows.items
     → bytes ≡ length report.messages.items
-    → ValidationOutcome source r k most before (record { violations = rows; messages = said })
-    (record { violations = count; message_bytes = bytes; status = OK })
-of-report source r k most parsed report before rows said count bytes document is rs ms c b =
-    let filled_rows : rows ≡ filled before.violations (violation_rows 0 is.breaches) =
+    → counts ≡ counts_of count bytes (option_map node_place report.undecided)
+    → ValidationOutcome source r k most steps before (record { violations = rows; messages = said }) counts
+of-report source r k most steps parsed report before rows said count bytes counts document is rs ms c b cs =
+    let found = is.found in
+    let filled_rows : rows ≡ filled before.violations (violation_rows 0 found.breaches) =
     rs ∙ ap (λ (xs : List ViolationRow). filled before.violations xs) is.rows in
-    let filled_words : said ≡ filled before.messages (messages is.breaches) =
+    let filled_words : said ≡ filled before.messages (messages found.breaches) =
     ms ∙ ap (λ (xs : List ℕ). filled before.messages xs) is.messages in
-    let counted : count ≡ length is.breaches = c ∙ ap length is.rows ∙ length-rows 0 is.breaches in
-    let spoken : bytes ≡ length (messages is.breaches) = b ∙ ap length is.messages in
-    rw (filled_rows, filled_words, counted, spoken) (validated document is.found)
+    let counted : count ≡ length found.breaches = c ∙ ap length is.rows ∙ length-rows 0 found.breaches in
+    let spoken : bytes ≡ length (messages found.breaches) = b ∙ ap length is.messages in
+    let all : counts ≡ violation_counts found =
+    cs ∙ ap (λ n. counts_of n bytes (option_map node_place report.undecided)) counted
+    ∙ ap (λ n. counts_of (length found.breaches) n (option_map node_place report.undecided)) spoken
+    ∙ ap (counts_of (length found.breaches) (length (messages found.breaches))) is.undecided in
+    rw (filled_rows, filled_words, all) (validated document is.is)
 
 pub no-measure : (source : List ℕ) (r k status : ℕ) (before : List OperationRow) (counts : MeasureCounts)
     → counts ≡ no_measures status

@@ -1,7 +1,6 @@
 -- The rows of violations and their messages, one after another.
 use Rattle.std.proofs.Common.{◌≡◌, ◌∙◌, ◌<◌, ◌+◌, ap, sym, suc, ℕ, List, [], ◌∷◌, ◌++◌, length, map, take, get_or, refl}
 use Rattle.std.proofs.Common.{arith}
-use Rattle.std.specs.Prelude.{◌↔◌}
 use Rattle.std.proofs.lemmas.List.{append-nil, length-append, map_more}
 use Rattle.std.proofs.lemmas.Grind.{flat_map-append}
 use Rattle.validation_rules.specs.declared.violations.Violation.{Violation}
@@ -61,10 +60,7 @@ pub length-rows : (offset : ℕ) (bs : List Breach) → length (violation_rows o
 length-rows offset [] = refl
 length-rows offset (b ∷ bs) = ap suc (length-rows (offset + length (message_of b)) bs)
 
--- there are no breaches exactly if there are no violations
-no-violations : (vs : List Violation) → map as_breach vs ≡ [] → vs ≡ []
+-- there are no violations where there are no breaches
+pub no-violations : (vs : List Violation) → map as_breach vs ≡ [] → vs ≡ []
 no-violations [] none = refl
 no-violations (v ∷ vs) none = absurd (cc)
-
-pub none-of : {P : Type 0} (vs : List Violation) → (vs ≡ []) ↔ P → (map as_breach vs ≡ []) ↔ P
-none-of vs iff = ((λ none. iff.0 (no-violations vs none)), (λ p. ap (map as_breach) (iff.1 p)))

@@ -2,3 +2,4 @@
 pub mod Rows
 pub mod Outcomes
 pub mod Again
+pub mod ValidTexts

@@ -13,6 +13,7 @@ mod rows;
 mod violation_rows;
 
 pub use c_parsing::Limits;
+pub use document_validation::default_steps;
 pub use operation_rows::measure_into;
 pub use rows::{MeasureCounts, OperationRow, ViolationCounts, ViolationRow, status};
 pub use violation_rows::validate_into;

@@ -1,7 +1,8 @@
 // The structs that C reads and writes.
 use std::mem::size_of;
 
-/// How a call ended: the numbers of `c_parsing`, and those of a document whose operations have no figures.
+/// How a call ended: the numbers of `c_parsing`, those of a document whose operations have no figures, and one for a
+/// validation that ended early.
 pub mod status {
     pub use c_parsing::status::{NO_MEMORY, NOT_A_DOCUMENT, NOT_UTF8, OK};
 
@@ -13,6 +14,9 @@ pub mod status {
 
     /// An operation leads to a spread of a fragment that is not defined.
     pub const UNDEFINED: u32 = 8;
+
+    /// Validation ended before an operation, since the steps were used up.
+    pub const UNDECIDED: u32 = 10;
 }
 
 /// A violation of a rule. Offsets are in bytes of the text.
@@ -48,6 +52,10 @@ pub struct ViolationCounts {
     pub violations: usize,
     /// How many bytes all messages have.
     pub message_bytes: usize,
+    /// Where the operation begins before which validation ended; 0 where there is none.
+    pub undecided_start: usize,
+    /// Where that operation has ended; 0 where there is none.
+    pub undecided_end: usize,
     /// One of the numbers of the module `status`.
     pub status: u32,
 }
