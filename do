@@ -33,8 +33,8 @@ Before a merge, and after it:
   release [trial]    makes build/release/, or tries it in a bare Debian: programs, libraries, the
                      page, packages for Debian, Python, Rust, npm and VS Code
   bench [NAME [..]]  measures the programs of rt ci: small, parse, hostile, stack, format, server,
-                     walks, c, python, crowded and threads. Without a name it measures all of these.
-                     query_log and fuzz want their names
+                     walks, queries, c, python, crowded and threads. Without a name it measures all of
+                     these. query_log and fuzz want their names
 LINES
 }
 
@@ -90,6 +90,7 @@ tests() {
     tests/figures
     tests/validation
     tests/variables
+    tests/queries
     release/bindings/run pages
     tests/editors/run
     tests/readme --check
@@ -150,7 +151,7 @@ case $command in
         tests
         ;;
     bench)
-        measured="small parse hostile stack format server walks c python crowded threads"
+        measured="small parse hostile stack format server walks queries c python crowded threads"
         if [ $# -eq 0 ]; then
             for each in $measured; do "bench/$each.py"; done
             exit

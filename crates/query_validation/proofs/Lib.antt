@@ -1,0 +1,2 @@
+pub mod ListedLemmas
+pub mod StackLemmas

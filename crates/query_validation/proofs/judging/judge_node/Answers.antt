@@ -1,0 +1,18 @@
+use Rattle.std.proofs.Common.{map}
+use Rattle.validation_names.specs.Sites.{as_located}
+use Rattle.type_system.specs.Schemas.{types}
+use Rattle.query_validation.specs.Breaches.{as_breach, breaches_of}
+use Rattle.query_validation.specs.Contexts.{as_context}
+use Rattle.query_validation.specs.declared.rules.QueryRule.TheVariants.{FieldsOnCorrectType}
+use Rattle.query_validation.specs.declared.rules.TheConstants.{QUERY_RULES}
+use Rattle.query_validation.proofs.ListedLemmas.{each_more}
+use Rattle.query_validation.proofs.judging.judge_node.Goals as goal
+
+pub loop-rule-preserved : goal.loop-rule-preserved
+loop-rule-preserved c =
+    each_more
+    (λ rule. breaches_of (types c.args.schema.now) rule (as_context c.args.around.now) (as_context c.args.inside.now)
+    (as_located c.args.site.now))
+    QUERY_RULES (map as_breach c.args.found.now.items) (map as_breach c.loop-rule.found.items)
+    (map as_breach c.judge_rule.new.found.items) c.loop-rule.rule-index FieldsOnCorrectType c.loop-rule-test.true
+    c.loop-rule.invariant c.in_ok-judge_rule.ensures

@@ -1,0 +1,119 @@
+-- What holds at a place in an operation or a fragment, by the types of a schema.
+use Rattle.std.specs.Prelude.{ℕ, List, [], ◌∷◌, Bool, false, Option, Some, None, option_map, option_and_then}
+use Rattle.std.specs.Prelude.{if◌then◌else◌}
+use Rattle.std.specs.List.{find}
+use Rattle.std.specs.Option.{option_or}
+use denote.Ref.{Bor}
+use Rattle.document_grammar.specs.declared.kind.SyntaxKind.{SyntaxKind}
+use Rattle.document_grammar.specs.declared.kind.SyntaxKind.TheVariants.{DIRECTIVE, FIELD, FRAGMENT_DEFINITION}
+use Rattle.document_grammar.specs.declared.kind.SyntaxKind.TheVariants.{INLINE_FRAGMENT, OPERATION_DEFINITION}
+use Rattle.document_grammar.specs.declared.kind.SyntaxKind.TheVariants.{TYPE_CONDITION}
+use Rattle.apollo_tree.specs.Order.{Place, parent_place}
+use Rattle.apollo_tree.specs.Above.{at_or_above}
+use Rattle.apollo_tree.specs.Children.{child_nodes}
+use Rattle.apollo_cst_core.specs.Kinds.{is_of, is_of_one}
+use Rattle.validation_names.specs.Names.{Name}
+use Rattle.validation_names.specs.Mentions.{name_of}
+use Rattle.validation_names.specs.Sites.{Located}
+use Rattle.type_system.specs.declared.kinds.OperationType.TheVariants.{Query}
+use Rattle.type_system.specs.declared.kinds.TheConstants.{COMPOSITE_TYPES, LEAF_TYPES}
+use Rattle.type_system.specs.declared.schema.DefinitionWithArguments.{DefinitionWithArguments}
+use Rattle.type_system.specs.Definitions.{named_type, operation_type}
+use Rattle.type_system.specs.Schemas.{as_with_arguments}
+use Rattle.type_system.specs.Types.{Types, WithArguments, has_number}
+use Rattle.query_validation.specs.declared.contexts.Context as declared
+
+pub record Context : Type 0 where
+  -- the number of the composite type from which fields are selected, if it is known
+  pub parent : Option ℕ
+  -- the definition of the field or the directive that has the arguments, if it is known
+  pub definition : Option WithArguments
+
+abbrev pub nothing : Context
+nothing = record { parent = None; definition = None }
+
+-- the first definition of a type, if it is known
+abbrev pub type_definition : Types → Option ℕ → Option Located
+type_definition T number = option_and_then T.definition_at number
+
+abbrev pub is_defined_as : List SyntaxKind → Option Located → Bool
+is_defined_as kinds None = false
+is_defined_as kinds (Some d) = is_of_one kinds d.place
+
+-- an object, an interface or a union; a scalar or an enum
+abbrev pub is_composite : Types → Option ℕ → Bool
+is_composite T number = is_defined_as COMPOSITE_TYPES (type_definition T number)
+
+abbrev pub is_leaf : Types → Option ℕ → Bool
+is_leaf T number = is_defined_as LEAF_TYPES (type_definition T number)
+
+abbrev pub composite : Types → Option ℕ → Option ℕ
+composite T number = if is_composite T number then number else None
+
+abbrev pub type_named_in : Types → Option Name → Option ℕ
+type_named_in T name = option_and_then T.type_named name
+
+-- 2.8.1: the type in the condition of a fragment
+abbrev pub condition : Place → Option Name
+condition p = option_and_then named_type (find (is_of_one (TYPE_CONDITION ∷ [])) (child_nodes p))
+
+-- 5.3.1: A field that may be selected from a type: its own, `__typename` (4.1), and in the root of queries `__schema`
+-- and `__type` (4.2).
+abbrev pub root_field : Types → ℕ → Name → Option WithArguments
+root_field T owner name = if has_number owner (T.root Query) then T.query_field name else None
+
+abbrev pub field_of : Types → ℕ → Name → Option WithArguments
+field_of T owner name = option_or (T.field_named owner name) (option_or (T.each_field name) (root_field T owner name))
+
+-- the definition of a field that is selected in a context
+abbrev pub field_at : Types → Context → Place → Option WithArguments
+field_at T around p = option_and_then (λ owner. option_and_then (field_of T owner) (name_of p)) around.parent
+
+abbrev pub directive_at : Types → Place → Option WithArguments
+directive_at T p = option_and_then T.directive_named (name_of p)
+
+-- the type of a definition
+abbrev pub type_of : Option WithArguments → Option ℕ
+type_of d = option_and_then (λ (w : WithArguments). w.definition.type) d
+
+-- in an inline fragment: the type of its condition, or without one the type around it
+abbrev pub inline : Types → Context → Option Name → Option ℕ
+inline T around None = around.parent
+inline T around (Some name) = composite T (T.type_named name)
+
+abbrev pub selects_from : Option ℕ → Context
+selects_from number = record { parent = number; definition = None }
+
+-- The context inside a node, by the context around it.
+abbrev pub step : Types → Context → Place → Context
+step T around p =
+    if is_of FIELD p
+    then record { parent = composite T (type_of (field_at T around p)); definition = field_at T around p }
+    else (if is_of DIRECTIVE p
+    then record { parent = around.parent; definition = directive_at T p }
+    else (if is_of INLINE_FRAGMENT p
+    then selects_from (inline T around (condition p))
+    else (if is_of FRAGMENT_DEFINITION p
+    then selects_from (composite T (type_named_in T (condition p)))
+    else (if is_of OPERATION_DEFINITION p
+    then selects_from (composite T (T.root (operation_type p)))
+    else around))))
+
+-- the same of the first of some places, each of which is a child of the next
+abbrev pub inside : Types → List Place → Context
+inside T [] = nothing
+inside T (p ∷ above) = step T (inside T above) p
+
+abbrev pub inside_parent : Types → Option Place → Context
+inside_parent T None = nothing
+inside_parent T (Some parent) = inside T (at_or_above parent)
+
+-- What holds around a place.
+abbrev pub around : Types → Place → Context
+around T p = inside_parent T (parent_place p)
+
+abbrev pub as_definition : Option (Bor DefinitionWithArguments) → Option WithArguments
+as_definition d = option_map (λ (x : Bor DefinitionWithArguments). as_with_arguments x.now) d
+
+abbrev pub as_context : declared.Context → Context
+as_context c = record { parent = c.parent; definition = as_definition c.definition }

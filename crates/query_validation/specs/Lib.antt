@@ -1,0 +1,6 @@
+pub mod Breaches
+pub mod Contexts
+pub mod Listed
+pub mod RuleNames
+pub mod Rules
+pub mod Stack

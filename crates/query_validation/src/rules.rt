@@ -1,0 +1,322 @@
+// The rules, each as a test on one node.
+ghost use Rattle.std.specs.Prelude.{◌≡◌, ◌++◌, IfOk, OnOk, Some, map, option_map};
+ghost use Rattle.std.specs.List.{filter};
+ghost use Rattle.apollo_tree.specs.References.{node_place};
+ghost use Rattle.validation_names.specs.Sites.{as_located};
+ghost use Rattle.type_system.specs.Schemas.{as_with_arguments, types};
+ghost use Rattle.type_system.specs.Tables.{AreFirst};
+ghost use Rattle.type_system.specs.Definitions.{items};
+ghost use Rattle.document_grammar.specs.declared.kind.SyntaxKind.TheVariants.{ARGUMENTS};
+ghost use Rattle.query_validation.specs.Breaches.{as_abouts, as_breach, breaches_about, breaches_of, lacking_breaches};
+ghost use Rattle.query_validation.specs.Contexts.{as_context, as_definition};
+ghost use Rattle.query_validation.specs.Rules.{is_lacking, is_not_composite, is_unknown_type, lacks_argument};
+ghost use Rattle.query_validation.specs.Rules.{missing_arguments, site_of, unknown_arguments, unknown_directives};
+ghost use Rattle.query_validation.specs.Rules.{unknown_fields, unknown_types, wrong_conditions, wrong_leaves};
+ghost use Rattle.query_validation.specs.Rules.{wrong_variables};
+ghost use Rattle.query_validation.specs.declared.rules.QueryRule.TheVariants.{ProvidedRequiredArguments};
+
+use crate::contexts::{Context, is_composite, is_leaf, type_definition, type_named_in, type_of};
+use crate::judging::QueryViolation;
+use crate::parts::{given_arguments, has_selections, is_condition, is_variable};
+use apollo_cst_core::is_one_of;
+use apollo_tree::{SyntaxKind, SyntaxNode};
+use std::alloc::{AllocError, Global};
+use std::collections::BTreeMap;
+use type_system::{DefinitionWithArguments, Schema, TYPE_REFERENCES, named_in};
+use validation_names::{Site, name};
+
+/// A rule that needs the types of a schema, under the name that graphql-js gives it, with its sections (GraphQL
+/// October 2021).
+#[derive(Clone, Copy)]
+pub enum QueryRule {
+    /// 5.3.1
+    FieldsOnCorrectType,
+    /// 5.3.3
+    ScalarLeafs,
+    /// 5.4.1
+    KnownArgumentNames,
+    /// 5.4.2.1
+    ProvidedRequiredArguments,
+    /// 5.5.1.2, and 5.8.2 for the types of variables
+    KnownTypeNames,
+    /// 5.5.1.3
+    FragmentsOnCompositeTypes,
+    /// 5.7.1
+    KnownDirectives,
+    /// 5.8.2
+    VariablesAreInputTypes,
+}
+
+/// All of them, in the order in which a node is judged by them.
+pub const QUERY_RULES: [QueryRule; 8] = [
+    QueryRule::FieldsOnCorrectType,
+    QueryRule::ScalarLeafs,
+    QueryRule::KnownArgumentNames,
+    QueryRule::ProvidedRequiredArguments,
+    QueryRule::KnownTypeNames,
+    QueryRule::FragmentsOnCompositeTypes,
+    QueryRule::KnownDirectives,
+    QueryRule::VariablesAreInputTypes,
+];
+
+impl QueryRule {
+    ghost use Rattle.std.specs.Prelude.{◌≡◌};
+    ghost use Rattle.query_validation.specs.RuleNames.{rule_name};
+
+    /// Its name, without the `Rule` that graphql-js adds.
+    pub fn name(self) -> &'static str
+        ensures { result.now ≡ rule_name self }
+    {
+        match self {
+            QueryRule::FieldsOnCorrectType => "FieldsOnCorrectType",
+            QueryRule::ScalarLeafs => "ScalarLeafs",
+            QueryRule::KnownArgumentNames => "KnownArgumentNames",
+            QueryRule::ProvidedRequiredArguments => "ProvidedRequiredArguments",
+            QueryRule::KnownTypeNames => "KnownTypeNames",
+            QueryRule::FragmentsOnCompositeTypes => "FragmentsOnCompositeTypes",
+            QueryRule::KnownDirectives => "KnownDirectives",
+            QueryRule::VariablesAreInputTypes => "VariablesAreInputTypes",
+        }
+    }
+}
+
+// Where a definition is.
+fn site_of<'t>(definition: Option<&DefinitionWithArguments<'t>>) -> Option<Site<'t>>
+    ensures { option_map as_located result ≡ site_of (as_definition definition.entry) }
+{
+    Some(definition?.definition.site)
+}
+
+fn unknown_field<'t>(
+    schema: &Schema<'t>,
+    around: &Context<'_, 't>,
+    inside: &Context<'_, 't>,
+    node: &SyntaxNode<'_>,
+) -> Option<Option<Site<'t>>>
+    ensures { as_abouts result
+        ≡ unknown_fields (types schema.now) (as_context around.now) (as_context inside.now) (node_place node.now) }
+{
+    if node.kind().is(SyntaxKind::FIELD)
+        && around.parent.is_some()
+        && name(node).is_some()
+        && inside.definition.is_none()
+    {
+        return Some(type_definition(schema, around.parent));
+    }
+    None
+}
+
+fn wrong_leaf<'t>(
+    schema: &Schema<'t>,
+    around: &Context<'_, 't>,
+    inside: &Context<'_, 't>,
+    node: &SyntaxNode<'_>,
+) -> Option<Option<Site<'t>>>
+    ensures { as_abouts result
+        ≡ wrong_leaves (types schema.now) (as_context around.now) (as_context inside.now) (node_place node.now) }
+{
+    let kind = node.kind();
+    if kind.is(SyntaxKind::FIELD) {
+        if is_composite(schema, type_of(inside.definition)) && !has_selections(node) {
+            return Some(site_of(inside.definition));
+        }
+        return None;
+    }
+    if kind.is(SyntaxKind::SELECTION_SET) && is_leaf(schema, type_of(around.definition)) {
+        return Some(site_of(around.definition));
+    }
+    None
+}
+
+fn lacks_argument(definition: Option<&DefinitionWithArguments<'_>>, name: Option<&str>) -> bool
+    ensures { result ≡ lacks_argument (as_definition definition.entry) (option_map (λ n. n.now) name.entry) }
+{
+    let Some(definition) = definition else {
+        return false;
+    };
+    match name {
+        Some(name) => definition.argument(name).is_none(),
+        None => false,
+    }
+}
+
+fn unknown_argument<'t>(around: &Context<'_, 't>, node: &SyntaxNode<'_>) -> Option<Option<Site<'t>>>
+    ensures { as_abouts result ≡ unknown_arguments (as_context around.now) (node_place node.now) }
+{
+    if node.kind().is(SyntaxKind::ARGUMENT) && lacks_argument(around.definition, name(node)) {
+        return Some(site_of(around.definition));
+    }
+    None
+}
+
+fn is_unknown_type(schema: &Schema<'_>, name: Option<&str>) -> bool
+    ensures { result ≡ is_unknown_type (types schema.now) (option_map (λ n. n.now) name.entry) }
+{
+    match name {
+        Some(name) => schema.type_named(name).is_none(),
+        None => false,
+    }
+}
+
+fn unknown_type<'t>(schema: &Schema<'t>, node: &SyntaxNode<'_>) -> Option<Option<Site<'t>>>
+    ensures { as_abouts result ≡ unknown_types (types schema.now) (node_place node.now) }
+{
+    if node.kind().is(SyntaxKind::NAMED_TYPE) && is_unknown_type(schema, name(node)) {
+        return Some(None);
+    }
+    None
+}
+
+fn is_not_composite(schema: &Schema<'_>, number: Option<usize>) -> bool
+    ensures { result ≡ is_not_composite (types schema.now) number }
+{
+    type_definition(schema, number).is_some() && !is_composite(schema, number)
+}
+
+fn wrong_condition<'t>(schema: &Schema<'t>, node: &SyntaxNode<'_>) -> Option<Option<Site<'t>>>
+    ensures { as_abouts result ≡ wrong_conditions (types schema.now) (node_place node.now) }
+{
+    if node.kind().is(SyntaxKind::NAMED_TYPE) && is_condition(node.parent()) {
+        let number = type_named_in(schema, name(node));
+        if is_not_composite(schema, number) {
+            return Some(type_definition(schema, number));
+        }
+    }
+    None
+}
+
+fn unknown_directive<'t>(
+    inside: &Context<'_, 't>,
+    node: &SyntaxNode<'_>,
+) -> Option<Option<Site<'t>>>
+    ensures { as_abouts result ≡ unknown_directives (as_context inside.now) (node_place node.now) }
+{
+    if node.kind().is(SyntaxKind::DIRECTIVE)
+        && name(node).is_some()
+        && inside.definition.is_none()
+    {
+        return Some(None);
+    }
+    None
+}
+
+fn wrong_variable<'t>(schema: &Schema<'t>, node: &SyntaxNode<'_>) -> Option<Option<Site<'t>>>
+    ensures { as_abouts result ≡ wrong_variables (types schema.now) (node_place node.now) }
+{
+    if is_one_of(node.kind(), &TYPE_REFERENCES) && is_variable(node.parent()) {
+        let number = type_named_in(schema, named_in(node));
+        if is_composite(schema, number) {
+            return Some(type_definition(schema, number));
+        }
+    }
+    None
+}
+
+// Whether an argument that has to be given is lacking.
+fn is_lacking<'d>(given: &BTreeMap<&'d str, Site<'d>>, site: &Site<'d>, required: &Site<'_>) -> bool
+    requires { AreFirst given.now (items ARGUMENTS (as_located site.now)) }
+    ensures { result ≡ is_lacking (items ARGUMENTS (as_located site.now)) (as_located required.now) }
+{
+    match name(&required.node) {
+        Some(name) => !given.contains_key(name),
+        None => true,
+    }
+}
+
+// Adds a breach of a rule, if there is one.
+fn add<'d, 't>(
+    found: &mut Vec<QueryViolation<'d, 't>>,
+    rule: QueryRule,
+    site: &Site<'d>,
+    broken: Option<Option<Site<'t>>>,
+) -> Result<(), AllocError>
+    ensures { OnOk result (map as_breach found.new.items
+        ≡ map as_breach found.old.items ++ breaches_about rule (as_located site.now) (as_abouts broken.entry)) }
+{
+    if let Some(definition) = broken {
+        let site = *site;
+        found.push(QueryViolation {
+            rule,
+            site,
+            definition,
+        })?;
+    }
+    Ok(())
+}
+
+// Adds each argument that is lacking.
+fn add_lacking<'d, 't>(
+    found: &mut Vec<QueryViolation<'d, 't>>,
+    site: &Site<'d>,
+    given: &BTreeMap<&'d str, Site<'d>>,
+    required: &[Site<'t>],
+) -> Result<(), AllocError>
+    requires { AreFirst given.now (items ARGUMENTS (as_located site.now)) }
+    ensures { OnOk result (map as_breach found.new.items
+        ≡ map as_breach found.old.items ++ lacking_breaches (as_located site.now) (map as_located required.now)) }
+{
+    for required in required {
+        if is_lacking(given, site, required) {
+            let (rule, definition) = (QueryRule::ProvidedRequiredArguments, Some(*required));
+            add(found, rule, site, Some(definition))?;
+        }
+    }
+    Ok(())
+}
+
+// Adds each argument that a field or a directive lacks.
+fn add_missing<'d, 't>(
+    alloc: Global,
+    found: &mut Vec<QueryViolation<'d, 't>>,
+    inside: &Context<'_, 't>,
+    site: &Site<'d>,
+) -> Result<(), AllocError>
+    ensures { OnOk result (map as_breach found.new.items
+        ≡ map as_breach found.old.items
+        ++ breaches_about ProvidedRequiredArguments (as_located site.now)
+        (missing_arguments (as_context inside.now) (as_located site.now))) }
+{
+    let kind = site.node.kind();
+    if !(kind.is(SyntaxKind::FIELD) || kind.is(SyntaxKind::DIRECTIVE)) {
+        return Ok(());
+    }
+    let Some(definition) = inside.definition else {
+        return Ok(());
+    };
+    let required = definition.required();
+    // most definitions have none, and then there is nothing to look up
+    if required.is_empty() {
+        return Ok(());
+    }
+    let given = given_arguments(alloc, site)?;
+    add_lacking(found, site, &given, required)
+}
+
+/// Adds what a node breaks of a rule, by the contexts around it and inside it.
+pub(crate) fn judge_rule<'d, 't>(
+    alloc: Global,
+    schema: &Schema<'t>,
+    rule: QueryRule,
+    around: &Context<'_, 't>,
+    inside: &Context<'_, 't>,
+    site: &Site<'d>,
+    found: &mut Vec<QueryViolation<'d, 't>>,
+) -> Result<(), AllocError>
+    ensures { OnOk result (map as_breach found.new.items
+        ≡ map as_breach found.old.items
+        ++ breaches_of (types schema.now) rule (as_context around.now) (as_context inside.now)
+        (as_located site.now)) }
+{
+    let node = &site.node;
+    let broken = match rule {
+        QueryRule::FieldsOnCorrectType => unknown_field(schema, around, inside, node),
+        QueryRule::ScalarLeafs => wrong_leaf(schema, around, inside, node),
+        QueryRule::KnownArgumentNames => unknown_argument(around, node),
+        QueryRule::ProvidedRequiredArguments => return add_missing(alloc, found, inside, site),
+        QueryRule::KnownTypeNames => unknown_type(schema, node),
+        QueryRule::FragmentsOnCompositeTypes => wrong_condition(schema, node),
+        QueryRule::KnownDirectives => unknown_directive(inside, node),
+        QueryRule::VariablesAreInputTypes => wrong_variable(schema, node),
+    };
+    add(found, rule, site, broken)
+}

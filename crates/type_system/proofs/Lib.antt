@@ -1,0 +1,4 @@
+pub mod Picked
+pub mod RowLemmas
+pub mod SchemaLemmas
+pub mod TableLemmas

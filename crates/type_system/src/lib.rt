@@ -1,0 +1,20 @@
+//! What documents of the type system define together (GraphQL October 2021, section 3): types with their fields and
+//! arguments, directives, and the root types of operations.
+//!
+//! `Schema::read` reads them once, and looks each up by its name afterwards. It is total: where a name is defined
+//! twice, the first definition counts, and a type may get fields from extensions. Whether a schema is valid is another
+//! question.
+#![tactic(auto)]
+
+mod definitions;
+mod kinds;
+mod reading;
+mod schema;
+mod tables;
+mod type_references;
+
+pub use definitions::{all_definitions, items, operation_type};
+pub use kinds::{COMPOSITE_TYPES, LEAF_TYPES, OperationType, TYPE_REFERENCES};
+pub use schema::{DefinitionWithArguments, Schema, TypedDefinition};
+pub use tables::first_by_name;
+pub use type_references::{named_in, named_type, type_reference};
