@@ -4,8 +4,8 @@ use Rattle.std.specs.List.{Contains}
 use Rattle.marked_lines.specs.Escaping.{shown}
 use Rattle.command_lines.specs.declared.misuse.Mistake.{Mistake}
 use Rattle.command_lines.specs.declared.misuse.Mistake.TheVariants.{Unknown, NoOption, UnknownMode, NoMode, NoValue}
-use Rattle.command_lines.specs.declared.misuse.Mistake.TheVariants.{NoNumber, NoLineEnding, NoFormat, Again}
-use Rattle.command_lines.specs.declared.misuse.Mistake.TheVariants.{BesideFiles}
+use Rattle.command_lines.specs.declared.misuse.Mistake.TheVariants.{NoNumber, NoLineEnding, NoFormat, UnknownRule}
+use Rattle.command_lines.specs.declared.misuse.Mistake.TheVariants.{Again, BesideFiles}
 use Rattle.command_lines.specs.declared.misuse.WordsError.{WordsError}
 use Rattle.command_lines.specs.declared.misuse.WordsError.TheVariants.{Usage, Memory}
 
@@ -19,6 +19,7 @@ before NoValue = []
 before NoNumber = []
 before NoLineEnding = []
 before NoFormat = []
+before UnknownRule = codes "unknown rule "
 before Again = []
 before BesideFiles = []
 
@@ -32,6 +33,7 @@ after NoValue = codes " has no value"
 after NoNumber = codes " takes a number"
 after NoLineEnding = codes " takes lf, crlf or keep"
 after NoFormat = codes " takes text, json, github or sarif"
+after UnknownRule = []
 after Again = codes " is given twice, or beside an option that excludes it"
 after BesideFiles = codes " is given beside files"
 

@@ -12,7 +12,7 @@ use cost_figures::Figures;
 use std::alloc::Allocator;
 
 /// The options of the program.
-pub const OPTIONS: [Row; 13] = [
+pub const OPTIONS: [Row; 18] = [
     ("--max-depth", "", Takes::Number),
     ("--max-fields", "", Takes::Number),
     ("--max-root-fields", "", Takes::Number),
@@ -20,8 +20,13 @@ pub const OPTIONS: [Row; 13] = [
     ("--max-directives", "", Takes::Number),
     ("--max-height", "", Takes::Number),
     ("--max-distinct-root-fields", "", Takes::Number),
+    ("--without-introspection", "", Takes::Nothing),
     ("--operation", "", Takes::Text),
     ("--figures", "", Takes::Nothing),
+    ("--fragments", "", Takes::Text),
+    ("--allow", "", Takes::Text),
+    ("--warn", "", Takes::Text),
+    ("--max-steps", "", Takes::Number),
     ("--format", "", Takes::Format),
     ("--json", "", Takes::Json),
     RECURSION,

@@ -26,6 +26,8 @@ pub enum Mistake {
     NoLineEnding,
     /// The value is not one of the four formats.
     NoFormat,
+    /// There is no such rule.
+    UnknownRule,
     /// The option is given twice, or with another one that excludes it.
     Again,
     /// Standard input is given beside files.
@@ -54,6 +56,7 @@ impl Misuse<'_> {
             Mistake::NoNumber => ("", " takes a number"),
             Mistake::NoLineEnding => ("", " takes lf, crlf or keep"),
             Mistake::NoFormat => ("", " takes text, json, github or sarif"),
+            Mistake::UnknownRule => ("unknown rule ", ""),
             Mistake::Again => ("", " is given twice, or beside an option that excludes it"),
             Mistake::BesideFiles => ("", " is given beside files"),
         }

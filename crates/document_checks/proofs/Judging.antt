@@ -4,14 +4,14 @@ use Rattle.std.proofs.Common.{ap, ◌∙◌, arith, append-nil, take_all}
 use Rattle.std.proofs.lemmas.List.{drop_all}
 use Rattle.std.specs.Prelude.{◌↔◌}
 use Rattle.apollo_tree.specs.Order.{Place}
-use Rattle.document_validation.specs.Breaches.{AreValid}
-use Rattle.document_checks.specs.Checking.{Asked, AreSound, AreWithin, HaveDocuments, PassTogether}
-use Rattle.document_checks.specs.Documents.{AllPass, AreInside, AreJudgedTogether, AreParsed, numbers_of, root_of}
-use Rattle.document_checks.specs.Passing.{PassByDocuments, PassEach}
+use Rattle.document_checks.specs.Checking.{Asked, AreSound, AreWithin, HaveDocuments, HaveNumbers, PassTogether}
+use Rattle.document_checks.specs.Documents.{AllPass, AreChecked, AreInside, AreParsed, numbers_of, root_of}
+use Rattle.document_checks.specs.Passing.{AreKept, PassByDocuments, PassEach}
+use Rattle.document_checks.specs.Warnings.{WarnByDocuments, WarnEach}
 use Rattle.document_checks.specs.declared.documents.Document.{Document}
 use Rattle.document_checks.specs.declared.report.Report.{Report}
 use Rattle.document_checks.proofs.ParsedTexts.{documents_pass, have_documents, have_numbers, none_of}
-use Rattle.document_checks.proofs.ParsedTexts.{pass_without_errors, same_documents, same_numbers}
+use Rattle.document_checks.proofs.ParsedTexts.{pass_without_errors, quiet_reports, same_documents, same_numbers}
 
 -- There is a text.
 pub together : (asked : Asked) (sources : List (List ℕ)) (P : Type 0) → 0 < length sources → P ↔ AreSound asked sources
@@ -36,39 +36,65 @@ errors_each asked sources ds rs parsed some = record {
       absurd (some (documents_pass asked.limits sources documents rs have parsed.are_reports));
 }
 
+pub errors_warned : (asked : Asked) (sources : List (List ℕ)) (ds : List Document) (rs : List Report)
+    → AreParsed asked.limits sources ds rs → ¬ AllPass rs → WarnEach asked sources rs
+errors_warned asked sources ds rs parsed some = record {
+  errors = λ any. quiet_reports asked.limits sources rs parsed.are_reports;
+  documents = λ documents numbers there have numbered.
+      absurd (some (documents_pass asked.limits sources documents rs have parsed.are_reports));
+}
+
 -- ---- none has
 
 module _ (asked : Asked) (sources : List (List ℕ)) (ds : List Document) (old new : List Report)
     (parsed : AreParsed asked.limits sources ds old) (all : AllPass old)
-    (judged : AreJudgedTogether asked (map root_of ds) (numbers_of ds) old new) where
+    (judged : AreChecked asked (map root_of ds) (numbers_of ds) old new) where
   are : HaveDocuments asked.limits sources (map root_of ds)
   are = have_documents asked.limits 0 sources ds old parsed.are_documents parsed.are_reports all
+
+  numbered : HaveNumbers asked.limits 0 sources (numbers_of ds)
+  numbered = have_numbers asked.limits 0 sources ds parsed.are_documents
 
   pub judged_sound : AllPass new ↔ AreSound asked sources
   judged_sound = (
     λ pass. record {
       documents = map root_of ds;
+      numbers = numbers_of ds;
       are_documents = are;
-      valid = (judged.sound.0 pass).0;
+      are_numbers = numbered;
+      valid = (judged.sound.0 pass).0.0;
+      decided = (judged.sound.0 pass).0.1;
       within = (judged.sound.0 pass).1;
     },
     λ s.
         let same = same_documents asked.limits sources s.documents (map root_of ds) s.are_documents are in
+        let same_too = same_numbers asked.limits 0 sources s.numbers (numbers_of ds) s.are_numbers numbered in
         judged.sound.1 (
-          subst (λ (documents : List Place). AreValid documents) same s.valid,
-          subst (λ (documents : List Place). AreWithin asked documents) same s.within,
+          subst (λ (ns : List ℕ). AreKept asked (map root_of ds) ns) same_too
+              (subst (λ (xs : List Place). AreKept asked xs s.numbers) same (s.valid, s.decided)),
+          subst (λ (ns : List ℕ). AreWithin asked (map root_of ds) ns) same_too
+              (subst (λ (xs : List Place). AreWithin asked xs s.numbers) same s.within),
         ),
   )
 
   pub judged_each : PassEach asked sources new
   judged_each = record {
     errors = λ any. absurd (none_of asked.limits sources old parsed.are_reports all any);
-    documents = λ documents numbers have numbered.
+    documents = λ documents numbers have those.
         let same = same_documents asked.limits sources (map root_of ds) documents are have in
-        let same_too = same_numbers asked.limits 0 sources (numbers_of ds) numbers
-        (have_numbers asked.limits 0 sources ds parsed.are_documents) numbered in
+        let same_too = same_numbers asked.limits 0 sources (numbers_of ds) numbers numbered those in
         subst (λ (ns : List ℕ). PassByDocuments asked documents ns new) same_too
         (subst (λ (xs : List Place). PassByDocuments asked xs (numbers_of ds) new) same judged.each);
+  }
+
+  pub judged_warned : WarnEach asked sources new
+  judged_warned = record {
+    errors = λ any. absurd (none_of asked.limits sources old parsed.are_reports all any);
+    documents = λ documents numbers there have those.
+        let same = same_documents asked.limits sources (map root_of ds) documents are have in
+        let same_too = same_numbers asked.limits 0 sources (numbers_of ds) numbers numbered those in
+        subst (λ (ns : List ℕ). WarnByDocuments asked documents ns new) same_too
+        (subst (λ (xs : List Place). WarnByDocuments asked xs (numbers_of ds) new) same judged.warned);
   }
 
 -- ---- reports in place
@@ -97,11 +123,11 @@ written len old new count same =
 
 pub judged_in_place : (asked : Asked) (ds ds' : List Document) (old old' new : List Report) (len : ℕ)
     → ds' ≡ ds → old' ≡ old → len ≡ length old
-    → AreJudgedTogether asked (map root_of ds') (numbers_of ds') old' new
-    → AreJudgedTogether asked (map root_of ds) (numbers_of ds) old (take len (new ++ drop (length new) old))
+    → AreChecked asked (map root_of ds') (numbers_of ds') old' new
+    → AreChecked asked (map root_of ds) (numbers_of ds) old (take len (new ++ drop (length new) old))
 judged_in_place asked ds ds' old old' new len same same_too count judged =
-    let here : AreJudgedTogether asked (map root_of ds) (numbers_of ds) old new =
-    subst (λ (rs : List Report). AreJudgedTogether asked (map root_of ds) (numbers_of ds) rs new) same_too
-    (subst (λ (xs : List Document). AreJudgedTogether asked (map root_of xs) (numbers_of xs) old' new) same judged) in
-    subst (λ (rs : List Report). AreJudgedTogether asked (map root_of ds) (numbers_of ds) old rs)
+    let here : AreChecked asked (map root_of ds) (numbers_of ds) old new =
+    subst (λ (rs : List Report). AreChecked asked (map root_of ds) (numbers_of ds) rs new) same_too
+    (subst (λ (xs : List Document). AreChecked asked (map root_of xs) (numbers_of xs) old' new) same judged) in
+    subst (λ (rs : List Report). AreChecked asked (map root_of ds) (numbers_of ds) old rs)
     (written len old new count here.count) here

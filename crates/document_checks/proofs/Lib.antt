@@ -5,3 +5,4 @@ pub mod Measuring
 pub mod NoTokens
 pub mod Passing
 pub mod Verdicts
+pub mod Warnings

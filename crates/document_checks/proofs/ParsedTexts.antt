@@ -12,16 +12,18 @@ use Rattle.apollo_parser.specs.Promise.{Promise}
 use Rattle.apollo_parser.proofs.OneParse.{one-parse}
 use Rattle.first_errors.specs.Places.{shown_at}
 use Rattle.formatter.specs.Within.{HasCommentsAlone}
-use Rattle.document_checks.specs.Checking.{HaveDocuments, IsDocument}
-use Rattle.document_checks.specs.Documents.{AllPass, AreDocuments, AreErrorReports, AreInside, AreParsed, IsErrorReport}
-use Rattle.document_checks.specs.Documents.{IsFounded, numbers_of, root_of}
-use Rattle.document_checks.specs.Findings.{AreFindings, AreReports, HasErrors}
-use Rattle.document_checks.specs.Passing.{HaveNumbers, PassIf}
+use Rattle.document_checks.specs.Checking.{HaveDocuments, HaveNumbers, IsDocument}
+use Rattle.document_checks.specs.Documents.{AllPass, AreClean, AreDocuments, AreErrorReports, AreErrors, AreInside}
+use Rattle.document_checks.specs.Documents.{AreParsed, IsClean, IsErrorReport, IsFounded, numbers_of, root_of}
+use Rattle.document_checks.specs.Findings.{AreFindings, AreReports, BeginWithError, HasErrors}
+use Rattle.document_checks.specs.Passing.{PassIf}
+use Rattle.document_checks.specs.Warnings.{AreQuietIf}
 use Rattle.document_checks.specs.declared.documents.Document.{Document}
 use Rattle.document_checks.specs.declared.report.Finding.{Finding}
 use Rattle.document_checks.specs.declared.report.Report.{Report}
 use Rattle.document_checks.proofs.Found.{of_errors}
 use Rattle.document_checks.proofs.NoTokens.{not_both}
+use Rattle.document_checks.proofs.Warnings.{no_warnings}
 
 -- ---- a parse has errors or none
 
@@ -60,13 +62,16 @@ errors_of limits source t promise has none =
 -- ---- reports on errors
 
 pub of_comments : (limits : Limits) (source : List ℕ) (r : Report) → HasCommentsAlone limits source → r.passes ≡ true
-    → IsErrorReport limits source r
-of_comments limits source r comments passes = record {
+    → r.findings.items ≡ [] → IsErrorReport limits source r
+of_comments limits source r comments passes none = record {
   is_report = record {
     refused = λ has. absurd (has.1.some comments);
     found = λ fails. absurd (true_not_false r.passes passes fails);
+    error = λ fails. absurd (true_not_false r.passes passes fails);
+    warnings = λ again. no_warnings r.findings.items none;
   };
   errors = λ fails. absurd (true_not_false r.passes passes fails);
+  nothing = λ again. none;
 }
 
 fails_with : (b : Bool) (P : Type 0) → (b ≡ true → P) → ¬ P → b ≡ false
@@ -81,19 +86,28 @@ found_of limits source t r [] promise are some first = absurd (some refl)
 found_of limits source t r (e ∷ es) promise are some first =
     of_errors limits source t (e ∷ es) r.findings.items promise are (omega arith) first
 
+begin_of : (limits : Limits) (source : List ℕ) (findings : List Finding) → AreFindings limits source findings
+    → AreErrors findings → BeginWithError findings
+begin_of limits source [] are errors = absurd are
+begin_of limits source (f ∷ fs) are errors = All-head (λ (g : Finding). g.is_warning ≡ false) f fs errors
+
 pub of_parse : (limits : Limits) (source : List ℕ) (t : Parsed) (r : Report) → ¬ HasCommentsAlone limits source
     → Promise source limits.recursion limits.tokens t → (r.passes ≡ true) ↔ (t.errors ≡ [])
     → take 1 (map (λ (f : Finding). f.start) r.findings.items) ≡ map (shown_at source) (take 1 t.errors)
-    → IsErrorReport limits source r
-of_parse limits source t r some promise iff first =
+    → AreErrors r.findings.items → (r.passes ≡ true → r.findings.items ≡ []) → IsErrorReport limits source r
+of_parse limits source t r some promise iff first are nothing =
     let not_none = λ (fails : r.passes ≡ false) (none : t.errors ≡ []).
     true_not_false r.passes (iff.1 none) fails in
     record {
       is_report = record {
         refused = λ has. fails_with r.passes (t.errors ≡ []) iff.0 (errors_of limits source t promise has);
         found = λ fails. found_of limits source t r t.errors promise refl (not_none fails) first;
+        error = λ fails. begin_of limits source r.findings.items
+            (found_of limits source t r t.errors promise refl (not_none fails) first) are;
+        warnings = λ passes. no_warnings r.findings.items (nothing passes);
       };
       errors = λ fails. first_error limits source t t.errors some promise refl (not_none fails);
+      nothing = nothing;
     }
 
 pub same_count : (limits : Limits) (sources : List (List ℕ)) (rs : List Report) → AreErrorReports limits sources rs
@@ -143,25 +157,26 @@ add_one limits k (s ∷ ss) source ds d at some promise (inr (some_too, e, other
     )
 
 pub add_comments : (limits : Limits) (source : List ℕ) (r : Report) (sources : List (List ℕ)) (ds : List Document)
-    (rs : List Report) → HasCommentsAlone limits source → r.passes ≡ true → AreParsed limits sources ds rs
-    → AreParsed limits (sources ++ source ∷ []) ds (rs ++ r ∷ [])
-add_comments limits source r sources ds rs comments passes parsed = record {
+    (rs : List Report) → HasCommentsAlone limits source → r.passes ≡ true → r.findings.items ≡ []
+    → AreParsed limits sources ds rs → AreParsed limits (sources ++ source ∷ []) ds (rs ++ r ∷ [])
+add_comments limits source r sources ds rs comments passes none parsed = record {
   are_documents = add_none limits 0 sources source ds parsed.are_documents comments;
-  are_reports = add_report limits sources source rs r parsed.are_reports (of_comments limits source r comments passes);
+  are_reports = add_report limits sources source rs r parsed.are_reports
+      (of_comments limits source r comments passes none);
 }
 
 pub add_document : (limits : Limits) (source : List ℕ) (d : Document) (r : Report) (sources : List (List ℕ))
     (ds : List Document) (rs : List Report) → ¬ HasCommentsAlone limits source → d.text ≡ length rs
     → Promise source limits.recursion limits.tokens d.tree → (r.passes ≡ true) ↔ (d.tree.errors ≡ [])
     → take 1 (map (λ (f : Finding). f.start) r.findings.items) ≡ map (shown_at source) (take 1 d.tree.errors)
-    → AreParsed limits sources ds rs
+    → AreErrors r.findings.items → (r.passes ≡ true → r.findings.items ≡ []) → AreParsed limits sources ds rs
     → AreParsed limits (sources ++ source ∷ []) (ds ++ d ∷ []) (rs ++ r ∷ [])
-add_document limits source d r sources ds rs some at promise iff first parsed = record {
+add_document limits source d r sources ds rs some at promise iff first errors nothing parsed = record {
   are_documents = add_one limits 0 sources source ds d
       (omega (arith, at, same_count limits sources rs parsed.are_reports)) some promise
       parsed.are_documents;
   are_reports = add_report limits sources source rs r parsed.are_reports
-      (of_parse limits source d.tree r some promise iff first);
+      (of_parse limits source d.tree r some promise iff first errors nothing);
 }
 
 -- ---- there is one list of documents
@@ -288,9 +303,20 @@ of_errors_alone limits [] (r ∷ rs) are = absurd are
 of_errors_alone limits (s ∷ ss) [] are = absurd are
 of_errors_alone limits (s ∷ ss) (r ∷ rs) are = (are.0.is_report, of_errors_alone limits ss rs are.1)
 
-founded : (limits : Limits) (source : List ℕ) (findings : List Finding) → 0 < length findings
+-- Reports with which texts pass that have no errors find nothing.
+pub are_clean : (limits : Limits) (sources : List (List ℕ)) (rs : List Report) → AreErrorReports limits sources rs
+    → AllPass rs → AreClean rs
+are_clean limits [] [] are all = All-nil IsClean
+are_clean limits [] (r ∷ rs) are all = absurd are
+are_clean limits (s ∷ ss) [] are all = absurd are
+are_clean limits (s ∷ ss) (r ∷ rs) are all =
+    let passes = All-head (λ (q : Report). q.passes ≡ true) r rs all in
+    All-cons IsClean r rs (passes, are.0.nothing passes)
+    (are_clean limits ss rs are.1 (All-tail (λ (q : Report). q.passes ≡ true) r rs all))
+
+founded : (limits : Limits) (source : List ℕ) (findings : List Finding) → BeginWithError findings
     → ¬ HasErrors limits source → AreFindings limits source findings
-founded limits source [] some none = absurd (omega (arith, some))
+founded limits source [] some none = absurd some
 founded limits source (f ∷ fs) some none = λ error is. absurd (none (error, is))
 
 pub none_has : (limits : Limits) (source : List ℕ) (r : Report) → IsErrorReport limits source r → r.passes ≡ true
@@ -311,13 +337,31 @@ of_findings limits (s ∷ ss) (o ∷ os) (n ∷ ns) are all count some =
     let is_founded = All-head IsFounded n ns some in (
       record {
         refused = λ has. absurd (none has);
-        found = λ fails. founded limits s n.findings.items (omega (arith, is_founded fails, n.findings.ok.0)) none;
+        found = λ fails. founded limits s n.findings.items (is_founded.error fails) none;
+        error = is_founded.error;
+        warnings = is_founded.warnings;
       },
       of_findings limits ss os ns are.1 (All-tail (λ (q : Report). q.passes ≡ true) o os all) (omega (arith, count))
           (All-tail IsFounded n ns some),
     )
 
 -- ---- where a text has errors
+
+-- No text has warnings.
+nothing_at : (limits : Limits) (sources : List (List ℕ)) (rs : List Report) → AreErrorReports limits sources rs
+    → (text : ℕ) (r : Report) → text < length rs → (slice_index_or rs text r).passes ≡ true
+    → (slice_index_or rs text r).findings.items ≡ []
+nothing_at limits [] [] are text r inside passes = absurd (omega (arith, inside))
+nothing_at limits [] (x ∷ rs) are text r inside passes = absurd are
+nothing_at limits (s ∷ ss) [] are text r inside passes = absurd are
+nothing_at limits (s ∷ ss) (x ∷ rs) are zero r inside passes = are.0.nothing passes
+nothing_at limits (s ∷ ss) (x ∷ rs) are (suc text) r inside passes =
+    nothing_at limits ss rs are.1 text r (omega (arith, inside)) passes
+
+pub quiet_reports : (limits : Limits) (sources : List (List ℕ)) (rs : List Report) → AreErrorReports limits sources rs
+    → AreQuietIf (λ text. Unit {0}) rs
+quiet_reports limits sources rs are = λ text r inside passes.
+    (λ none. tt, λ unit. nothing_at limits sources rs are text r inside passes)
 
 pass_at : (limits : Limits) (sources : List (List ℕ)) (rs : List Report) → AreErrorReports limits sources rs
     → (text : ℕ) (r : Report) → text < length rs

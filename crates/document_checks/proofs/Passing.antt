@@ -1,30 +1,36 @@
 -- Which texts pass, while they are judged.
 use Rattle.std.proofs.Common.{◌≡◌, ◌≢◌, ◌<◌, ℕ, Bool, true, false, eqb, eqb-true, List, [], ◌∷◌}
-use Rattle.std.proofs.Common.{◌++◌, length, take, get_or, refl, sym, ap, ◌∙◌, subst, arith, inl, inr, Option, Some}
+use Rattle.std.proofs.Common.{◌++◌, length, get_or, refl, sym, ap, ◌∙◌, subst, arith, inl, inr, Option, Some}
 use Rattle.std.proofs.Common.{None}
 use Rattle.std.proofs.Math.ListN.{length-set, set}
-use Rattle.std.specs.Prelude.{◌↔◌, ◌⊎◌, All, Err, Ok, OnOk, Result, slice_index_or, vec_len}
+use Rattle.std.specs.Prelude.{◌↔◌, ◌⊎◌, All, Err, Ok, OnOk, Result, option_map, slice_index_or}
 use Rattle.std.specs.List.{filter}
 use Rattle.std.proofs.lemmas.Bool.{eqb-false}
 use Rattle.std.proofs.lemmas.Grind.{get_or-set_at}
-use Rattle.std.proofs.lemmas.List.{get_or-set_other}
+use Rattle.std.proofs.lemmas.List.{get_or-set_other, get_or_default}
 use Rattle.std.proofs.lemmas.List.Elements.{All-append, All-cons, All-get_or, All-head, All-nil, All-set, All-tail}
 use Rattle.std.proofs.lemmas.List.Elements.{All-weaker}
-use Rattle.std.proofs.lemmas.List.Sorted.{All-permutation, IsPermutation-sym}
 use Rattle.apollo_tree.specs.Order.{Place}
 use Rattle.validation_names.specs.Names.{Name}
+use Rattle.validation_names.specs.Sites.{Located, as_located}
+use Rattle.validation_names.specs.declared.sites.Site.{Site}
 use Rattle.validation_names.specs.Definitions.{defined}
-use Rattle.validation_rules.specs.TextOrder.{IsInTextOrder}
-use Rattle.validation_rules.specs.Violations.{Breach}
+use Rattle.validation_rules.specs.declared.violations.Violation.{Violation}
 use Rattle.cost_figures.specs.declared.figures.Figures.{Figures}
 use Rattle.cost_limits.specs.Limits.{IsWithin}
-use Rattle.cost_limits.specs.Measures.{Measure, AreMeasures, everything}
-use Rattle.document_validation.specs.Breaches.{AreValid, breaches}
-use Rattle.document_checks.specs.Checking.{Asked, is_chosen}
-use Rattle.document_checks.specs.Documents.{AllPass, AreJudged, AreJudgedTogether, AreMeasured, IsFounded}
-use Rattle.document_checks.specs.Passing.{HasWithin, IsThere, IsWithout, PassIf, text_number}
+use Rattle.cost_limits.specs.Measures.{Measure}
+use Rattle.document_validation.specs.Validation.{AreDecided, AreValidIn, IsValidation}
+use Rattle.document_validation.specs.declared.validation.Validation.{Validation}
+use Rattle.document_validation.specs.declared.validation.ValidationOptions.{ValidationOptions}
+use Rattle.document_checks.specs.Checking.{Asked, HaveMeasures, has_limits, is_chosen, judged_documents, measuring}
+use Rattle.document_checks.specs.Documents.{AllPass, AreChecked, AreClean, AreJudged, AreJudgedTogether, AreMeasured}
+use Rattle.document_checks.specs.Documents.{AreTold, AreWarned, IsFounded, IsUnwarned}
+use Rattle.document_checks.specs.Passing.{AreKept, HasWithin, IsThere, IsWithout, PassIf, found_sites, text_number}
+use Rattle.document_checks.specs.Passing.{undecided_sites, validation_options, violation_sites}
+use Rattle.document_checks.specs.Warnings.{AreQuietIf, has_warnings, warning_options}
 use Rattle.document_checks.specs.declared.report.Report.{Report}
 use Rattle.document_checks.proofs.Verdicts.{one_measures}
+use Rattle.document_checks.proofs.Warnings.{founded_of}
 
 -- ---- lists
 
@@ -78,48 +84,54 @@ one_more Q rs k old new front x inside was each here others = λ text r within.
     one_text Q rs k old new front x inside was each here others text r (omega (arith, within, length-set {A = Report}))
     (eqb text k) refl
 
-not_both : (b : Bool) → b ≡ true → b ≡ false → ⊥
+pub not_both : (b : Bool) → b ≡ true → b ≡ false → ⊥
 not_both b is not = let e : true ≡ false = sym is ∙ not in let r : ⊥ = cc in r
 
-founded_of : (rs : List Report) → AllPass rs → All IsFounded rs
-founded_of rs all = λ k d inside fails. absurd (not_both (get_or rs k d).passes (all k d inside) fails)
+pub clean_pass : (rs : List Report) → AreClean rs → AllPass rs
+clean_pass rs clean = λ k d inside. (clean k d inside).0
 
-pub begun : {X : Type 0} (Q : ℕ → X → Type 0) (rs : List Report) → AllPass rs
+unwarned_of : (rs : List Report) → AreClean rs → All IsUnwarned rs
+unwarned_of rs clean = λ k d inside.
+    let c = clean k d inside in
+    record { error = λ fails. absurd (not_both (get_or rs k d).passes c.0 fails); nothing = λ passes. c.1 }
+
+pub begun : {X : Type 0} (Q : ℕ → X → Type 0) (rs : List Report) → AreClean rs
     → AreJudged (λ text. All (Q text) []) rs rs
-begun Q rs all = record { count = refl; founded = founded_of rs all; each = none_yet Q rs all }
+begun Q rs clean =
+    record { count = refl; founded = unwarned_of rs clean; each = none_yet Q rs (clean_pass rs clean) }
 
 judged_more : {X : Type 0} (Q : ℕ → X → Type 0) (old rs rs' : List Report) (k : ℕ) (was new : Report)
     (front more : List X) (x : X) → k < length rs → was ≡ get_or rs k was → rs' ≡ set rs k new → more ≡ front ++ x ∷ []
     → (new.passes ≡ true) ↔ ((was.passes ≡ true) × Q k x) → ((text : ℕ) → text ≢ k → Q text x)
-    → (IsFounded was → IsFounded new) → AreJudged (λ text. All (Q text) front) old rs
+    → (IsUnwarned was → IsUnwarned new) → AreJudged (λ text. All (Q text) front) old rs
     → AreJudged (λ text. All (Q text) more) old rs'
 judged_more Q old rs rs' k was new front more x inside is after longer here others founded judged =
-    let was_founded : IsFounded was =
-    subst IsFounded (sym is) (All-get_or IsFounded rs k was inside judged.founded) in
+    let was_founded : IsUnwarned was =
+    subst IsUnwarned (sym is) (All-get_or IsUnwarned rs k was inside judged.founded) in
     let count : length (set rs k new) ≡ length old = omega (arith, judged.count, length-set {A = Report}) in
-    let found : All IsFounded (set rs k new) = All-set IsFounded rs k new (founded was_founded) judged.founded in
+    let found : All IsUnwarned (set rs k new) = All-set IsUnwarned rs k new (founded was_founded) judged.founded in
     let each : PassIf (λ text. All (Q text) (front ++ x ∷ [])) (set rs k new) =
     one_more Q rs k was new front x inside is judged.each here others in
     subst (λ (qs : List Report). AreJudged (λ text. All (Q text) more) old qs) (sym after)
     (subst (λ ys. AreJudged (λ text. All (Q text) ys) old (set rs k new)) (sym longer)
     (record { count = count; founded = found; each = each }))
 
--- one more violation
-pub violation_more : (numbers : List ℕ) (old rs rs' : List Report) (k : ℕ) (was new : Report)
-    (front more : List Breach) (b : Breach) → k ≡ text_number numbers b.site → k < length rs → was ≡ get_or rs k was
-    → rs' ≡ set rs k new → more ≡ front ++ b ∷ []
-    → new.passes ≡ false → 0 < vec_len new.findings
+-- one more place
+pub place_more : (numbers : List ℕ) (old rs rs' : List Report) (k : ℕ) (was new : Report)
+    (front more : List Located) (s : Located) → k ≡ text_number numbers s → k < length rs → was ≡ get_or rs k was
+    → rs' ≡ set rs k new → more ≡ front ++ s ∷ []
+    → new.passes ≡ false → (IsUnwarned was → IsUnwarned new)
     → AreJudged (IsWithout numbers front) old rs → AreJudged (IsWithout numbers more) old rs'
-violation_more numbers old rs rs' k was new front more b at inside is after longer fails some judged =
-    judged_more (λ text (x : Breach). text_number numbers x.site ≢ text) old rs rs' k was new front more b inside is
+place_more numbers old rs rs' k was new front more s at inside is after longer fails founded judged =
+    judged_more (λ text (x : Located). text_number numbers x ≢ text) old rs rs' k was new front more s inside is
     after longer (λ passes. absurd (not_both new.passes passes fails), λ both. absurd (both.1 (sym at)))
-    (λ text apart same. apart (sym same ∙ sym at)) (λ f g. some) judged
+    (λ text apart same. apart (sym same ∙ sym at)) founded judged
 
 -- one more operation
 pub operation_more : (numbers : List ℕ) (most : Figures) (old rs rs' : List Report) (k : ℕ) (was new : Report)
     (front more : List Measure) (m : Measure) → k ≡ text_number numbers m.operation.site → k < length rs
     → was ≡ get_or rs k was → rs' ≡ set rs k new → more ≡ front ++ m ∷ []
-    → (new.passes ≡ true) ↔ ((was.passes ≡ true) × All (IsWithin most) (m ∷ [])) → (IsFounded was → IsFounded new)
+    → (new.passes ≡ true) ↔ ((was.passes ≡ true) × All (IsWithin most) (m ∷ [])) → (IsUnwarned was → IsUnwarned new)
     → AreJudged (HasWithin numbers most front) old rs → AreJudged (HasWithin numbers most more) old rs'
 operation_more numbers most old rs rs' k was new front more m at inside is after longer here founded judged =
     judged_more (λ text (x : Measure). text_number numbers x.operation.site ≡ text → IsWithin most x) old rs rs' k was
@@ -144,26 +156,23 @@ alone_at old k new inside all fails text r within false e =
     let is : get_or (set old k new) text r ≡ get_or old text r = get_or-set_other old k text new r apart in
     (λ passes. apart, λ other. ap (λ (q : Report). q.passes) is ∙ all text r within)
 
-pub alone : (old rs : List Report) (k : ℕ) (new : Report) → k < length old → AllPass old → rs ≡ set old k new
-    → new.passes ≡ false → 0 < vec_len new.findings → AreJudged (λ text. text ≢ k) old rs
-alone old rs k new inside all after fails some =
+pub alone : (old rs : List Report) (k : ℕ) (was new : Report) → k < length old → AreClean old → was ≡ get_or old k was
+    → rs ≡ set old k new → new.passes ≡ false → (IsUnwarned was → IsUnwarned new) → AreJudged (λ text. text ≢ k) old rs
+alone old rs k was new inside clean is after fails founded =
+    let unwarned = unwarned_of old clean in
+    let was_unwarned : IsUnwarned was = subst IsUnwarned (sym is) (All-get_or IsUnwarned old k was inside unwarned) in
     let count : length (set old k new) ≡ length old = omega (arith, length-set {A = Report}) in
     subst (λ (qs : List Report). AreJudged (λ text. text ≢ k) old qs) (sym after) (record {
       count = count;
-      founded = All-set IsFounded old k new (λ f. some) (founded_of old all);
-      each = λ text r within. alone_at old k new inside all fails text r (omega (arith, within, count)) (eqb text k)
-          refl;
+      founded = All-set IsUnwarned old k new (founded was_unwarned) unwarned;
+      each = λ text r within. alone_at old k new inside (clean_pass old clean) fails text r
+          (omega (arith, within, count)) (eqb text k) refl;
     })
 
 -- ---- all texts
 
 pub all_pass : (P : ℕ → Type 0) (rs : List Report) → PassIf P rs → ((text : ℕ) → P text) → AllPass rs
 all_pass P rs each holds = λ k d inside. (each k d inside).1 (holds k)
-
-pub pass_as : (P Q : ℕ → Type 0) (rs : List Report) → ((text : ℕ) → P text → Q text) → ((text : ℕ) → Q text → P text)
-    → PassIf P rs → PassIf Q rs
-pass_as P Q rs to from each = λ text r inside.
-    (λ is. to text ((each text r inside).0 is), λ q. (each text r inside).1 (from text q))
 
 -- a text alone does not pass
 pub one_fails : (k : ℕ) (rs : List Report) → k < length rs → PassIf (λ text. text ≢ k) rs → AllPass rs → ⊥
@@ -172,51 +181,62 @@ one_fails k (r ∷ rs) inside each all = (each k r inside).0 (all k r inside) re
 
 -- ---- rules
 
-pub some_fail : (numbers : List ℕ) (bs : List Breach) (rs : List Report) → bs ≢ []
-    → ((number : ℕ) → slice_index_or numbers number 0 < length rs) → PassIf (IsWithout numbers bs) rs → AllPass rs → ⊥
+some_fail : (numbers : List ℕ) (sites : List Located) (rs : List Report) → sites ≢ []
+    → ((number : ℕ) → slice_index_or numbers number 0 < length rs) → PassIf (IsWithout numbers sites) rs → AllPass rs
+    → ⊥
 some_fail numbers [] rs some inside each all = some refl
-some_fail numbers (b ∷ bs) [] some inside each all = absurd (omega (arith, inside 0))
-some_fail numbers (b ∷ bs) (r ∷ rs) some inside each all =
-    let k = text_number numbers b.site in
-    let within : k < length (r ∷ rs) = inside b.site.document in
-    All-head (λ (c : Breach). text_number numbers c.site ≢ k) b bs ((each k r within).0 (all k r within)) refl
+some_fail numbers (s ∷ ss) [] some inside each all = absurd (omega (arith, inside 0))
+some_fail numbers (s ∷ ss) (r ∷ rs) some inside each all =
+    let k = text_number numbers s in
+    let within : k < length (r ∷ rs) = inside s.document in
+    All-head (λ (x : Located). text_number numbers x ≢ k) s ss ((each k r within).0 (all k r within)) refl
 
--- rules are broken
-pub by_rules : (asked : Asked) (documents : List Place) (numbers : List ℕ) (bs : List Breach) (old new : List Report)
-    → bs ≢ [] → IsInTextOrder (take 1001 (breaches documents)) bs → (AreValid documents → bs ≡ [])
-    → ((number : ℕ) → slice_index_or numbers number 0 < length old) → AreJudged (IsWithout numbers bs) old new
-    → AreJudgedTogether asked documents numbers old new
-by_rules asked documents numbers bs old new some found valid inside judged = record {
+-- a validation that finds nothing
+abbrev pub FindsNothing : Validation → Type 0
+FindsNothing v = (v.violations.items ≡ []) × (v.undecided ≡ None)
+
+none_found : (vs : List Violation) (u : Option Site)
+    → violation_sites vs ++ undecided_sites (option_map as_located u) ≡ [] → (vs ≡ []) × (u ≡ None)
+none_found [] None e = (refl, refl)
+none_found [] (Some s) e = absurd (let r : ⊥ = cc in r)
+none_found (v ∷ vs) u e = absurd (let r : ⊥ = cc in r)
+
+-- rules are broken, or that is not decided
+pub by_rules : (asked : Asked) (documents : List Place) (numbers : List ℕ) (v : Validation) (old new : List Report)
+    → IsValidation (validation_options asked numbers) documents v → ¬ FindsNothing v
+    → (AreKept asked documents numbers → FindsNothing v)
+    → ((number : ℕ) → slice_index_or numbers number 0 < length old)
+    → AreJudged (IsWithout numbers (found_sites v)) old new → AreJudgedTogether asked documents numbers old new
+by_rules asked documents numbers v old new is some clean inside judged = record {
   count = judged.count;
   founded = judged.founded;
   sound = (
-    λ all. absurd (some_fail numbers bs new some
+    λ all. absurd (some_fail numbers (found_sites v) new
+        (λ none. some (none_found v.violations.items v.undecided none))
         (λ number. omega (arith, inside number, judged.count)) judged.each all),
-    λ s. absurd (some (valid s.0)),
+    λ s. absurd (some (clean s.0)),
   );
   each = record {
-    rules = λ broken. pass_as (IsWithout numbers bs) (IsWithout numbers (take 1001 (breaches documents))) new
-        (λ text. All-permutation (λ (b : Breach). text_number numbers b.site ≢ text) bs (take 1001 (breaches documents))
-        (IsPermutation-sym _ _ found.same))
-        (λ text. All-permutation (λ (b : Breach). text_number numbers b.site ≢ text) (take 1001 (breaches documents)) bs
-        found.same) judged.each;
-    limits = λ ms keeps figures there. absurd (some (valid keeps));
-    missing = λ ms keeps figures there. absurd (some (valid keeps));
+    rules = λ broken. record { validation = v; is = is; each = judged.each };
+    limits = λ ms keeps figures there. absurd (some (clean keeps));
+    missing = λ ms keeps figures there. absurd (some (clean keeps));
+    unmeasured = λ keeps none free. absurd (some (clean keeps));
   };
 }
 
 -- no rule is broken
 pub by_limits : (asked : Asked) (documents : List Place) (numbers : List ℕ) (old new : List Report)
-    → AreValid documents → AreMeasured asked documents numbers old new
+    → AreKept asked documents numbers → AreMeasured asked documents numbers old new
     → AreJudgedTogether asked documents numbers old new
-by_limits asked documents numbers old new valid measured = record {
+by_limits asked documents numbers old new kept measured = record {
   count = measured.count;
   founded = measured.founded;
-  sound = (λ all. (valid, measured.within.0 all), λ s. measured.within.1 s.1);
+  sound = (λ all. (kept, measured.within.0 all), λ s. measured.within.1 s.1);
   each = record {
-    rules = λ broken. absurd (broken valid);
+    rules = λ broken. absurd (broken kept);
     limits = λ ms keeps figures there. measured.limits ms figures there;
     missing = λ ms keeps figures there. measured.missing ms figures there;
+    unmeasured = λ keeps none free. measured.unmeasured none free;
   };
 }
 
@@ -240,7 +260,7 @@ all_within numbers most ms (r ∷ rs) inside each all = λ k d below.
 
 -- there are figures
 pub measured : (asked : Asked) (documents : List Place) (numbers : List ℕ) (ms : List Measure) (old new : List Report)
-    → AreMeasures everything (defined documents) ms → ((number : ℕ) → slice_index_or numbers number 0 < length old)
+    → HaveMeasures asked documents numbers ms → ((number : ℕ) → slice_index_or numbers number 0 < length old)
     → (IsThere asked ms
     → AreJudged (HasWithin numbers asked.most (filter (is_chosen asked.operation) ms)) old new)
     → (¬ IsThere asked ms → AreJudged (λ text. text ≢ 0) old new)
@@ -249,8 +269,8 @@ measured asked documents numbers ms old new figures inside if_there if_not =
     elim (is_there asked.operation (filter (is_chosen asked.operation) ms))
     [ inl there ↦ of_there there | inr missing ↦ of_missing missing.0 missing.1 ]
   where
-    same : (others : List Measure) → AreMeasures everything (defined documents) others → ms ≡ others
-    same others those = one_measures everything (defined documents) ms others figures those
+    same : (others : List Measure) → HaveMeasures asked documents numbers others → ms ≡ others
+    same others those = one_measures (measuring asked numbers) (defined documents) ms others figures those
 
     of_there : IsThere asked ms → AreMeasured asked documents numbers old new
     of_there there =
@@ -259,20 +279,20 @@ measured asked documents numbers ms old new figures inside if_there if_not =
           founded = judged.founded;
           within = (
             λ all. record {
-              measures = ms;
-              figures = figures;
-              chosen = record {
-                within = all_within numbers asked.most (filter (is_chosen asked.operation) ms) new
-                    (λ number. omega (arith, inside number, judged.count)) judged.each all;
-                there = there;
+              figures = λ limited. (ms, figures);
+              chosen = λ others those. record {
+                within = subst
+                    (λ (xs : List Measure). All (IsWithin asked.most) (filter (is_chosen asked.operation) xs))
+                    (same others those)
+                    (all_within numbers asked.most (filter (is_chosen asked.operation) ms) new
+                    (λ number. omega (arith, inside number, judged.count)) judged.each all);
+                there = subst (λ (xs : List Measure). IsThere asked xs) (same others those) there;
               };
             },
             λ w. all_pass (HasWithin numbers asked.most (filter (is_chosen asked.operation) ms)) new judged.each
                 (λ text. All-weaker (IsWithin asked.most)
                 (λ (m : Measure). text_number numbers m.operation.site ≡ text → IsWithin asked.most m)
-                (λ m within is. within) (filter (is_chosen asked.operation) ms)
-                (subst (λ (xs : List Measure). All (IsWithin asked.most) (filter (is_chosen asked.operation) xs))
-                (sym (same w.measures w.figures)) w.chosen.within)),
+                (λ m within is. within) (filter (is_chosen asked.operation) ms) (w.chosen ms figures).within),
           );
           limits = λ others those there'.
               subst (λ (xs : List Measure).
@@ -280,6 +300,7 @@ measured asked documents numbers ms old new figures inside if_there if_not =
               (same others those) judged.each;
           missing = λ others those not. absurd (not
               (subst (λ (xs : List Measure). IsThere asked xs) (same others those) there));
+          unmeasured = λ none free. absurd (none ms figures);
         }
 
     of_missing : asked.operation ≢ None → filter (is_chosen asked.operation) ms ≡ []
@@ -290,30 +311,260 @@ measured asked documents numbers ms old new figures inside if_there if_not =
           founded = judged.founded;
           within = (
             λ all. absurd (one_fails 0 new (omega (arith, inside 0, judged.count)) judged.each all),
-            λ w. absurd (w.chosen.there named
-                (subst (λ (xs : List Measure). filter (is_chosen asked.operation) xs ≡ [])
-                (same w.measures w.figures) empty)),
+            λ w. absurd ((w.chosen ms figures).there named empty),
           );
           limits = λ others those there. absurd (there named
               (subst (λ (xs : List Measure). filter (is_chosen asked.operation) xs ≡ []) (same others those) empty));
           missing = λ others those not. judged.each;
+          unmeasured = λ none free. absurd (none ms figures);
         }
 
--- there are none
-pub unmeasured : (asked : Asked) (documents : List Place) (numbers : List ℕ) (k : ℕ) (old new : List Report)
-    → ((ms : List Measure) → AreMeasures everything (defined documents) ms → ⊥) → k < length new
-    → AreJudged (λ text. text ≢ k) old new → AreMeasured asked documents numbers old new
-unmeasured asked documents numbers k old new none inside judged = record {
-  count = judged.count;
-  founded = judged.founded;
-  within = (λ all. absurd (one_fails k new inside judged.each all), λ w. absurd (none w.measures w.figures));
-  limits = λ ms figures there. absurd (none ms figures);
-  missing = λ ms figures not. absurd (none ms figures);
+-- there are none: a text fails where something is asked of the operations, and else none does
+pub unmeasured : (asked : Asked) (documents : List Place) (numbers : List ℕ) (old new : List Report)
+    → ((ms : List Measure) → ¬ HaveMeasures asked documents numbers ms) → AreClean old
+    → (has_limits asked ≡ true → (k : ℕ) × (k < length new) × AreJudged (λ text. text ≢ k) old new)
+    → (has_limits asked ≡ false → new ≡ old) → AreMeasured asked documents numbers old new
+unmeasured asked documents numbers old new none clean failed free = by (has_limits asked) refl
+  where
+    by : (b : Bool) → has_limits asked ≡ b → AreMeasured asked documents numbers old new
+    by true e =
+        let f = failed e in record {
+          count = f.2.count;
+          founded = f.2.founded;
+          within = (
+            λ all. absurd (one_fails f.0 new f.1 f.2.each all),
+            λ w. absurd (none (w.figures e).0 (w.figures e).1),
+          );
+          limits = λ ms figures there. absurd (none ms figures);
+          missing = λ ms figures not. absurd (none ms figures);
+          unmeasured = λ no_figures not. absurd (not_both (has_limits asked) e not);
+        }
+    by false e =
+        let all : AllPass new = subst AllPass (sym (free e)) (clean_pass old clean) in record {
+          count = ap length (free e);
+          founded = subst (All IsUnwarned) (sym (free e)) (unwarned_of old clean);
+          within = (
+            λ passes. record {
+              figures = λ limited. absurd (not_both (has_limits asked) limited e);
+              chosen = λ ms figures. absurd (none ms figures);
+            },
+            λ w. all,
+          );
+          limits = λ ms figures there. absurd (none ms figures);
+          missing = λ ms figures not. absurd (none ms figures);
+          unmeasured = λ no_figures not. λ text r inside. (λ is. tt, λ holds. all text r inside);
+        }
+
+-- ---- validation
+
+-- what is asked of validation
+pub options_are : (asked : Asked) (numbers : List ℕ) (judged : Option ℕ) (o : ValidationOptions)
+    → o ≡ record { selection = record { rules = asked.rules; judged = judged }; most = 1001; steps = asked.steps }
+    → judged ≡ judged_documents asked.judged numbers → o ≡ validation_options asked numbers
+options_are asked numbers judged o is same =
+    is ∙ ap (λ (j : Option ℕ). record {
+      selection = record { rules = asked.rules; judged = j };
+      most = 1001;
+      steps = asked.steps;
+    }) same
+
+-- The rules are kept exactly if validation finds nothing.
+pub kept_if_clean : (asked : Asked) (documents : List Place) (numbers : List ℕ) (o : ValidationOptions) (v : Validation)
+    → o ≡ validation_options asked numbers
+    → (0 < o.most → FindsNothing v ↔ (AreValidIn o.selection documents × AreDecided o.steps documents))
+    → FindsNothing v ↔ AreKept asked documents numbers
+kept_if_clean asked documents numbers o v is iff =
+    subst (λ (x : ValidationOptions). 0 < x.most
+    → FindsNothing v ↔ (AreValidIn x.selection documents × AreDecided x.steps documents)) is iff (omega arith)
+
+-- what is measured
+pub measuring_is : (asked : Asked) (numbers : List ℕ) (judged : Option ℕ)
+    → judged ≡ judged_documents asked.judged numbers
+    → record { introspection = asked.introspection; measured = judged } ≡ measuring asked numbers
+measuring_is asked numbers judged same =
+    ap (λ (j : Option ℕ). record { introspection = asked.introspection; measured = j }) same
+
+-- ---- warnings
+
+pub told_nothing : (numbers : List ℕ) (rs : List Report) → AreTold numbers [] rs rs
+told_nothing numbers rs = record {
+  count = refl;
+  founded = λ founded. founded;
+  passes = λ text r. refl;
+  quiet = λ text r inside.
+      (λ none. (none, All-nil (λ (x : Located). text_number numbers x ≢ text)), λ both. both.0);
 }
+
+passes_at : (rs : List Report) (k : ℕ) (was new : Report) → k < length rs → was ≡ get_or rs k was
+    → new.passes ≡ was.passes
+    → (text : ℕ) (r : Report) (b : Bool) → eqb text k ≡ b
+    → (get_or (set rs k new) text r).passes ≡ (get_or rs text r).passes
+passes_at rs k was new inside is passes text r true e =
+    let same : text ≡ k = eqb-true text k e in
+    let at : get_or (set rs k new) text r ≡ new = get_or-set_at rs k text new r same inside in
+    ap (λ (q : Report). q.passes) at ∙ passes ∙ ap (λ (q : Report). q.passes) is
+    ∙ ap (λ (q : Report). q.passes) (get_or_default rs k was r inside)
+    ∙ ap (λ n. (get_or rs n r).passes) (sym same)
+passes_at rs k was new inside is passes text r false e =
+    ap (λ (q : Report). q.passes) (get_or-set_other rs k text new r (eqb-false text k e))
+
+-- one more place
+quiet_at : (numbers : List ℕ) (rs : List Report) (k : ℕ) (new : Report) (front : List Located) (s : Located)
+    (HadNone : Type 0) → k ≡ text_number numbers s → k < length rs → new.findings.items ≢ []
+    → (text : ℕ) (r : Report)
+    → ((get_or rs text r).findings.items ≡ []) ↔ (HadNone × IsWithout numbers front text)
+    → (b : Bool) → eqb text k ≡ b
+    → ((get_or (set rs k new) text r).findings.items ≡ []) ↔ (HadNone × IsWithout numbers (front ++ s ∷ []) text)
+quiet_at numbers rs k new front s HadNone at inside some text r so_far true e =
+    let same : text ≡ k = eqb-true text k e in
+    let is : get_or (set rs k new) text r ≡ new = get_or-set_at rs k text new r same inside in (
+      λ none. absurd (some (sym (ap (λ (q : Report). q.findings.items) is) ∙ none)),
+      λ both. absurd (all_last (λ (x : Located). text_number numbers x ≢ text) front s both.1 (sym at ∙ sym same)),
+    )
+quiet_at numbers rs k new front s HadNone at inside some text r so_far false e =
+    let apart : text ≢ k = eqb-false text k e in
+    let is : get_or (set rs k new) text r ≡ get_or rs text r = get_or-set_other rs k text new r apart in
+    let outside = λ (x : Located). text_number numbers x ≢ text in (
+      λ none.
+          let both = so_far.0 (sym (ap (λ (q : Report). q.findings.items) is) ∙ none) in (
+            both.0,
+            All-append outside front (s ∷ []) both.1
+                (All-cons outside s [] (λ here. apart (sym here ∙ sym at)) (All-nil outside)),
+          ),
+      λ both. ap (λ (q : Report). q.findings.items) is
+          ∙ so_far.1 (both.0, all_front outside front (s ∷ []) both.1),
+    )
+
+-- one more warning
+pub told_more : (numbers : List ℕ) (old rs rs' : List Report) (k : ℕ) (was new : Report) (front more : List Located)
+    (s : Located) → k ≡ text_number numbers s → k < length rs → was ≡ get_or rs k was → rs' ≡ set rs k new
+    → more ≡ front ++ s ∷ [] → new.passes ≡ was.passes → (IsFounded was → IsFounded new)
+    → new.findings.items ≢ [] → AreTold numbers front old rs → AreTold numbers more old rs'
+told_more numbers old rs rs' k was new front more s at inside is after longer passes founded some told =
+    subst (λ (qs : List Report). AreTold numbers more old qs) (sym after)
+    (subst (λ (ys : List Located). AreTold numbers ys old (set rs k new)) (sym longer) (record {
+      count = omega (arith, told.count, length-set {A = Report});
+      founded = λ all.
+          let before = told.founded all in
+          All-set IsFounded rs k new (founded (subst IsFounded (sym is) (All-get_or IsFounded rs k was inside before)))
+          before;
+      passes = λ text r. passes_at rs k was new inside is passes text r (eqb text k) refl ∙ told.passes text r;
+      quiet = λ text r within.
+          quiet_at numbers rs k new front s ((get_or old text r).findings.items ≡ []) at inside some text r
+          (told.quiet text r within) (eqb text k) refl;
+    }))
+
+-- The texts pass as before.
+still : (P : ℕ → Type 0) (numbers : List ℕ) (sites : List Located) (old new : List Report)
+    → AreTold numbers sites old new → PassIf P old → PassIf P new
+still P numbers sites old new told each = λ text r inside.
+    let within : text < length old = omega (arith, inside, told.count) in (
+      λ passes. (each text r within).0 (sym (told.passes text r) ∙ passes),
+      λ p. told.passes text r ∙ (each text r within).1 p,
+    )
+
+quiet_after : (numbers : List ℕ) (sites : List Located) (old new : List Report) → All IsUnwarned old
+    → AreTold numbers sites old new → AreQuietIf (IsWithout numbers sites) new
+quiet_after numbers sites old new unwarned told = λ text r inside passes.
+    let within : text < length old = omega (arith, inside, told.count) in
+    let none = (unwarned text r within).nothing (sym (told.passes text r) ∙ passes) in (
+      λ quiet. ((told.quiet text r within).0 quiet).1,
+      λ outside. (told.quiet text r within).1 (none, outside),
+    )
+
+no_sites : (numbers : List ℕ) (sites : List Located) (rs : List Report) → sites ≡ []
+    → AreQuietIf (IsWithout numbers sites) rs → AreQuietIf (λ text. Unit {0}) rs
+no_sites numbers sites rs empty quiet = λ text r inside passes. (
+  λ none. tt,
+  λ unit. (quiet text r inside passes).1
+      (subst (λ (ss : List Located). IsWithout numbers ss text) (sym empty)
+      (All-nil (λ (x : Located). text_number numbers x ≢ text))),
+)
+
+-- the warnings are added
+pub told_after : (asked : Asked) (documents : List Place) (numbers : List ℕ) (old middle new : List Report)
+    → AreJudgedTogether asked documents numbers old middle → AreWarned asked documents numbers middle new
+    → AreChecked asked documents numbers old new
+told_after asked documents numbers old middle new judged warned =
+    let told = warned.told in
+    let to : AllPass new → AllPass middle =
+    λ all k d inside. sym (told.passes k d) ∙ all k d (omega (arith, inside, told.count)) in
+    let from : AllPass middle → AllPass new =
+    λ all k d inside. told.passes k d ∙ all k d (omega (arith, inside, told.count)) in
+    let quiet = quiet_after numbers warned.sites middle new judged.founded told in
+    record {
+      count = told.count ∙ judged.count;
+      founded = told.founded (All-weaker IsUnwarned IsFounded founded_of middle judged.founded);
+      sound = (λ all. judged.sound.0 (to all), λ s. from (judged.sound.1 s));
+      each = record {
+        rules = λ broken.
+            let found = judged.each.rules broken in
+            record {
+              validation = found.validation;
+              is = found.is;
+              each = still (IsWithout numbers (found_sites found.validation)) numbers warned.sites middle new told
+                  found.each;
+            };
+        limits = λ ms kept figures there.
+            still (HasWithin numbers asked.most (filter (is_chosen asked.operation) ms)) numbers warned.sites middle
+            new told (judged.each.limits ms kept figures there);
+        missing = λ ms kept figures not.
+            still (λ text. text ≢ 0) numbers warned.sites middle new told (judged.each.missing ms kept figures not);
+        unmeasured = λ kept none free.
+            still (λ text. Unit {0}) numbers warned.sites middle new told (judged.each.unmeasured kept none free);
+      };
+      warned = record {
+        rules = λ some.
+            let found = warned.rules some in
+            record {
+              validation = found.0;
+              is = found.1;
+              each = subst (λ (ss : List Located). AreQuietIf (IsWithout numbers ss) new) found.2 quiet;
+            };
+        none = λ without. no_sites numbers warned.sites new (warned.none without) quiet;
+      };
+    }
+
+-- no rule is only told
+pub warned_of_none : (asked : Asked) (documents : List Place) (numbers : List ℕ) (rs : List Report)
+    → has_warnings asked ≡ false → AreWarned asked documents numbers rs rs
+warned_of_none asked documents numbers rs without = record {
+  sites = [];
+  told = told_nothing numbers rs;
+  rules = λ some. absurd (not_both (has_warnings asked) some without);
+  none = λ again. refl;
+}
+
+-- some are
+pub warned_of_some : (asked : Asked) (documents : List Place) (numbers : List ℕ) (v : Validation)
+    (old new : List Report) → has_warnings asked ≡ true → IsValidation (warning_options asked numbers) documents v
+    → AreTold numbers (violation_sites v.violations.items) old new → AreWarned asked documents numbers old new
+warned_of_some asked documents numbers v old new some is told = record {
+  sites = violation_sites v.violations.items;
+  told = told;
+  rules = λ again. (v, is, refl);
+  none = λ without. absurd (not_both (has_warnings asked) some without);
+}
+
+-- what is asked of validation for the warnings
+pub warning_options_are : (asked : Asked) (numbers : List ℕ) (judged : Option ℕ) (o : ValidationOptions)
+    → o ≡ record { selection = record { rules = asked.warnings; judged = judged }; most = 1001; steps = asked.steps }
+    → judged ≡ judged_documents asked.judged numbers → o ≡ warning_options asked numbers
+warning_options_are asked numbers judged o is same =
+    is ∙ ap (λ (j : Option ℕ). record {
+      selection = record { rules = asked.warnings; judged = j };
+      most = 1001;
+      steps = asked.steps;
+    }) same
 
 -- ---- clauses
 
--- what two clauses of one call say together
+-- what clauses of one call say together
 pub both_clauses : {T E P Q R : Type 0} (r : Result T E) → (P → Q → R) → OnOk r P → OnOk r Q → OnOk r R
 both_clauses (Ok v) to p q = to p q
 both_clauses (Err e) to p q = tt
+
+pub three_clauses : {T E P Q R S : Type 0} (r : Result T E) → (P → Q → R → S) → OnOk r P → OnOk r Q → OnOk r R
+    → OnOk r S
+three_clauses (Ok v) to p q s = to p q s
+three_clauses (Err e) to p q s = tt

@@ -1,5 +1,5 @@
 -- What is found of texts that do not pass.
-use Rattle.std.specs.Prelude.{◌≡◌, ℕ, false, List, [], ◌∷◌}
+use Rattle.std.specs.Prelude.{◌≡◌, ℕ, true, false, List, [], ◌∷◌, All}
 use Rattle.apollo_lexer.specs.declared.limits.Limits.{Limits}
 use Rattle.apollo_parser.specs.Diagnostics.{Diagnostic}
 use Rattle.first_errors.specs.Places.{IsFirstErrorOf, shown_at}
@@ -26,12 +26,25 @@ abbrev pub AreFindings : Limits → List ℕ → List Finding → Type 0
 AreFindings limits source [] = ⊥
 AreFindings limits source (finding ∷ findings) = IsAtFirstError limits source finding.start
 
+-- All of these findings are warnings.
+abbrev pub AreWarnings : List Finding → Type 0
+AreWarnings findings = All (λ (f : Finding). f.is_warning ≡ true) findings
+
+-- The first of these findings is no warning.
+abbrev pub BeginWithError : List Finding → Type 0
+BeginWithError [] = ⊥
+BeginWithError (finding ∷ findings) = finding.is_warning ≡ false
+
 -- What the report on a text says.
 pub record IsReport (limits : Limits) (source : List ℕ) (report : Report) : Type 0 where
   -- a text with errors does not pass
   pub refused : HasErrors limits source → report.passes ≡ false
   -- if it does not pass, there is a finding, and the first is there
   pub found : report.passes ≡ false → AreFindings limits source report.findings.items
+  -- and it is no warning
+  pub error : report.passes ≡ false → BeginWithError report.findings.items
+  -- if it passes, all findings are warnings
+  pub warnings : report.passes ≡ true → AreWarnings report.findings.items
 
 -- There is such a report for each text.
 abbrev pub AreReports : Limits → List (List ℕ) → List Report → Type 0

@@ -2,3 +2,4 @@ pub mod Checking
 pub mod Documents
 pub mod Findings
 pub mod Passing
+pub mod Warnings

@@ -1,18 +1,18 @@
 -- Which of the texts that are judged together pass.
-use Rattle.std.specs.Prelude.{◌≡◌, ◌≢◌, ◌<◌, ◌⊎◌, ℕ, suc, true, List, [], ◌∷◌, All, length, take, None}
-use Rattle.std.specs.Prelude.{◌↔◌, slice_index_or}
+use Rattle.std.specs.Prelude.{◌≡◌, ◌≢◌, ◌<◌, ◌↔◌, ℕ, true, false, List, [], ◌∷◌, ◌++◌, All, length, map, None}
+use Rattle.std.specs.Prelude.{Option, Some, option_map, slice_index_or}
 use Rattle.std.specs.List.{Any, filter}
-use Rattle.apollo_lexer.specs.declared.limits.Limits.{Limits}
 use Rattle.apollo_tree.specs.Order.{Place}
-use Rattle.validation_names.specs.Definitions.{defined}
-use Rattle.validation_names.specs.Sites.{Located}
-use Rattle.validation_rules.specs.Violations.{Breach}
+use Rattle.validation_names.specs.Sites.{Located, as_located}
+use Rattle.validation_rules.specs.declared.violations.Violation.{Violation}
 use Rattle.cost_figures.specs.declared.figures.Figures.{Figures}
 use Rattle.cost_limits.specs.Limits.{IsWithin}
-use Rattle.cost_limits.specs.Measures.{Measure, AreMeasures, everything}
-use Rattle.document_validation.specs.Breaches.{AreValid, breaches}
-use Rattle.formatter.specs.Within.{HasCommentsAlone}
-use Rattle.document_checks.specs.Checking.{Asked, HaveDocuments, is_chosen}
+use Rattle.cost_limits.specs.Measures.{Measure}
+use Rattle.document_validation.specs.Validation.{AreDecided, AreValidIn, IsValidation}
+use Rattle.document_validation.specs.declared.validation.Validation.{Validation}
+use Rattle.document_validation.specs.declared.validation.ValidationOptions.{ValidationOptions}
+use Rattle.document_checks.specs.Checking.{Asked, HaveDocuments, HaveMeasures, HaveNumbers, has_limits, is_chosen}
+use Rattle.document_checks.specs.Checking.{selection}
 use Rattle.document_checks.specs.Findings.{HasErrors}
 use Rattle.document_checks.specs.declared.report.Report.{Report}
 
@@ -21,25 +21,15 @@ abbrev pub PassIf : (ℕ → Type 0) → List Report → Type 0
 PassIf P reports =
     (text : ℕ) (r : Report) → text < length reports → ((slice_index_or reports text r).passes ≡ true) ↔ P text
 
--- ---- documents have the numbers of those texts that have a definition
-
--- The numbers of these texts, the first of which has the number k.
-abbrev pub HaveNumbers : Limits → ℕ → List (List ℕ) → List ℕ → Type 0
-HaveNumbers limits k [] numbers = numbers ≡ []
-HaveNumbers limits k (source ∷ sources) numbers =
-    (HasCommentsAlone limits source × HaveNumbers limits (suc k) sources numbers)
-    ⊎ ((¬ HasCommentsAlone limits source) × (others : List ℕ) × (numbers ≡ k ∷ others)
-    × HaveNumbers limits (suc k) sources others)
-
--- the text in which something is
+-- the text in which something is, where these are the numbers of the texts of the documents
 abbrev pub text_number : List ℕ → Located → ℕ
 text_number numbers site = slice_index_or numbers site.document 0
 
 -- ---- what keeps a text from passing
 
--- None of these breaches is in the text.
-abbrev pub IsWithout : List ℕ → List Breach → ℕ → Type 0
-IsWithout numbers found text = All (λ (b : Breach). text_number numbers b.site ≢ text) found
+-- None of these places is in the text.
+abbrev pub IsWithout : List ℕ → List Located → ℕ → Type 0
+IsWithout numbers sites text = All (λ (site : Located). text_number numbers site ≢ text) sites
 
 -- Those of these operations that are in the text are within the limits.
 abbrev pub HasWithin : List ℕ → Figures → List Measure → ℕ → Type 0
@@ -50,18 +40,57 @@ HasWithin numbers most measures text =
 abbrev pub IsThere : Asked → List Measure → Type 0
 IsThere asked measures = asked.operation ≢ None → filter (is_chosen asked.operation) measures ≢ []
 
+-- ---- validation
+
+-- The documents keep the rules, and that is decided.
+abbrev pub AreKept : Asked → List Place → List ℕ → Type 0
+AreKept asked documents numbers = AreValidIn (selection asked numbers) documents × AreDecided asked.steps documents
+
+-- how validation is called: for the first 1001 violations
+abbrev pub validation_options : Asked → List ℕ → ValidationOptions
+validation_options asked numbers =
+    record { selection = selection asked numbers; most = 1001; steps = asked.steps }
+
+abbrev pub violation_sites : List Violation → List Located
+violation_sites violations = map (λ v. as_located v.site) violations
+
+abbrev pub undecided_sites : Option Located → List Located
+undecided_sites None = []
+undecided_sites (Some site) = site ∷ []
+
+-- the places of the violations that a validation found, and of the operation before which it ended
+abbrev pub found_sites : Validation → List Located
+found_sites validation =
+    violation_sites validation.violations.items
+    ++ undecided_sites (option_map as_located validation.undecided)
+
+-- The texts pass in which a validation found nothing.
+pub record PassByValidation (options : ValidationOptions) (documents : List Place) (numbers : List ℕ)
+    (reports : List Report) : Type 0 where
+  pub validation : Validation
+  pub is : IsValidation options documents validation
+  pub each : PassIf (IsWithout numbers (found_sites validation)) reports
+
+-- ---- all texts
+
 -- Which texts pass, where none has errors. These are the documents, and the numbers of their texts.
 pub record PassByDocuments (asked : Asked) (documents : List Place) (numbers : List ℕ) (reports : List Report)
     : Type 0 where
-  -- where rules are broken: each text in which none of the first 1001 breaches is
-  pub rules : ¬ AreValid documents → PassIf (IsWithout numbers (take 1001 (breaches documents))) reports
-  -- where none is broken: each text whose operations are within the limits, of those that are wanted
-  pub limits : (measures : List Measure) → AreValid documents → AreMeasures everything (defined documents) measures
-      → IsThere asked measures
+  -- where rules are broken, or that is not decided: each text in which validation found nothing
+  pub rules : ¬ AreKept asked documents numbers
+      → PassByValidation (validation_options asked numbers) documents numbers reports
+  -- where none is broken: each text whose operations are within the limits, of those that are judged and wanted
+  pub limits : (measures : List Measure) → AreKept asked documents numbers
+      → HaveMeasures asked documents numbers measures → IsThere asked measures
       → PassIf (HasWithin numbers asked.most (filter (is_chosen asked.operation) measures)) reports
   -- where the operation that is named is not there: all texts but the first
-  pub missing : (measures : List Measure) → AreValid documents → AreMeasures everything (defined documents) measures
+  pub missing : (measures : List Measure) → AreKept asked documents numbers
+      → HaveMeasures asked documents numbers measures
       → ¬ IsThere asked measures → PassIf (λ text. text ≢ 0) reports
+  -- where the operations have no figures, and nothing is asked of them: all
+  pub unmeasured : AreKept asked documents numbers
+      → ((measures : List Measure) → ¬ HaveMeasures asked documents numbers measures)
+      → has_limits asked ≡ false → PassIf (λ text. Unit {0}) reports
 
 -- Which texts pass.
 pub record PassEach (asked : Asked) (sources : List (List ℕ)) (reports : List Report) : Type 0 where

@@ -4,8 +4,8 @@ ghost use Rattle.apollo_parser.specs.Errors.{error_of};
 ghost use Rattle.apollo_tree.specs.References.{node_place};
 ghost use Rattle.first_errors.specs.Places.{shown_at};
 ghost use Rattle.formatter.specs.Within.{HasCommentsAlone};
-ghost use Rattle.document_checks.specs.Checking.{texts_of};
-ghost use Rattle.document_checks.specs.Documents.{AllPass, AreParsed, root_of, text_of};
+ghost use Rattle.document_checks.specs.Checking.{judged_documents, texts_of};
+ghost use Rattle.document_checks.specs.Documents.{AllPass, AreErrors, AreParsed, numbers_of, root_of, text_of};
 
 use crate::report::{Checks, Finding, Report};
 use apollo_parser::{BorrowedError, BorrowedSyntaxTree, DocumentRoot, Limits, Parser};
@@ -42,9 +42,24 @@ pub(crate) fn text_of(documents: &[Document<'_>], number: usize) -> usize
     }
 }
 
+/// How many documents are judged, where this number of texts is.
+pub(crate) fn judged_documents(documents: &[Document<'_>], judged: Option<usize>) -> Option<usize>
+    ensures { result ≡ judged_documents judged (numbers_of documents.now) }
+{
+    let texts = judged?;
+    let mut count = 0;
+    for document in documents {
+        if document.text < texts {
+            count += 1;
+        }
+    }
+    Some(count)
+}
+
 // An error, in words for people.
 fn finding_of(alloc: Global, source: &str, error: &BorrowedError<'_>) -> Result<Finding, AllocError>
-    ensures { IfOk result (λ finding. finding.start ≡ shown_at source.now (error_of error.now)) }
+    ensures start { IfOk result (λ finding. finding.start ≡ shown_at source.now (error_of error.now)) }
+    ensures error { IfOk result (λ finding. finding.is_warning ≡ false) }
 {
     let (words, quoted, end) = error.message_parts();
     let (front, rest) = for_people(words);
@@ -62,6 +77,7 @@ fn refused(
     most: usize,
 ) -> Result<Report, AllocError>
     ensures passes { IfOk result (λ report. report.passes ≡ false) }
+    ensures errors { IfOk result (λ report. AreErrors report.findings.items) }
     ensures found { IfOk result
         (λ report. take 1 (map (λ finding. finding.start) report.findings.items)
         ≡ map (shown_at source.now) (take 1 (map error_of errors.now))) }
@@ -82,6 +98,8 @@ fn error_report(
     most: usize,
 ) -> Result<Report, AllocError>
     ensures passes { IfOk result (λ report. (report.passes ≡ true) ↔ (tree.now.errors ≡ [])) }
+    ensures errors { IfOk result (λ report. AreErrors report.findings.items) }
+    ensures nothing { IfOk result (λ report. report.passes ≡ true → report.findings.items ≡ []) }
     ensures found { IfOk result
         (λ report. take 1 (map (λ finding. finding.start) report.findings.items)
         ≡ map (shown_at source.now) (take 1 tree.now.errors)) }

@@ -1,13 +1,13 @@
 // Checking the operations of a valid document: their figures, and which limits they exceed.
 ghost use Rattle.std.specs.Prelude.{◌≡◌, ◌∷◌, [], ◌≢◌, ◌↔◌, ◌<◌, All, IfOk, OnOk, map, true, false, length, option_map};
-ghost use Rattle.std.specs.Prelude.{ℕ, vec_len};
+ghost use Rattle.std.specs.Prelude.{ℕ};
 ghost use Rattle.std.specs.List.{filter};
 ghost use Rattle.apollo_tree.specs.References.{node_place};
 ghost use Rattle.cost_limits.specs.Limits.{IsWithin};
 ghost use Rattle.cost_limits.specs.Measures.{as_measure};
 ghost use Rattle.cost_limits.specs.declared.measures.MeasureError.TheVariants.{Memory};
-ghost use Rattle.document_checks.specs.Checking.{as_asked, is_chosen};
-ghost use Rattle.document_checks.specs.Documents.{AllPass, AreInside, AreJudged, AreMeasured, IsFounded, numbers_of};
+ghost use Rattle.document_checks.specs.Checking.{as_asked, has_limits, is_chosen, judged_documents};
+ghost use Rattle.document_checks.specs.Documents.{AreClean, AreInside, AreJudged, AreMeasured, IsUnwarned, numbers_of};
 ghost use Rattle.document_checks.specs.Passing.{HasWithin, IsThere};
 
 use crate::documents::{Document, text_of};
@@ -77,7 +77,9 @@ fn words_of(limit: Limit) -> &'static str {
     }
 }
 
-fn limit_finding(alloc: Global, exceeded: &Exceeded<'_>) -> Result<Finding, AllocError> {
+fn limit_finding(alloc: Global, exceeded: &Exceeded<'_>) -> Result<Finding, AllocError>
+    ensures { IfOk result (λ finding. finding.is_warning ≡ false) }
+{
     let words = words_of(exceeded.limit);
     let (value, most) = (exceeded.found, exceeded.most);
     let message = format!(in alloc; "The {words} is {value}, and the limit {most}.")?;
@@ -100,14 +102,15 @@ fn add_exceeded(
     report: &mut Report,
 ) -> Result<(), AllocError>
     ensures passes { OnOk result (report.new.passes ≡ false) }
-    ensures found { OnOk result (0 < vec_len report.new.findings) }
+    ensures found { OnOk result (IsUnwarned report.old → IsUnwarned report.new) }
 {
     if !report.has_room(most) {
         report.count_another();
         return Ok(());
     }
     let finding = limit_finding(alloc, exceeded)?;
-    report.add(finding)
+    report.add(finding)?;
+    Ok(())
 }
 
 // Adds an operation to the report of its text, and the first limit that it exceeds, if it exceeds one.
@@ -119,7 +122,7 @@ fn add_operation(
 ) -> Result<(), AllocError>
     ensures passes { OnOk result ((report.new.passes ≡ true)
         ↔ ((report.old.passes ≡ true) × All (IsWithin checks.now.most) (as_measure measured.now ∷ []))) }
-    ensures found { OnOk result (IsFounded report.old → IsFounded report.new) }
+    ensures found { OnOk result (IsUnwarned report.old → IsUnwarned report.new) }
 {
     report.operations.push(operation_report(alloc, measured)?)?;
     if let Err(exceeded) = within(&[*measured], &checks.most) {
@@ -137,7 +140,7 @@ fn add_operations(
     reports: &mut [Report],
 ) -> Result<(), AllocError>
     requires inside { AreInside documents.now (length reports.old) }
-    requires passing { AllPass reports.old }
+    requires passing { AreClean reports.old }
     ensures { OnOk result
         (AreJudged (HasWithin (numbers_of documents.now) checks.now.most (map as_measure operations.now))
         reports.old reports.new) }
@@ -150,8 +153,17 @@ fn add_operations(
     Ok(())
 }
 
+// Whether something is asked of operations: one is named, or a figure is limited.
+fn has_limits(checks: &Checks<'_>) -> bool
+    ensures { result ≡ has_limits (as_asked checks.now) }
+{
+    checks.operation.is_some() || Figures::UNLIMITED.first_exceeded(&checks.most).is_some()
+}
+
 // What is found where no operation has the name.
-fn unknown_operation(alloc: Global, name: &str) -> Result<Finding, AllocError> {
+fn unknown_operation(alloc: Global, name: &str) -> Result<Finding, AllocError>
+    ensures { IfOk result (λ finding. finding.is_warning ≡ false) }
+{
     let message = format!(in alloc; "Unknown operation named \"{name}\".")?;
     let mut finding = Finding::of(0, 0, "KnownOperation", message);
     finding.operation = Some(String::from_str(alloc, name)?);
@@ -167,7 +179,7 @@ fn judge_figures(
     reports: &mut [Report],
 ) -> Result<(), AllocError>
     requires inside { AreInside documents.now (length reports.old) }
-    requires passing { AllPass reports.old }
+    requires passing { AreClean reports.old }
     ensures within { OnOk result (IsThere (as_asked checks.now) (map as_measure operations.now)
         → AreJudged (HasWithin (numbers_of documents.now) checks.now.most
         (filter (is_chosen (as_asked checks.now).operation) (map as_measure operations.now)))
@@ -178,7 +190,8 @@ fn judge_figures(
     let chosen = chosen(alloc, operations, checks.operation)?;
     if checks.operation.is_some() && chosen.is_empty() {
         let finding = unknown_operation(alloc, checks.operation.unwrap_or(""))?;
-        return reports[0].add(finding);
+        reports[0].add(finding)?;
+        return Ok(());
     }
     add_operations(alloc, chosen.as_slice(), documents, checks, reports)
 }
@@ -203,41 +216,53 @@ fn fault_of(error: MeasureError<'_>) -> Result<(Span, &'static str), AllocError>
     }
 }
 
-// Adds why operations have no figures to the report of the text where that is.
+// Adds why operations have no figures to the report of the text where that is, if something is asked of them.
 fn add_fault(
     alloc: Global,
     error: MeasureError<'_>,
-    documents: &[Document<'_>],
-    reports: &mut [Report],
-) -> Result<(), AllocError>
-    requires inside { AreInside documents.now (length reports.old) }
-    requires passing { AllPass reports.old }
-    ensures memory { OnOk result (error.entry ≢ Memory) }
-    ensures failed { OnOk result ((k : ℕ) × (k < length reports.new)
-        × AreJudged (λ text. text ≢ k) reports.old reports.new) }
-{
-    let (span, words) = fault_of(error)?;
-    let message = String::from_str(alloc, words)?;
-    let text = text_of(documents, span.document);
-    reports[text].add(Finding::of(span.start, span.end, "Limits", message))
-}
-
-/// Judges the operations of documents, whose roots are given too.
-pub(crate) fn judge_operations(
-    alloc: Global,
-    roots: &[SyntaxNode<'_>],
     documents: &[Document<'_>],
     checks: &Checks<'_>,
     reports: &mut [Report],
 ) -> Result<(), AllocError>
     requires inside { AreInside documents.now (length reports.old) }
-    requires passing { AllPass reports.old }
+    requires passing { AreClean reports.old }
+    ensures memory { OnOk result (error.entry ≢ Memory) }
+    ensures failed { OnOk result (has_limits (as_asked checks.now) ≡ true
+        → (k : ℕ) × (k < length reports.new) × AreJudged (λ text. text ≢ k) reports.old reports.new) }
+    ensures free { OnOk result (has_limits (as_asked checks.now) ≡ false → reports.new ≡ reports.old) }
+{
+    let (span, words) = fault_of(error)?;
+    if !has_limits(checks) {
+        return Ok(());
+    }
+    let message = String::from_str(alloc, words)?;
+    let text = text_of(documents, span.document);
+    reports[text].add(Finding::of(span.start, span.end, "Limits", message))?;
+    Ok(())
+}
+
+/// Judges the operations of documents, whose roots are given too. `judged` is how many of them are judged.
+pub(crate) fn judge_operations(
+    alloc: Global,
+    roots: &[SyntaxNode<'_>],
+    documents: &[Document<'_>],
+    judged: Option<usize>,
+    checks: &Checks<'_>,
+    reports: &mut [Report],
+) -> Result<(), AllocError>
+    requires inside { AreInside documents.now (length reports.old) }
+    requires passing { AreClean reports.old }
+    requires judged { judged ≡ judged_documents checks.now.judged (numbers_of documents.now) }
     ensures { OnOk result
         (AreMeasured (as_asked checks.now) (map node_place roots.now) (numbers_of documents.now)
         reports.old reports.new) }
 {
-    match measure(alloc, roots, &MeasureOptions::EVERYTHING) {
+    let options = MeasureOptions {
+        introspection: checks.introspection,
+        measured: judged,
+    };
+    match measure(alloc, roots, &options) {
         Ok(operations) => judge_figures(alloc, operations.as_slice(), documents, checks, reports),
-        Err(error) => add_fault(alloc, error, documents, reports),
+        Err(error) => add_fault(alloc, error, documents, checks, reports),
     }
 }

@@ -1,22 +1,35 @@
 // What a text is checked against, and what is found.
-ghost use Rattle.std.specs.Prelude.{◌≡◌, ◌<◌, [], OnOk, true, false, vec_len};
+ghost use Rattle.std.specs.Prelude.{◌≡◌, ◌≢◌, ◌<◌, [], OnOk, true, false, vec_len};
 
 use apollo_parser::{BorrowedError, Limits};
 use apollo_tree::SyntaxNode;
 use cost_figures::{Figures, Limit};
+use cost_limits::Introspection;
+use document_validation::RuleSet;
 use std::alloc::{AllocError, Global};
 
-/// What a text is checked against.
+/// What texts are checked against.
 #[derive(Clone, Copy)]
 pub struct Checks<'a> {
     /// The limits of the parser.
     pub limits: Limits,
     /// The greatest figures that an operation may have.
     pub most: Figures,
-    /// The name of the operation that has to be within them, or `None` for all operations.
+    /// Whether the fields count that introspect the schema.
+    pub introspection: Introspection,
+    /// The name of the operation that has to be within the limits, or `None` for all operations.
     pub operation: Option<&'a str>,
-    /// How many findings are reported at most. If this is 0, the first of them still is.
+    /// How many findings of a text are reported at most. If this is 0, the first of them still is.
     pub findings: usize,
+    /// How many of the texts are judged, from the first on, or `None` for all. The others are only known: they have to
+    /// be documents, and their fragments may be spread.
+    pub judged: Option<usize>,
+    /// The rules whose violations keep the texts from passing.
+    pub rules: RuleSet,
+    /// Other rules, whose violations are warnings, and keep no text from passing.
+    pub warnings: RuleSet,
+    /// How many steps validation may take, or `None` for as many as it takes.
+    pub steps: Option<usize>,
 }
 
 /// A second place that a finding is about, as the first definition of a name.
@@ -42,16 +55,19 @@ pub struct ExceededLimit {
     pub most: u64,
 }
 
-/// Something that keeps a text from passing, or the first of the places of one.
+/// Something that keeps a text from passing, or the first of the places of one; or a warning.
 #[derive(Drop)]
 pub struct Finding {
     /// The byte offset of its place.
     pub start: usize,
     /// The byte offset behind it.
     pub end: usize,
-    /// What it offends: `Syntax`, `Limits`, `KnownOperation`, or the rule of validation under its name in graphql-js.
+    /// What it offends: `Syntax`, `Limits`, `KnownOperation`, the rule of validation under its name in graphql-js, or
+    /// `Steps` where validation would have taken too many.
     pub rule: &'static str,
     pub message: String,
+    /// Whether the text passes all the same.
+    pub is_warning: bool,
     /// The other place, if the rule is about two.
     pub other: Option<OtherPlace>,
     /// The name of the operation that it concerns, if it concerns one; empty where that has no name.
@@ -76,9 +92,9 @@ pub struct Report {
     /// Whether nothing is found in it that keeps the texts from passing.
     pub passes: bool,
     /// The first things that keep them from passing, in the order in which they are found: of errors the first of each
-    /// definition.
+    /// definition. Warnings are behind them.
     pub findings: Vec<Finding>,
-    /// How many more there are.
+    /// How many more things there are that keep them from passing.
     pub more: usize,
     /// Whether there may be still more, as where more than a thousand rules are broken.
     pub at_least: bool,
@@ -87,6 +103,8 @@ pub struct Report {
 }
 
 impl Report {
+    ghost use Rattle.document_checks.specs.Documents.{IsFounded, IsUnwarned};
+
     /// The report of a text with nothing to check.
     pub(crate) fn of_nothing(alloc: Global) -> Report
         ensures passes { result.passes ≡ true }
@@ -117,25 +135,39 @@ impl Report {
 
     /// Whether one more finding is listed, where `most` are at most, and the first always is.
     pub(crate) fn has_room(&self, most: usize) -> bool
-        ensures { result ≡ false → 0 < vec_len self.now.findings }
+        ensures len { result ≡ false → 0 < vec_len self.now.findings }
+        ensures some { result ≡ false → self.now.findings.items ≢ [] }
     {
         self.findings.len() < most.max(1)
     }
 
-    /// Adds a finding, with which the text does not pass.
+    /// Adds an error, with which the text does not pass.
     pub(crate) fn add(&mut self, finding: Finding) -> Result<(), AllocError>
+        requires { finding.is_warning ≡ false }
         ensures passes { OnOk result (self.new.passes ≡ false) }
-        ensures found { OnOk result (0 < vec_len self.new.findings) }
+        ensures found { OnOk result (IsUnwarned self.old → IsUnwarned self.new) }
     {
         self.passes = false;
         self.findings.push(finding)?;
         Ok(())
     }
 
-    /// Counts a finding that is not listed.
+    /// Adds a warning, with which the text passes or not as before.
+    pub(crate) fn warn(&mut self, warning: Finding) -> Result<(), AllocError>
+        requires { warning.is_warning ≡ true }
+        ensures passes { OnOk result (self.new.passes ≡ self.old.passes) }
+        ensures found { OnOk result (IsFounded self.old → IsFounded self.new) }
+        ensures some { OnOk result (self.new.findings.items ≢ []) }
+    {
+        self.findings.push(warning)?;
+        Ok(())
+    }
+
+    /// Counts an error that is not listed, where others are.
     pub(crate) fn count_another(&mut self)
+        requires { 0 < vec_len self.old.findings }
         ensures passes { self.new.passes ≡ false }
-        ensures found { self.new.findings.items ≡ self.old.findings.items }
+        ensures found { IsUnwarned self.old → IsUnwarned self.new }
     {
         self.passes = false;
         self.more = self.more.saturating_add(1);
@@ -145,13 +177,15 @@ impl Report {
 impl Finding {
     /// A finding from one byte offset to another, of one place alone.
     pub(crate) fn of(start: usize, end: usize, rule: &'static str, message: String) -> Finding
-        ensures { result.start ≡ start }
+        ensures start { result.start ≡ start }
+        ensures error { result.is_warning ≡ false }
     {
         Finding {
             start,
             end,
             rule,
             message,
+            is_warning: false,
             other: None,
             operation: None,
             limit: None,
@@ -159,7 +193,9 @@ impl Finding {
     }
 
     /// A finding at a node.
-    pub(crate) fn at(node: SyntaxNode<'_>, rule: &'static str, message: String) -> Finding {
+    pub(crate) fn at(node: SyntaxNode<'_>, rule: &'static str, message: String) -> Finding
+        ensures { result.is_warning ≡ false }
+    {
         let range = node.text_range();
         Finding::of(range.start(), range.end(), rule, message)
     }
@@ -167,7 +203,8 @@ impl Finding {
     /// A finding that an error of the parser is, with the byte offset at which it is shown. At the end of the text it
     /// has no length.
     pub(crate) fn of_error(error: &BorrowedError<'_>, start: usize, message: String) -> Finding
-        ensures { result.start ≡ start }
+        ensures start { result.start ≡ start }
+        ensures error { result.is_warning ≡ false }
     {
         let length = if error.is_eof() {
             0

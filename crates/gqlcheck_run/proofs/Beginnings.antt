@@ -1,16 +1,13 @@
--- What is printed of a text that does not pass begins with its first finding.
+-- What is printed of a text begins with its first finding.
 use Rattle.std.proofs.Common.{◌≡◌, ◌∙◌, ◌<◌, ◌≤◌, ◌+◌, ℕ, List, [], ◌∷◌, ◌++◌, length, take, get_or, sym, ap, subst}
 use Rattle.std.proofs.Common.{append_assoc, append-nil, min, arith}
 use Rattle.std.proofs.lemmas.List.{take_all}
 use Rattle.json.specs.Json.{Json}
 use Rattle.marked_lines.specs.Places.{BeginsWith, OfFirst}
 use Rattle.marked_lines.proofs.Fronts.{begins_through, of_first_front, of_first_kept}
-use Rattle.document_checks.specs.Checking.{Asked}
-use Rattle.document_checks.specs.Findings.{AreFindings}
 use Rattle.document_checks.specs.declared.report.Finding.{Finding}
-use Rattle.command_lines.specs.declared.gqlcheck.Format.{Format}
 use Rattle.command_lines.specs.declared.gqlcheck.Format.TheVariants.{Sarif}
-use Rattle.gqlcheck_run.specs.Places.{BeginsWithLine, BeginsWithResult, IsAboutFirst}
+use Rattle.gqlcheck_run.specs.Places.{BeginsWithLine, BeginsWithResult}
 use Rattle.gqlcheck_run.specs.Rendering.{BeginsAtFirst}
 use Rattle.gqlcheck_run.specs.SarifResults.{artifact_uri}
 
@@ -70,20 +67,3 @@ results_kept name uri source findings items old new spelled same so_far grown =
     (subst (λ (u : List ℕ). OfFirst (λ f. BeginsWithResult u source (min f.start (length source)) new) items) spelled
     (of_first_kept (λ f output. BeginsWithResult uri source (min f.start (length source)) output) items old new so_far
     (λ f. result_kept uri source (min f.start (length source)) old new grown)))
-
--- ---- a text that does not pass
-
-within_again : (offset n : ℕ) → min (min offset n) n ≡ min offset n
-within_again offset n = omega arith
-
--- the first finding is where the first error is shown
-pub about_first : (asked : Asked) (format : Format) (name source : List ℕ) (findings : List Finding) (output : List ℕ)
-    → AreFindings asked.limits source findings → BeginsAtFirst format name source findings output
-    → IsAboutFirst asked format name source output
-about_first asked format name source [] output found begins = absurd found
-about_first asked format name source (f ∷ fs) output found begins = record {
-  offset = min f.start (length source);
-  inside = omega arith;
-  begins = begins;
-  first = λ error is. ap (λ (s : ℕ). min s (length source)) (found error is) ∙ within_again _ (length source);
-}

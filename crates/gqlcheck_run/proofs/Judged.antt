@@ -1,15 +1,16 @@
 -- Texts with their reports.
-use Rattle.std.proofs.Common.{◌≡◌, ◌∙◌, ◌<◌, ℕ, zero, suc, List, [], ◌∷◌, length, get_or, map, refl, ap, sym}
-use Rattle.std.proofs.Common.{arith, false, subst, true}
-use Rattle.std.specs.Prelude.{◌↔◌, All, string_bytes}
+use Rattle.std.proofs.Common.{◌≡◌, ◌∙◌, ◌<◌, ℕ, suc, List, [], ◌∷◌, length, get_or, map, refl, ap, sym}
+use Rattle.std.proofs.Common.{arith, subst, true}
+use Rattle.std.specs.Prelude.{◌↔◌, All}
 use Rattle.std.specs.List.{zip}
 use Rattle.std.proofs.lemmas.List.{get_or_default}
 use Rattle.std.proofs.lemmas.List.Elements.{All-cons, All-head, All-nil, All-tail}
 use Rattle.std.proofs.lemmas.Slice.Zip.{get_or-zip}
 use Rattle.apollo_lexer.specs.declared.limits.Limits.{Limits}
 use Rattle.document_checks.specs.Checking.{Asked}
-use Rattle.document_checks.specs.Findings.{AreFindings, AreReports, HasErrors}
+use Rattle.document_checks.specs.Findings.{AreReports, IsReport}
 use Rattle.document_checks.specs.Passing.{PassEach}
+use Rattle.document_checks.specs.Warnings.{WarnEach}
 use Rattle.document_checks.specs.declared.report.Report.{Report}
 use Rattle.gqlcheck_run.specs.Inputs.{Input, as_input, text_of}
 use Rattle.gqlcheck_run.specs.Judging.{Judged, as_judged, judged_by}
@@ -21,8 +22,8 @@ report_passes report = report.passes ≡ true
 abbrev judged_passes : Judged → Type 0
 judged_passes it = it.report.passes ≡ true
 
-abbrev is_refused : Limits → Judged → Type 0
-is_refused limits it = HasErrors limits it.input.text → it.report.passes ≡ false
+abbrev is_report : Limits → Judged → Type 0
+is_report limits it = IsReport limits it.input.text it.report
 
 module _ {A : Type 0} (limits : Limits) where
   -- there are as many reports as texts
@@ -73,34 +74,13 @@ module _ {A : Type 0} (limits : Limits) where
       All-cons report_passes r rs (All-head judged_passes (as_judged (i, r)) (judged_by is rs) all)
       (all_passed is rs are.1 (All-tail judged_passes (as_judged (i, r)) (judged_by is rs) all))
 
-  pub all_refused : (inputs : List (declared.Input A)) (reports : List Report)
+  pub all_found : (inputs : List (declared.Input A)) (reports : List Report)
       → AreReports limits (map text_of (map as_input inputs)) reports
-      → All (is_refused limits) (judged_by inputs reports)
-  all_refused [] reports are = All-nil (is_refused limits)
-  all_refused (i ∷ is) [] are = absurd are
-  all_refused (i ∷ is) (r ∷ rs) are =
-      All-cons (is_refused limits) (as_judged (i, r)) (judged_by is rs) are.0.refused (all_refused is rs are.1)
-
-  -- what a report has that does not pass
-  pub found_at : (inputs : List (declared.Input A)) (reports : List Report) (i : ℕ) (d : declared.Input A) (e : Report)
-      → AreReports limits (map text_of (map as_input inputs)) reports → i < length inputs
-      → (get_or reports i e).passes ≡ false
-      → AreFindings limits (string_bytes (get_or inputs i d).text) (get_or reports i e).findings.items
-  found_at [] reports i d e are within fails = absurd (omega (arith, within))
-  found_at (x ∷ xs) [] i d e are within fails = absurd are
-  found_at (x ∷ xs) (r ∷ rs) zero d e are within fails = are.0.found fails
-  found_at (x ∷ xs) (r ∷ rs) (suc i) d e are within fails = found_at xs rs i d e are.1 (omega (arith, within)) fails
-
-  -- the same as the code has it
-  pub found_for : (inputs : List (declared.Input A)) (reports : List Report) (i : ℕ) (x d : declared.Input A)
-      (r e : Report)
-      → AreReports limits (map text_of (map as_input inputs)) reports → i < length inputs
-      → x ≡ get_or inputs i d → r ≡ get_or reports i e → r.passes ≡ false
-      → AreFindings limits (string_bytes x.text) r.findings.items
-  found_for inputs reports i x d r e are within is_x is_r fails =
-      subst (λ (y : declared.Input A). AreFindings limits (string_bytes y.text) r.findings.items) (sym is_x)
-      (subst (λ (q : Report). AreFindings limits (string_bytes (get_or inputs i d).text) q.findings.items) (sym is_r)
-      (found_at inputs reports i d e are within (subst (λ (q : Report). q.passes ≡ false) is_r fails)))
+      → All (is_report limits) (judged_by inputs reports)
+  all_found [] reports are = All-nil (is_report limits)
+  all_found (i ∷ is) [] are = absurd are
+  all_found (i ∷ is) (r ∷ rs) are =
+      All-cons (is_report limits) (as_judged (i, r)) (judged_by is rs) are.0 (all_found is rs are.1)
 
   pub all_together : {P : Type 0} (inputs : List (declared.Input A)) (reports : List Report)
       → AreReports limits (map text_of (map as_input inputs)) reports
@@ -119,6 +99,15 @@ pub which : {A : Type 0} (asked : Asked) (inputs : List (declared.Input A)) (rep
 which asked inputs reports are pass =
     subst (λ (rs : List Report). PassEach asked (map text_of (map as_input inputs)) rs)
     (sym (reports_of asked.limits inputs reports are)) pass
+
+-- which of them have warnings
+pub warned : {A : Type 0} (asked : Asked) (inputs : List (declared.Input A)) (reports : List Report)
+    → AreReports asked.limits (map text_of (map as_input inputs)) reports
+    → WarnEach asked (map text_of (map as_input inputs)) reports
+    → WarnEach asked (map text_of (map as_input inputs)) (map (λ (it : Judged). it.report) (judged_by inputs reports))
+warned asked inputs reports are warn =
+    subst (λ (rs : List Report). WarnEach asked (map text_of (map as_input inputs)) rs)
+    (sym (reports_of asked.limits inputs reports are)) warn
 
 -- a text and its report, as the code has them
 pub pair_at : {A B : Type 0} (xs : List A) (ys : List B) (i : ℕ) (x d : A) (y e : B)

@@ -5,3 +5,5 @@ pub mod Lines
 pub mod Quiet
 pub mod Judged
 pub mod Marks
+pub mod RuleNames
+pub mod Plans

@@ -6,11 +6,11 @@ use Rattle.document_checks.specs.Checking.{Asked}
 use Rattle.file_access.specs.Listing.{Listing}
 use Rattle.named_files.specs.Handling.{State}
 use Rattle.gqlcheck_run.specs.declared.job.Printing.{Printing}
-use Rattle.gqlcheck_run.specs.Program.{ChecksAndCloses, Continues}
+use Rattle.gqlcheck_run.specs.Program.{ChecksAndCloses, Continues, Paths}
 
 module _ {S : Type 0} (lists : S → List ℕ → Listing → S → Type 0) (omits : S → List ℕ → Result Bool Error → S → Type 0)
     (reads : S → List ℕ → Result (List ℕ) Error → S → Type 0)
-    (asked : Asked) (printing : Printing) (paths : List (List ℕ)) where
+    (asked : Asked) (printing : Printing) (paths : Paths) where
   pub stopped : (status : ℕ) (state : State S) → (status ≡ 0 → ⊥)
       → Continues lists omits reads asked printing paths status status state state
   stopped zero state broken = absurd (broken refl)

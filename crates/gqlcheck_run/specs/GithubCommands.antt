@@ -1,6 +1,6 @@
 -- Workflow commands of GitHub Actions, as its documentation has them ("Workflow commands for GitHub Actions", "Setting
 -- an error message").
-use Rattle.std.specs.Prelude.{◌==◌, ℕ, List, [], ◌∷◌, ◌++◌, codes, decimal, if◌then◌else◌}
+use Rattle.std.specs.Prelude.{◌==◌, ℕ, Bool, true, false, List, [], ◌∷◌, ◌++◌, codes, decimal, if◌then◌else◌}
 use Rattle.std.specs.List.{flat_map}
 
 -- A byte of a message: `%`, CR and LF are escaped.
@@ -19,9 +19,13 @@ message_data text = flat_map data_byte text
 abbrev pub property : List ℕ → List ℕ
 property text = flat_map property_byte text
 
--- how the command for an error begins that is in a file of this name, at a line and a column
+-- how the command for a finding begins that is in a file of this name, at a line and a column
+abbrev pub command_of : Bool → List ℕ
+command_of true = codes "::warning file="
+command_of false = codes "::error file="
+
 abbrev pub position : ℕ → ℕ → List ℕ
 position line column = codes ",line=" ++ decimal line ++ codes ",col=" ++ decimal column ++ codes ","
 
-abbrev pub error_at : List ℕ → ℕ → ℕ → List ℕ
-error_at name line column = codes "::error file=" ++ property name ++ position line column
+abbrev pub command_at : Bool → List ℕ → ℕ → ℕ → List ℕ
+command_at is_warning name line column = command_of is_warning ++ property name ++ position line column

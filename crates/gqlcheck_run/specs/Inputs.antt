@@ -1,10 +1,12 @@
 -- The texts of a run.
-use Rattle.std.specs.Prelude.{◌≡◌, ◌||◌, ℕ, Bool, false, List, [], ◌∷◌, ◌++◌, map, bytes_eq, string_bytes}
-use Rattle.std.specs.Prelude.{Result, Ok, Err}
+use Rattle.std.specs.Prelude.{◌≡◌, ◌||◌, ◌+◌, ◌*◌, ℕ, Bool, false, List, [], ◌∷◌, ◌++◌, length, map, bytes_eq}
+use Rattle.std.specs.Prelude.{string_bytes, Result, Ok, Err}
 use Rattle.std.specs.BTreeSet.{contains_text}
+use Rattle.std.specs.List.{sum_by}
 use Rattle.std.specs.Str.{IsUtf8}
 use Rattle.byte_streams.specs.declared.fault.Fault.{Fault}
 use Rattle.byte_streams.specs.declared.fault.Fault.TheVariants.{Read, Utf8, Memory, Write}
+use Rattle.gqlcheck_run.specs.Numbers.{capped}
 use Rattle.gqlcheck_run.specs.declared.inputs.Input as declared
 use Rattle.gqlcheck_run.specs.declared.inputs.Texts as declared_texts
 
@@ -18,6 +20,14 @@ as_input input = record { name = string_bytes input.name; text = string_bytes in
 
 abbrev pub text_of : Input → List ℕ
 text_of input = input.text
+
+-- how many bytes some texts have, or the greatest number of 64 bits where they have more
+abbrev pub bytes_in : List Input → ℕ
+bytes_in inputs = capped (sum_by (λ input. length input.text) inputs)
+
+-- the steps that validation may take for some bytes, if no other number is given
+abbrev pub default_steps : ℕ → ℕ
+default_steps bytes = capped (1000000 + 10 * bytes)
 
 -- the texts that are kept, and whether the file at a path was read before
 pub record Texts : Type 0 where

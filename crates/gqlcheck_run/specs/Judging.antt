@@ -1,13 +1,14 @@
 -- Judging the texts of a run together, and writing what is found.
-use Rattle.std.specs.Prelude.{◌≡◌, ◌⊎◌, ◌↔◌, ℕ, max, Bool, true, false, List, [], All, map, Result, Ok, Err}
+use Rattle.std.specs.Prelude.{◌≡◌, ◌⊎◌, ◌↔◌, ℕ, max, true, false, List, [], All, map, Result, Ok, Err}
 use Rattle.std.specs.List.{zip}
 use Rattle.byte_streams.specs.Devices.{Account, moved}
 use Rattle.byte_streams.specs.Writing.{IsBroken}
 use Rattle.byte_streams.specs.declared.fault.Fault.{Fault}
 use Rattle.byte_streams.specs.declared.fault.Fault.TheVariants.{Read, Utf8, Memory, Write}
 use Rattle.document_checks.specs.Checking.{Asked, PassTogether}
-use Rattle.document_checks.specs.Findings.{HasErrors}
+use Rattle.document_checks.specs.Findings.{IsReport}
 use Rattle.document_checks.specs.Passing.{PassEach}
+use Rattle.document_checks.specs.Warnings.{WarnEach}
 use Rattle.document_checks.specs.declared.report.Report.{Report}
 use Rattle.named_files.specs.Handling.{InTurn}
 use Rattle.command_lines.specs.Streams.{IsSaid, no_memory}
@@ -16,7 +17,7 @@ use Rattle.gqlcheck_run.specs.declared.inputs.Input as declared
 use Rattle.gqlcheck_run.specs.declared.job.Printing.{Printing}
 use Rattle.gqlcheck_run.specs.Ending.{Says, prints_figures, status_of, verdict_of}
 use Rattle.gqlcheck_run.specs.Inputs.{Input, as_input, text_of}
-use Rattle.gqlcheck_run.specs.Places.{IsAboutFirst}
+use Rattle.gqlcheck_run.specs.Rendering.{BeginsAtFirst}
 
 -- a text, and what is found of it
 pub record Judged : Type 0 where
@@ -29,12 +30,11 @@ as_judged it = record { input = as_input it.0; report = it.1 }
 abbrev pub judged_by : {A : Type 0} → List (declared.Input A) → List Report → List Judged
 judged_by inputs reports = map as_judged (zip inputs reports)
 
--- What is written of a text: of one that passes nothing, unless its figures are wanted, and of one that does not, first
--- the place of a finding. How more findings and figures are printed is not stated.
-pub record IsOutput (asked : Asked) (printing : Printing) (input : Input) (passes : Bool)
-    (output : List ℕ) : Type 0 where
-  pub quiet : passes ≡ true → prints_figures printing ≡ false → output ≡ []
-  pub found : passes ≡ false → IsAboutFirst asked printing.format input.name input.text output
+-- What is written of a text: first the place of the first finding. If there is none, nothing is written, unless figures
+-- are wanted. How more findings and figures are printed is not stated.
+pub record IsOutput (printing : Printing) (judged : Judged) (output : List ℕ) : Type 0 where
+  pub found : BeginsAtFirst printing.format judged.input.name judged.input.text judged.report.findings.items output
+  pub quiet : judged.report.findings.items ≡ [] → prints_figures printing ≡ false → output ≡ []
 
 -- what went through standard output and standard error
 pub record Printed : Type 0 where
@@ -50,23 +50,24 @@ Prints IsOutputHere (Err Read) old new = ⊥
 Prints IsOutputHere (Err Utf8) old new = ⊥
 
 -- That is written of a text, or it is said why not.
-pub record WritesReport (asked : Asked) (printing : Printing) (judged : Judged) (status : ℕ)
-    (old new : Printed) : Type 0 where
+pub record WritesReport (printing : Printing) (judged : Judged) (status : ℕ) (old new : Printed) : Type 0 where
   pub ended : Result (Unit {0}) Fault
-  pub prints : Prints (IsOutput asked printing judged.input judged.report.passes) ended old.output new.output
+  pub prints : Prints (IsOutput printing judged) ended old.output new.output
   pub says : Says judged.input.name ended old.complaints new.complaints
   pub counted : status ≡ max (verdict_of judged.report.passes) (status_of ended)
 
--- Something keeps the texts from passing exactly if they do not pass together, and a text that has errors does. Which
--- texts pass is as `PassEach` has it. What is found of them is written, of one after the other.
+-- Something keeps the texts from passing exactly if they do not pass together. `PassEach` has which texts pass, and
+-- `WarnEach` which of these have warnings. Each report says what `IsReport` has: one with which a text does not pass
+-- begins with an error, and any other has warnings alone. They are written, one after the other.
 pub record JudgesAndWrites (asked : Asked) (printing : Printing) (inputs : List Input) (status : ℕ)
     (old new : Printed) : Type 0 where
   pub judged : List Judged
   pub each : map (λ it. it.input) judged ≡ inputs
   pub together : All (λ it. it.report.passes ≡ true) judged ↔ PassTogether asked (map text_of inputs)
-  pub refused : All (λ it. HasErrors asked.limits it.input.text → it.report.passes ≡ false) judged
+  pub found : All (λ it. IsReport asked.limits it.input.text it.report) judged
   pub which : PassEach asked (map text_of inputs) (map (λ it. it.report) judged)
-  pub writes : InTurn (WritesReport asked printing) judged status old new
+  pub warned : WarnEach asked (map text_of inputs) (map (λ it. it.report) judged)
+  pub writes : InTurn (WritesReport printing) judged status old new
 
 -- That is done; or memory is refused for judging them, and only that is said.
 abbrev pub JudgesTexts : Asked → Printing → List Input → ℕ → Printed → Printed → Type 0

@@ -11,3 +11,4 @@ pub mod Reading
 pub mod Rendering
 pub mod SarifResults
 pub mod Titles
+pub mod Rules

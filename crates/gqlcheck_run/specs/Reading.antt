@@ -1,5 +1,6 @@
 -- Reading the texts of a run.
-use Rattle.std.specs.Prelude.{◌≡◌, ◌≢◌, ◌⊎◌, ℕ, Bool, true, false, List, [], ◌∷◌, Result, Ok, Err}
+use Rattle.std.specs.Prelude.{◌≡◌, ◌≢◌, ◌⊎◌, ℕ, Bool, true, false, List, [], ◌∷◌, Option, Some, None, Result}
+use Rattle.std.specs.Prelude.{Ok, Err}
 use Rattle.std.specs.declared.io.Error.{Error}
 use Rattle.byte_streams.specs.Devices.{Account}
 use Rattle.byte_streams.specs.Runs.{Reads}
@@ -118,3 +119,8 @@ module _ {S : Type 0} (lists : S → List ℕ → Listing → S → Type 0) (omi
       × (new.files ≡ old.files)
   ReadsTexts (path ∷ paths) status input input' old new =
       InTurn ReadsPath (path ∷ paths) status old new × (input' ≡ input)
+
+  -- The files that a path names are read, if there is one.
+  abbrev pub ReadsKnown : Option (List ℕ) → ℕ → Reading S → Reading S → Type 0
+  ReadsKnown None status old new = (status ≡ 0) × (new ≡ old)
+  ReadsKnown (Some path) status old new = ReadsPath path status old new

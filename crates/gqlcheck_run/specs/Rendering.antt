@@ -8,4 +8,5 @@ use Rattle.gqlcheck_run.specs.Places.{BeginsAt}
 -- the place of the first one, if there is one; a finding beyond the text is at its end
 abbrev pub BeginsAtFirst : Format → List ℕ → List ℕ → List Finding → List ℕ → Type 0
 BeginsAtFirst format name source findings output =
-    OfFirst (λ finding. BeginsAt format name source (min finding.start (length source)) output) findings
+    OfFirst (λ finding. BeginsAt format finding.is_warning name source (min finding.start (length source)) output)
+    findings

@@ -34,8 +34,17 @@ is named.
   --max-height N      fields, each response name counted once in a selection set
   --max-distinct-root-fields N
                       root fields, counted like the height
+  --without-introspection
+                      limits and figures count no field __schema or __type, and
+                      nothing in it
   --operation NAME    limits and figures of this operation alone
   --figures           print each operation's figures, and the greatest of each
+  --fragments PATH    a file or folder whose fragments are known and not judged
+  --allow RULES       do not judge these rules: names as messages have them in
+                      brackets, joined by commas
+  --warn RULES        tell of these as warnings, which do not change the status
+  --max-steps N       how many steps validation may take (if not given, by the
+                      size of the documents)
   --format text|json|github|sarif
                       print findings for people (if not given), as JSON with an
                       object a line, as annotations of GitHub Actions, or as one

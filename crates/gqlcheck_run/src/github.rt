@@ -2,13 +2,14 @@
 ghost use Rattle.std.specs.Prelude.{◌≡◌, ◌≤◌, ◌++◌, IfOk, OnOk, length, min, string_bytes};
 ghost use Rattle.marked_lines.specs.Places.{BeginsWith, column_number, line_number};
 ghost use Rattle.command_lines.specs.declared.gqlcheck.Format.TheVariants.{Github};
-ghost use Rattle.gqlcheck_run.specs.GithubCommands.{data_byte, error_at, message_data, position, property};
+ghost use Rattle.gqlcheck_run.specs.GithubCommands.{command_at, data_byte, message_data, position, property};
 ghost use Rattle.gqlcheck_run.specs.GithubCommands.{property_byte};
 ghost use Rattle.gqlcheck_run.specs.Numbers.{capped};
 ghost use Rattle.gqlcheck_run.specs.Rendering.{BeginsAtFirst};
 
 use crate::others::Others;
 use crate::places::{column_of, line_of, offset_within, part_between};
+use crate::severity::command_of;
 use crate::tally::words_before;
 use document_checks::{Finding, OtherPlace, Report};
 use line_index::LineIndex;
@@ -60,7 +61,7 @@ fn push_property<A: Allocator>(lines: &mut Vec<u8, A>, text: &str) -> Result<(),
     Ok(())
 }
 
-// The line and the column of an error, as properties between others.
+// The line and the column of a finding, as properties between others.
 fn position<A: Allocator>(alloc: A, line: usize, column: usize) -> Result<String<A>, AllocError>
     ensures { IfOk result (λ text. string_bytes text ≡ position line column) }
 {
@@ -69,24 +70,25 @@ fn position<A: Allocator>(alloc: A, line: usize, column: usize) -> Result<String
     Ok(text)
 }
 
-// The command for an error, with its file, its line and its column.
-fn push_error_at<A: Allocator + Copy>(
+// The command for a finding, with its file, its line and its column.
+fn push_command_at<A: Allocator + Copy>(
     alloc: A,
     lines: &mut Vec<u8, A>,
+    is_warning: bool,
     name: &str,
     line: usize,
     column: usize,
 ) -> Result<(), AllocError>
-    ensures { OnOk result (lines.new.items ≡ lines.old.items ++ error_at name.now line column) }
+    ensures { OnOk result (lines.new.items ≡ lines.old.items ++ command_at is_warning name.now line column) }
 {
-    lines.extend_from_slice(b"::error file=")?;
+    lines.extend_from_slice(command_of(is_warning))?;
     push_property(lines, name)?;
     let position = position(alloc, line, column)?;
     lines.extend_from_slice(position.as_bytes())?;
     Ok(())
 }
 
-// Where the error ends, its rule, and its message.
+// Where the finding ends, its rule, and its message.
 fn push_message<A: Allocator + Copy>(
     alloc: A,
     lines: &mut Vec<u8, A>,
@@ -178,13 +180,13 @@ fn push_finding<A: Allocator + Copy>(
     requires { index.now ≡ source.now }
     ensures { OnOk result (let start = min finding.now.start (length source.now) in
         BeginsWith lines.new.items
-        (lines.old.items ++ error_at name.now (capped (line_number source.now start))
+        (lines.old.items ++ command_at finding.now.is_warning name.now (capped (line_number source.now start))
         (capped (column_number source.now start)))) }
 {
     let part = part_between(source, finding.start, finding.end);
     let line = line_of(source, index, part.start);
     let column = column_of(source, index, part.start);
-    push_error_at(others.alloc, lines, name, line, column)?;
+    push_command_at(others.alloc, lines, finding.is_warning, name, line, column)?;
     push_message(others.alloc, lines, source, index, part.end, finding)?;
     push_other(lines, others, name, source, index, finding.other)?;
     lines.push(b'\n')?;

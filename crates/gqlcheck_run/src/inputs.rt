@@ -4,7 +4,7 @@ ghost use Rattle.std.specs.BTreeSet.{contains_text};
 ghost use Rattle.byte_streams.specs.Runs.{Reads};
 ghost use Rattle.byte_streams.specs.declared.fault.Fault.TheVariants.{Read};
 ghost use Rattle.document_checks.specs.Checking.{texts_of};
-ghost use Rattle.gqlcheck_run.specs.Inputs.{Keeps, Marks, as_input, as_texts, no_texts, text_of};
+ghost use Rattle.gqlcheck_run.specs.Inputs.{Keeps, Marks, as_input, as_texts, bytes_in, no_texts, text_of};
 ghost use Rattle.gqlcheck_run.specs.Reading.{ReadsInput};
 
 use crate::outcome::end;
@@ -128,4 +128,15 @@ pub fn sources<A: Allocator>(alloc: A, inputs: &[Input<A>]) -> Result<Vec<&str, 
         sources.push(input.text.as_str())?;
     }
     Ok(sources)
+}
+
+/// How many bytes texts have, or `usize::MAX` where they have more.
+pub fn bytes_in<A: Allocator>(inputs: &[Input<A>]) -> usize
+    ensures { result ≡ bytes_in (map as_input inputs.now) }
+{
+    let mut bytes: usize = 0;
+    for input in inputs {
+        bytes = bytes.saturating_add(input.text.len());
+    }
+    bytes
 }

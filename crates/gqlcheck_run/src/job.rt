@@ -2,8 +2,9 @@
 ghost use Rattle.std.specs.Prelude.{◌≡◌, ◌↔◌, All, IfOk, OnOk, false, length, map, string_bytes, true};
 ghost use Rattle.byte_streams.specs.Runs.{Writes};
 ghost use Rattle.document_checks.specs.Checking.{PassTogether, as_asked};
-ghost use Rattle.document_checks.specs.Findings.{AreFindings, AreReports};
+ghost use Rattle.document_checks.specs.Findings.{AreReports};
 ghost use Rattle.document_checks.specs.Passing.{PassEach};
+ghost use Rattle.document_checks.specs.Warnings.{WarnEach};
 ghost use Rattle.document_checks.specs.declared.report.Report.{Report};
 ghost use Rattle.named_files.specs.Handling.{InTurn};
 ghost use Rattle.gqlcheck_run.specs.Ending.{has_figures, prints_figures};
@@ -68,6 +69,8 @@ impl<A: Allocator + Copy, C: DocumentChecker> Job<'_, '_, A, C> {
             (λ reports. AreReports self.now.checks.limits (map text_of (map as_input inputs.now)) reports.items) }
         ensures each { IfOk result
             (λ reports. PassEach (as_asked self.now.checks) (map text_of (map as_input inputs.now)) reports.items) }
+        ensures warned { IfOk result
+            (λ reports. WarnEach (as_asked self.now.checks) (map text_of (map as_input inputs.now)) reports.items) }
     {
         let sources = sources(self.alloc, inputs)?;
         self.checker.check(sources.as_slice(), &self.checks)
@@ -90,11 +93,11 @@ impl<A: Allocator + Copy, C: DocumentChecker> Job<'_, '_, A, C> {
             Format::Text => rendered(others, name, source, report, figures),
             Format::Json => json_lines(others, name, source, report, figures),
             Format::Github => commands(others, name, source, report),
-            Format::Sarif => results(others, name, source, report, tally.errors > 0),
+            Format::Sarif => results(others, name, source, report, tally.has_findings),
         }
     }
 
-    // What is printed of a text: what keeps it from passing, and its figures if they are wanted.
+    // What is printed of a text: what keeps it from passing, what it is warned of, and its figures if they are wanted.
     fn output_of(
         &self,
         tally: &Tally,
@@ -102,12 +105,10 @@ impl<A: Allocator + Copy, C: DocumentChecker> Job<'_, '_, A, C> {
         input: &Input<A>,
         report: &Report,
     ) -> Result<Vec<u8, A>, AllocError>
-        requires { report.now.passes ≡ false
-            → AreFindings self.now.checks.limits (string_bytes input.now.text) report.now.findings.items }
-        ensures { IfOk result (λ output. IsOutput (as_asked self.now.checks) self.now.printing (as_input input.now)
-            report.now.passes output.items) }
+        ensures { IfOk result (λ output. IsOutput self.now.printing
+            (record { input = as_input input.now; report = report.now }) output.items) }
     {
-        if report.passes && !prints_figures(self.printing) {
+        if report.findings.is_empty() && !prints_figures(self.printing) {
             return Ok(Vec::new(self.alloc));
         }
         self.in_format(tally, others, input, report)
@@ -122,10 +123,9 @@ impl<A: Allocator + Copy, C: DocumentChecker> Job<'_, '_, A, C> {
         input: &Input<A>,
         report: &Report,
     ) -> Result<(), Fault>
-        requires { report.now.passes ≡ false
-            → AreFindings self.now.checks.limits (string_bytes input.now.text) report.now.findings.items }
-        ensures prints { Prints (IsOutput (as_asked self.now.checks) self.now.printing (as_input input.now)
-            report.now.passes) result (W.account writer.old) (W.account writer.new) }
+        ensures prints { Prints
+            (IsOutput self.now.printing (record { input = as_input input.now; report = report.now }))
+            result (W.account writer.old) (W.account writer.new) }
         ensures quiet { OnOk result (report.now.passes ≡ true → tally.new.errors ≡ tally.old.errors) }
     {
         let output = self.output_of(tally, others, input, report)?;
@@ -144,9 +144,7 @@ impl<A: Allocator + Copy, C: DocumentChecker> Job<'_, '_, A, C> {
         input: &Input<A>,
         report: &Report,
     ) -> u8
-        requires { report.now.passes ≡ false
-            → AreFindings self.now.checks.limits (string_bytes input.now.text) report.now.findings.items }
-        ensures writes { WritesReport (as_asked self.now.checks) self.now.printing
+        ensures writes { WritesReport self.now.printing
             (record { input = as_input input.now; report = report.now }) result
             (record { output = W.account writer.old; complaints = E.account complaints.old })
             (record { output = W.account writer.new; complaints = E.account complaints.new }) }
@@ -167,7 +165,7 @@ impl<A: Allocator + Copy, C: DocumentChecker> Job<'_, '_, A, C> {
         reports: &[Report],
     ) -> u8
         requires { AreReports self.now.checks.limits (map text_of (map as_input inputs.now)) reports.now }
-        ensures writes { InTurn (WritesReport (as_asked self.now.checks) self.now.printing)
+        ensures writes { InTurn (WritesReport self.now.printing)
             (judged_by inputs.now reports.now) result
             (record { output = W.account writer.old; complaints = E.account complaints.old })
             (record { output = W.account writer.new; complaints = E.account complaints.new }) }

@@ -11,6 +11,7 @@ use crate::json_members::{
 };
 use crate::others::Others;
 use crate::places::{Part, column_of, line_of, offset_within, part_between};
+use crate::severity::severity_of;
 use document_checks::{ExceededLimit, Finding, Limit, OperationReport, OtherPlace, Report};
 use json::Writer;
 use line_index::LineIndex;
@@ -154,7 +155,7 @@ fn put_finding<A: Allocator + Copy>(
     ensures { IfOk result (λ _. AddsMembers out.old out.new) }
 {
     put_text(out, "rule", finding.rule)?;
-    put_text(out, "severity", "error")?;
+    put_text(out, "severity", severity_of(finding.is_warning))?;
     put_text(out, "message", finding.message.as_str())?;
     put_other(out, others, name, source, index, finding.other)?;
     put_operation(out, finding)?;

@@ -20,8 +20,10 @@ mod outcome;
 mod places;
 mod program;
 mod report;
+mod rules;
 mod sarif_log;
 mod sarif_results;
+mod severity;
 mod tally;
 
 pub use command::{HELP, USAGE, VERSION};

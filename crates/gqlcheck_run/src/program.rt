@@ -1,17 +1,19 @@
 // A run of the program.
-ghost use Rattle.std.specs.Prelude.{◌≡◌};
+ghost use Rattle.std.specs.Prelude.{◌≡◌, map};
 ghost use Rattle.document_checks.specs.Checking.{as_asked};
 ghost use Rattle.command_lines.specs.Words.{texts};
 ghost use Rattle.command_lines.specs.Reading.{as_given};
-ghost use Rattle.gqlcheck_run.specs.Inputs.{as_texts};
+ghost use Rattle.gqlcheck_run.specs.Inputs.{as_input, as_texts};
 ghost use Rattle.gqlcheck_run.specs.Reading.{ReadsTexts};
-ghost use Rattle.gqlcheck_run.specs.Program.{ChecksAll, ChecksTexts, Runs, asked_by, information_text, printing_of};
+ghost use Rattle.gqlcheck_run.specs.Program.{ChecksAll, ChecksIfRules, ChecksTexts, Refuses, Runs, as_paths, asked_by};
+ghost use Rattle.gqlcheck_run.specs.Program.{asked_of, information_text, introspection_of, printing_of};
 
 use crate::command::{HELP, PROGRAM, USAGE, VERSION};
-use crate::folders::read_paths;
+use crate::folders::{read_known, read_paths};
 use crate::framing::{close, opening};
-use crate::inputs::{Texts, read_input};
+use crate::inputs::{Input, Texts, bytes_in, read_input};
 use crate::job::{Job, Printing};
+use crate::rules::Rules;
 use crate::tally::Tally;
 use byte_streams::{Sink, Source};
 use command_lines::gqlcheck::{Format, options};
@@ -19,7 +21,7 @@ use command_lines::information::{Information, Request};
 use command_lines::misuse::WordsError;
 use command_lines::options::Plan;
 use command_lines::streams::{explain, print, say_no_memory};
-use document_checks::{Checks, DocumentChecker};
+use document_checks::{Checks, DocumentChecker, Introspection, default_steps};
 use file_access::Files;
 use std::alloc::Allocator;
 
@@ -37,6 +39,17 @@ fn information_text(page: Information) -> &'static str
     match page {
         Information::Help => HELP,
         Information::Version => VERSION,
+    }
+}
+
+// Whether the fields count that introspect the schema.
+fn introspection_of<A: Allocator>(plan: &Plan<'_, A>) -> Introspection
+    ensures { result ≡ introspection_of (as_given plan.now) }
+{
+    if plan.is_set("--without-introspection") {
+        Introspection::LeftOut
+    } else {
+        Introspection::Counted
     }
 }
 
@@ -61,9 +74,9 @@ fn read_texts<A: Allocator + Copy, R: Source, E: Sink, F: Files>(
 }
 
 impl<'c, 'w, A: Allocator + Copy, C: DocumentChecker> Job<'c, 'w, A, C> {
-    // What a run of this plan does with each text.
-    fn of(alloc: A, checker: &'c C, plan: &Plan<'w, A>) -> Job<'c, 'w, A, C>
-        ensures asked { as_asked result.checks ≡ asked_by (as_given plan.now) }
+    // What a run of this plan does with each text, by the rules.
+    fn of(alloc: A, checker: &'c C, plan: &Plan<'w, A>, rules: Rules) -> Job<'c, 'w, A, C>
+        ensures asked { as_asked result.checks ≡ asked_by (as_given plan.now) rules.judged rules.told }
         ensures printing { result.printing ≡ printing_of (as_given plan.now) }
     {
         Job {
@@ -72,13 +85,40 @@ impl<'c, 'w, A: Allocator + Copy, C: DocumentChecker> Job<'c, 'w, A, C> {
             checks: Checks {
                 limits: plan.limits(),
                 most: plan.most(),
+                introspection: introspection_of(plan),
                 operation: plan.operation(),
                 findings: most_findings(plan.format()),
+                judged: None,
+                rules: rules.judged,
+                warnings: rules.told,
+                steps: plan.number("--max-steps"),
             },
             printing: Printing {
                 figures: plan.is_set("--figures"),
                 format: plan.format(),
             },
+        }
+    }
+
+    // The same for texts, of which as many as this are judged.
+    fn for_texts(&self, judged: usize, inputs: &[Input<A>]) -> Job<'c, 'w, A, C>
+        ensures asked { as_asked result.checks
+            ≡ asked_of (as_asked self.now.checks) judged (map as_input inputs.now) }
+        ensures printing { result.printing ≡ self.now.printing }
+    {
+        let steps = match self.checks.steps {
+            Some(steps) => steps,
+            None => default_steps(bytes_in(inputs)),
+        };
+        Job {
+            alloc: self.alloc,
+            checker: self.checker,
+            checks: Checks {
+                judged: Some(judged),
+                steps: Some(steps),
+                ..self.checks
+            },
+            printing: self.printing,
         }
     }
 
@@ -92,9 +132,10 @@ impl<'c, 'w, A: Allocator + Copy, C: DocumentChecker> Job<'c, 'w, A, C> {
         files: &mut F,
         tally: &mut Tally,
         paths: &[&str],
+        known: Option<&str>,
     ) -> u8
         ensures checks { ChecksTexts F.lists F.omits F.reads (as_asked self.now.checks) self.now.printing
-            (texts paths.now) result
+            (as_paths paths.now known.entry) result
             (record {
               input = R.account reader.old;
               output = W.account writer.old;
@@ -111,8 +152,11 @@ impl<'c, 'w, A: Allocator + Copy, C: DocumentChecker> Job<'c, 'w, A, C> {
     {
         let mut kept = Texts::new(self.alloc);
         let read = read_texts(self.alloc, reader, complaints, files, &mut kept, paths);
-        let found = self.check_inputs(writer, complaints, tally, kept.inputs.as_slice());
-        read.max(found)
+        let judged = kept.inputs.len();
+        let added = read_known(self.alloc, files, complaints, &mut kept, known);
+        let job = self.for_texts(judged, kept.inputs.as_slice());
+        let found = job.check_inputs(writer, complaints, tally, kept.inputs.as_slice());
+        read.max(added).max(found)
     }
 
     // Does that between what comes before the texts and what comes after them, and gives the status of the run.
@@ -123,9 +167,10 @@ impl<'c, 'w, A: Allocator + Copy, C: DocumentChecker> Job<'c, 'w, A, C> {
         complaints: &mut E,
         files: &mut F,
         paths: &[&str],
+        known: Option<&str>,
     ) -> u8
         ensures { ChecksAll F.lists F.omits F.reads (as_asked self.now.checks) self.now.printing
-            (texts paths.now) result
+            (as_paths paths.now known.entry) result
             (record {
               input = R.account reader.old;
               output = W.account writer.old;
@@ -144,7 +189,7 @@ impl<'c, 'w, A: Allocator + Copy, C: DocumentChecker> Job<'c, 'w, A, C> {
             return opened;
         }
         let mut tally = Tally::NONE;
-        let status = self.check_texts(reader, writer, complaints, files, &mut tally, paths);
+        let status = self.check_texts(reader, writer, complaints, files, &mut tally, paths, known);
         close(
             self.alloc,
             self.printing,
@@ -156,11 +201,58 @@ impl<'c, 'w, A: Allocator + Copy, C: DocumentChecker> Job<'c, 'w, A, C> {
     }
 }
 
+// Says why there is nothing to carry out. The status is 2.
+fn refuse<A: Allocator, E: Sink>(alloc: A, complaints: &mut E, error: WordsError<'_>) -> u8
+    ensures { Refuses error.entry result (E.account complaints.old) (E.account complaints.new) }
+{
+    match error {
+        WordsError::Usage(misuse) => explain(alloc, PROGRAM, USAGE, complaints, misuse),
+        WordsError::Memory => say_no_memory(PROGRAM, complaints),
+    }
+    2
+}
+
+// Checks by a plan, if the rules that it names are rules, and gives the status.
+fn check_by<A: Allocator + Copy, C: DocumentChecker, R: Source, W: Sink, E: Sink, F: Files>(
+    alloc: A,
+    checker: &C,
+    reader: &mut R,
+    writer: &mut W,
+    complaints: &mut E,
+    files: &mut F,
+    plan: &Plan<'_, A>,
+) -> u8
+    ensures { ChecksIfRules F.lists F.omits F.reads (as_given plan.now) result
+        (record {
+          input = R.account reader.old;
+          output = W.account writer.old;
+          complaints = E.account complaints.old;
+          files = files.old;
+        })
+        (record {
+          input = R.account reader.new;
+          output = W.account writer.new;
+          complaints = E.account complaints.new;
+          files = files.new;
+        }) }
+{
+    match Rules::of(alloc, plan.text("--allow"), plan.text("--warn")) {
+        Ok(rules) => {
+            let job = Job::of(alloc, checker, plan, rules);
+            let known = plan.text("--fragments");
+            let paths = plan.files.as_slice();
+            job.check_all(reader, writer, complaints, files, paths, known)
+        }
+        Err(error) => refuse(alloc, complaints, error),
+    }
+}
+
 /// Carries out the request in the words after the program's name, and gives the status: 0 when all texts are read and
 /// pass together, 1 when they do not, 2 when something could not be read or written, memory was refused, or the program
-/// is not called so. Texts that are not read do not keep the others from being judged. Nothing is said on standard
-/// error but with status 2, and a text in which nothing is found prints nothing but its figures, if they are wanted. A
-/// SARIF log is one object for all texts: it is begun before the first and ended after the last. No file is changed.
+/// is not called so. Texts that are not read do not keep the others from being judged. Those of `--fragments` are known
+/// and not judged. Nothing is said on standard error but with status 2, and a text in which nothing is found prints
+/// nothing but its figures, if they are wanted. A SARIF log is one object for all texts: it is begun before the first
+/// and ended after the last. No file is changed.
 pub fn run<A: Allocator + Copy, C: DocumentChecker, R: Source, W: Sink, E: Sink, F: Files>(
     alloc: A,
     checker: &C,
@@ -187,16 +279,8 @@ pub fn run<A: Allocator + Copy, C: DocumentChecker, R: Source, W: Sink, E: Sink,
     match options(alloc, words) {
         Ok(Request::Print(page)) => print(PROGRAM, writer, complaints, information_text(page)),
         Ok(Request::Process(plan)) => {
-            let job = Job::of(alloc, checker, &plan);
-            job.check_all(reader, writer, complaints, files, plan.files.as_slice())
+            check_by(alloc, checker, reader, writer, complaints, files, &plan)
         }
-        Err(WordsError::Usage(misuse)) => {
-            explain(alloc, PROGRAM, USAGE, complaints, misuse);
-            2
-        }
-        Err(WordsError::Memory) => {
-            say_no_memory(PROGRAM, complaints);
-            2
-        }
+        Err(error) => refuse(alloc, complaints, error),
     }
 }

@@ -1,12 +1,13 @@
 // What is printed for people.
-ghost use Rattle.std.specs.Prelude.{◌≡◌, ◌++◌, IfOk, length, min, string_bytes};
+ghost use Rattle.std.specs.Prelude.{◌≡◌, ◌≤◌, ◌++◌, IfOk, length, min, string_bytes};
 ghost use Rattle.marked_lines.specs.Places.{BeginsWith, place};
 ghost use Rattle.command_lines.specs.declared.gqlcheck.Format.TheVariants.{Text};
 ghost use Rattle.gqlcheck_run.specs.Rendering.{BeginsAtFirst};
 ghost use Rattle.gqlcheck_run.specs.Titles.{title_of};
 
 use crate::others::Others;
-use crate::places::{offset_within, part_between};
+use crate::places::{Part, offset_within, part_between};
+use crate::severity::words_before_message;
 use crate::tally::words_before;
 use document_checks::{Figures, Finding, Limit, OperationReport, OtherPlace, Report};
 use line_index::LineIndex;
@@ -59,27 +60,57 @@ fn push_other<A: Allocator + Copy>(
     }
 }
 
-// The finding with its rule, and the line of the text with its place marked; then the same of the other place.
-#[tactic(auto, using(marked_lines::proofs::Fronts::begins_through))]
-fn push_finding<'t, A: Allocator + Copy>(
+// A message with its rule, and the line of the text with the part marked that it is about.
+fn push_marked<'t, A: Allocator>(
     text: &mut String<A>,
-    others: &Others<'_, A>,
     name: &str,
     source: &'t str,
     index: &LineIndex<'_, A>,
-    finding: &'t Finding,
+    part: Part,
+    message: &'t str,
+    rule: &'t str,
+) -> Result<(), AllocError>
+    requires index { index.now ≡ source.now }
+    requires within { part.start ≤ length source.now }
+    ensures { IfOk result (λ _. BeginsWith (string_bytes text.new)
+        (string_bytes text.old ++ place name.now source.now part.start)) }
+{
+    let remark = Remark {
+        offset: part.start,
+        message: (message, " [", rule, "]"),
+        marked: source.get(part.start..part.end).unwrap_or(""),
+    };
+    push_message(text, name, index, &remark)?;
+    Ok(())
+}
+
+// The finding with its rule, and the line of the text with its place marked; then the same of the other place.
+#[tactic(auto, using(marked_lines::proofs::Fronts::begins_through))]
+fn push_finding<A: Allocator + Copy>(
+    text: &mut String<A>,
+    others: &Others<'_, A>,
+    name: &str,
+    source: &str,
+    index: &LineIndex<'_, A>,
+    finding: &Finding,
 ) -> Result<(), AllocError>
     requires { index.now ≡ source.now }
     ensures { IfOk result (λ _. BeginsWith (string_bytes text.new)
         (string_bytes text.old ++ place name.now source.now (min finding.now.start (length source.now)))) }
 {
     let part = part_between(source, finding.start, finding.end);
-    let remark = Remark {
-        offset: part.start,
-        message: (finding.message.as_str(), " [", finding.rule, "]"),
-        marked: source.get(part.start..part.end).unwrap_or(""),
-    };
-    push_message(text, name, index, &remark)?;
+    let front = words_before_message(finding.is_warning);
+    let words = finding.message.as_str();
+    let message = format!(in others.alloc; "{front}{words}")?;
+    push_marked(
+        text,
+        name,
+        source,
+        index,
+        part,
+        message.as_str(),
+        finding.rule,
+    )?;
     push_other(text, others, name, source, index, finding.other)?;
     Ok(())
 }

@@ -14,6 +14,7 @@ use crate::json_members::{
 };
 use crate::others::Others;
 use crate::places::{Part, column_of, line_of, part_between};
+use crate::severity::severity_of;
 use crate::tally::words_before;
 use document_checks::{Finding, OtherPlace, Report};
 use json::Writer;
@@ -260,7 +261,12 @@ fn finding_line<A: Allocator + Copy>(
     let lines = separated(lines, follows)?;
     let mut out = begun(lines)?;
     put_locations(&mut out, uri, source, index, part)?;
-    put_words(&mut out, finding.rule, "error", finding.message.as_str())?;
+    put_words(
+        &mut out,
+        finding.rule,
+        severity_of(finding.is_warning),
+        finding.message.as_str(),
+    )?;
     put_related_locations(&mut out, others, uri, source, index, finding.other)?;
     ended(out)
 }

@@ -2,12 +2,23 @@
 ghost use Rattle.std.specs.Prelude.{◌≡◌, [], IfOk, true, string_bytes};
 
 use crate::greatest::greatest_of;
-use document_checks::{Figures, Report};
+use document_checks::{Figures, Finding, Report};
 use std::alloc::{AllocError, Allocator};
 
 /// What comes before a number, by whether it is at least that.
 pub fn words_before(at_least: bool) -> &'static str {
     if at_least { "at least " } else { "" }
+}
+
+// How many of these findings are no warnings.
+fn errors_among(findings: &[Finding]) -> u64 {
+    let mut errors: u64 = 0;
+    for finding in findings {
+        if !finding.is_warning {
+            errors = errors.saturating_add(1);
+        }
+    }
+    errors
 }
 
 /// How much was found in the texts that were checked. A number that would be above `u64::MAX` is that.
@@ -19,8 +30,10 @@ pub struct Tally {
     pub at_least: bool,
     /// Texts that were checked.
     pub texts: u64,
-    /// Texts with findings.
+    /// Texts with findings that keep them from passing.
     pub with_findings: u64,
+    /// Whether anything was found, be it a warning.
+    pub has_findings: bool,
     /// The greatest of each figure, if any operation has figures.
     pub greatest: Option<Figures>,
 }
@@ -32,6 +45,7 @@ impl Tally {
         at_least: false,
         texts: 0,
         with_findings: 0,
+        has_findings: false,
         greatest: None,
     };
 
@@ -41,13 +55,14 @@ impl Tally {
     {
         self.texts = self.texts.saturating_add(1);
         self.greatest = greatest_of(self.greatest, report.operations.as_slice());
+        self.has_findings = self.has_findings || !report.findings.is_empty();
         if report.passes {
             return;
         }
         self.with_findings = self.with_findings.saturating_add(1);
         self.errors = self
             .errors
-            .saturating_add(report.findings.len() as u64)
+            .saturating_add(errors_among(report.findings.as_slice()))
             .saturating_add(report.more as u64);
         self.at_least = self.at_least || report.at_least;
     }

@@ -20,5 +20,5 @@ returns-clause-found c =
     (map error_of c.in_ok-first.first.errors.items) c.max.result
     c.in_ok-first.first.more (map (λ (finding : Finding). finding.start) c.failed.result.findings.items)
     some c.in_ok-first.ensures
-    (ap (map (λ (finding : Finding). finding.start)) c.failed.ensures.findings ∙ c.loop-error.invariant
+    (ap (map (λ (finding : Finding). finding.start)) c.failed.ensures.findings ∙ c.loop-error.invariant.starts
     ∙ ap (λ xs. map (shown_at source) (map error_of xs)) all)

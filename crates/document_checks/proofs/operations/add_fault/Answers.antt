@@ -1,7 +1,7 @@
-use Rattle.std.proofs.Common.{◌<◌, arith, length, refl}
+use Rattle.std.proofs.Common.{◌<◌, ap, arith, get_or, length, refl}
 use Rattle.std.proofs.Math.ListN.{length-set}
 use Rattle.document_checks.specs.declared.report.Report.{Report}
-use Rattle.document_checks.proofs.Passing.{alone, both_clauses}
+use Rattle.document_checks.proofs.Passing.{alone}
 use Rattle.document_checks.proofs.operations.add_fault.Goals as goal
 
 -- the text of the place alone does not pass
@@ -10,10 +10,10 @@ returns-clause-failed c =
     let text = c.text_of-text.result in
     let inside : text < length c.args.reports.now =
     omega (arith, c.requires.inside c.in_ok-span.span.document) in
-    both_clauses c.add.result
-    (λ fails some. (
+    λ limited. (
       text,
       omega (arith, inside, length-set {A = Report}),
-      alone c.args.reports.now _ text c.add.new.self inside c.requires.passing refl fails some,
-    ))
-    c.add.ensures.passes c.add.ensures.found
+      alone c.args.reports.now _ text (get_or c.args.reports.now text c.index-reports-text.result) c.add.new.self
+          inside c.requires.passing (ap (λ (r : Report). get_or c.args.reports.now text r) c.index-reports-text.is)
+          refl c.in_ok-add.ensures.passes c.in_ok-add.ensures.found,
+    )

@@ -1,14 +1,14 @@
 use Rattle.std.proofs.Common.{ℕ, List, arith, length, min}
 use Rattle.document_checks.specs.declared.report.Finding.{Finding}
 use Rattle.marked_lines.specs.Places.{column_number, line_number}
-use Rattle.gqlcheck_run.specs.GithubCommands.{error_at}
+use Rattle.gqlcheck_run.specs.GithubCommands.{command_at}
 use Rattle.gqlcheck_run.specs.Numbers.{capped}
 use Rattle.gqlcheck_run.proofs.Beginnings.{front_kept, front_more}
 use Rattle.gqlcheck_run.proofs.github.commands.Goals as goal
 
 front : List ℕ → List ℕ → Finding → List ℕ
 front name source finding =
-    error_at name (capped (line_number source (min finding.start (length source))))
+    command_at finding.is_warning name (capped (line_number source (min finding.start (length source))))
     (capped (column_number source (min finding.start (length source))))
 
 pub loop-finding-preserved : goal.loop-finding-preserved

@@ -8,7 +8,7 @@ pub returns-then-has_comments_alone : goal.returns-then-has_comments_alone
 returns-then-has_comments_alone c = λ texts parsed.
     rw c.in_ok-push.ensures.items (add_comments c.args.checks.now.limits c.args.source.now c.of_nothing.result texts
     c.args.self.now.documents.items c.args.self.now.reports.items c.if-has_comments_alone.ensures
-    c.of_nothing.ensures.passes parsed)
+    c.of_nothing.ensures.passes c.of_nothing.ensures.findings parsed)
 
 -- a document
 pub returns : goal.returns
@@ -20,4 +20,5 @@ returns c = λ texts parsed.
     at c.in_ok-tree.ensures.promise in
     rw (c.in_ok-push-3.ensures.items, c.in_ok-push-2.ensures.items) (add_document c.args.checks.now.limits
     c.args.source.now document c.in_ok-report.report texts c.args.self.now.documents.items reports
-    c.if-has_comments_alone.ensures at promise c.in_ok-report.ensures.passes c.in_ok-report.ensures.found parsed)
+    c.if-has_comments_alone.ensures at promise c.in_ok-report.ensures.passes c.in_ok-report.ensures.found
+    c.in_ok-report.ensures.errors c.in_ok-report.ensures.nothing parsed)

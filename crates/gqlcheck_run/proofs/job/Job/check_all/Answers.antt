@@ -1,6 +1,6 @@
 use Rattle.std.proofs.Common.{refl}
 use Rattle.document_checks.specs.Checking.{as_asked}
-use Rattle.command_lines.specs.Words.{texts}
+use Rattle.gqlcheck_run.specs.Program.{as_paths}
 use Rattle.gqlcheck_run.proofs.Openings.{stopped, went_on}
 use Rattle.gqlcheck_run.proofs.job.Job.check_all.Goals as goal
 
@@ -17,7 +17,7 @@ returns-then-opened-ne0 g c = record {
   files = refl;
   continues =
       stopped g.F.Files.lists g.F.Files.omits g.F.Files.reads (as_asked c.args.self.now.checks) c.args.self.now.printing
-      (texts c.args.paths.now) c.print-opened.result _
+      (as_paths c.args.paths.now c.args.known) c.print-opened.result _
       c.if-opened-ne0.true;
 }
 
@@ -34,7 +34,7 @@ returns g c = record {
   files = refl;
   continues =
       went_on g.F.Files.lists g.F.Files.omits g.F.Files.reads (as_asked c.args.self.now.checks) c.args.self.now.printing
-      (texts c.args.paths.now) c.print-opened.result
+      (as_paths c.args.paths.now c.args.known) c.print-opened.result
       c.close.result _ _ c.if-opened-ne0.false (record {
         checked = record {
           input = g.R.Source.account c.check_texts-status.new.reader;

@@ -14,3 +14,9 @@ returns-clause-each g c =
     let same : texts_of c.as_slice.result.now ≡ map text_of (map as_input c.args.inputs.now) =
     ap texts_of c.as_slice.ensures.value ∙ c.in_ok-sources.ensures in
     rw same at c.check.ensures.each
+
+pub returns-clause-warned : goal.returns-clause-warned
+returns-clause-warned g c =
+    let same : texts_of c.as_slice.result.now ≡ map text_of (map as_input c.args.inputs.now) =
+    ap texts_of c.as_slice.ensures.value ∙ c.in_ok-sources.ensures in
+    rw same at c.check.ensures.warned

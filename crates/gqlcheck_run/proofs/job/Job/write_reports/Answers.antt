@@ -1,10 +1,9 @@
 use Rattle.std.proofs.Common.{arith}
 use Rattle.std.specs.List.{zip}
 use Rattle.std.proofs.lemmas.List.{take_all}
-use Rattle.document_checks.specs.Checking.{as_asked}
 use Rattle.named_files.proofs.Turns.{in_turn-next}
 use Rattle.gqlcheck_run.specs.Judging.{WritesReport, as_judged}
-use Rattle.gqlcheck_run.proofs.Judged.{as_many, as_many_pairs, found_for, pair_at}
+use Rattle.gqlcheck_run.proofs.Judged.{as_many, as_many_pairs, pair_at}
 use Rattle.gqlcheck_run.proofs.Quiet.{quiet_more}
 use Rattle.gqlcheck_run.proofs.job.Job.write_reports.Goals as goal
 
@@ -16,16 +15,10 @@ bounds-reports-here g c =
       as_many c.args.self.now.checks.limits c.args.inputs.now c.args.reports.now c.requires,
     )
 
-pub write_report-one-requires : goal.write_report-one-requires
-write_report-one-requires g c =
-    found_for c.args.self.now.checks.limits c.args.inputs.now c.args.reports.now c.loop-here.here
-    c.index-inputs-here.result _ c.index-reports-here.result _ c.requires c.loop-here-test.true c.index-inputs-here.is
-    c.index-reports-here.is
-
 pub loop-here-preserved : goal.loop-here-preserved
 loop-here-preserved g c = record {
   writes =
-      in_turn-next (WritesReport (as_asked c.args.self.now.checks) c.args.self.now.printing) as_judged
+      in_turn-next (WritesReport c.args.self.now.printing) as_judged
       (zip c.args.inputs.now c.args.reports.now) c.loop-here.here c.loop-here.status c.write_report-one.result
       c.max-status.result (c.index-inputs-here.result, c.index-reports-here.result) _ _ _
       (omega (

@@ -1,6 +1,5 @@
 use Rattle.std.proofs.Common.{◌≡◌, map, take}
 use Rattle.std.specs.List.{zip}
-use Rattle.document_checks.specs.Checking.{as_asked}
 use Rattle.named_files.specs.Handling.{InTurn}
 use Rattle.gqlcheck_run.specs.Judging.{WritesReport, as_judged}
 use Rattle.gqlcheck_run.proofs.job.Job.write_reports.Given as goal
@@ -8,7 +7,7 @@ use Rattle.gqlcheck_run.proofs.job.Job.write_reports.Given as goal
 abbrev pub invariant-loop-here : goal.invariant-loop-here
 invariant-loop-here g l = record {
   writes :
-      InTurn (WritesReport (as_asked l.self.checks) l.self.printing)
+      InTurn (WritesReport l.self.printing)
       (map as_judged (take l.here (zip l.inputs l.reports))) l.status
       (record {
         output = g.W.Sink.account l.initial.writer;

@@ -1,7 +1,6 @@
 use Rattle.std.proofs.Common.{◌≡◌, ◌∙◌, ℕ, List, ◌++◌, ap, sym, append_assoc}
-use Rattle.std.specs.Prelude.{codes}
-use Rattle.gqlcheck_run.specs.GithubCommands.{position, property}
-use Rattle.gqlcheck_run.proofs.github.push_error_at.Goals as goal
+use Rattle.gqlcheck_run.specs.GithubCommands.{command_of, position, property}
+use Rattle.gqlcheck_run.proofs.github.push_command_at.Goals as goal
 
 thrice : (old front middle last first second third : List ℕ) → first ≡ old ++ front → second ≡ first ++ middle
     → third ≡ second ++ last
@@ -17,7 +16,7 @@ returns g c =
     c.in_ok-extend_from_slice-2.ensures.items in
     let bytes : c.as_bytes.result.now ≡ position c.args.line c.args.column =
     c.as_bytes.ensures.value ∙ c.in_ok-position.ensures in
-    thrice c.args.lines.now.items (codes "::error file=") (property c.args.name.now)
+    thrice c.args.lines.now.items (command_of c.args.is_warning) (property c.args.name.now)
     (position c.args.line c.args.column) _ _ _
-    c.in_ok-extend_from_slice.ensures.items c.in_ok-push_property.ensures
+    (rw c.command_of.ensures at c.in_ok-extend_from_slice.ensures.items) c.in_ok-push_property.ensures
     (last ∙ ap (λ (t : List ℕ). c.push_property.new.lines.items ++ t) bytes)

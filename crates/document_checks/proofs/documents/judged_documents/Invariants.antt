@@ -1,0 +1,14 @@
+use Rattle.std.proofs.Common.{◌≡◌, ◌≤◌, length, take}
+use Rattle.std.specs.Prelude.{nat_lt}
+use Rattle.std.specs.List.{filter}
+use Rattle.document_checks.specs.Documents.{numbers_of}
+use Rattle.document_checks.proofs.documents.judged_documents.Given as goal
+
+-- those of the documents so far are counted
+abbrev pub invariant-loop-document : goal.invariant-loop-document
+invariant-loop-document l = record {
+  below : l.count ≤ l.document-index;
+  is :
+      l.count
+      ≡ length (filter (λ number. nat_lt number l.texts) (numbers_of (take l.document-index l.documents)));
+}

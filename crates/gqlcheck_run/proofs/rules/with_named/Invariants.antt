@@ -1,0 +1,15 @@
+use Rattle.std.proofs.Common.{◌≡◌, take}
+use Rattle.std.specs.Prelude.{◌||◌, All}
+use Rattle.command_lines.specs.Words.{texts}
+use Rattle.validation_rules.specs.Selection.{has_rule}
+use Rattle.validation_rules.specs.declared.violations.Rule.{Rule}
+use Rattle.gqlcheck_run.specs.Rules.{IsRuleName, is_among}
+use Rattle.gqlcheck_run.proofs.rules.with_named.Given as goal
+
+abbrev pub invariant-loop-name : goal.invariant-loop-name
+invariant-loop-name l = record {
+  known : All IsRuleName (texts (take l.name-index l.names));
+  has :
+      (rule : Rule) → has_rule l.set rule
+      ≡ (has_rule l.initial.set rule || is_among (texts (take l.name-index l.names)) rule);
+}
