@@ -3,10 +3,10 @@ import type { Kind } from "./kinds.js";
 export type { Kind };
 
 /** Loads the parser from `dumyroke.wasm` beside the package's files, or from a source: the URL of that file, its bytes,
- * or the compiled module. It fails where the engine has no 64-bit memory for WebAssembly. */
+ * or the compiled module. It fails where the engine does not support it. */
 export function load(source?: URL | string | BufferSource | WebAssembly.Module): Promise<Parser>;
 
-/** Whether the engine has 64-bit memory for WebAssembly. */
+/** Whether the engine has WebAssembly, with operations on blocks of memory and sign extension. */
 export function isSupported(): boolean;
 
 /** The name of each kind of element, at its number. */
@@ -18,6 +18,7 @@ export const STATUS: {
   /** The text has half of a surrogate pair. */
   readonly NOT_UTF8: number;
   readonly TOO_LONG: number;
+  /** The text, or what was found in it, does not fit the memory: 4 GB at most. */
   readonly NO_MEMORY: number;
   readonly NOT_A_STRING: number;
   readonly NOT_A_DOCUMENT: number;
@@ -122,8 +123,8 @@ export interface Measured {
 export class Parser {
   /** A parser without a wait, as `new Parser(new WebAssembly.Module(bytes))`. */
   constructor(module: WebAssembly.Module);
-  /** Parses any text. RangeError or WebAssembly.RuntimeError is thrown where the engine's stack or memory is too
-   * small. */
+  /** Parses any text. RangeError or WebAssembly.RuntimeError is thrown where the engine's stack is too small, or its
+   * memory for arrays. */
   parse(text: string, limits?: Limits, mostErrors?: Count): Parsed;
   /** Formats a document. One with errors has the status NOT_A_DOCUMENT, and one whose formatted text has more than
    * `mostBytes` bytes NO_ROOM: if not given, 64 MiB, or 16 for each character of the text, if that is more. */

@@ -19,9 +19,7 @@ const NO_FIGURES = {
 const COUNTED_ONCE = { height: "fields", distinctRootFields: "rootFields" };
 const REFUSED = "The parser was refused memory, or the text is too long for it.";
 const HALF = "The text has half of a surrogate pair, which is no character.";
-const NO_MEMORY64 =
-  "This browser has no 64-bit memory for WebAssembly, which the parser needs: " +
-  "Chrome and Edge have it from version 133 on, Firefox from 134 on.";
+const UNSUPPORTED = "This browser has no WebAssembly that takes the parser's module.";
 
 const at = (id) => document.getElementById(id);
 const count = (number, noun) => `${number.toLocaleString("en")} ${noun}${number === 1 ? "" : "s"}`;
@@ -204,4 +202,4 @@ if (isSupported()) {
   at("format").onclick = () => ask("format");
   onhashchange = loadLink;
   loadLink();
-} else say(NO_MEMORY64, "failed");
+} else say(UNSUPPORTED, "failed");

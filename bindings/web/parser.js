@@ -1,6 +1,6 @@
-// The calls of the parser, a WebAssembly module with 64-bit memory: its addresses and lengths are BigInts. This runs in
-// workers and in node.
+// The calls of the parser. This runs in workers and in node.
 
+import { Memory, NoMemory } from "./memory.js";
 import {
   COUNTS,
   COUNTS_BYTES,
@@ -17,16 +17,19 @@ import {
 } from "./rows.js";
 import { NODE } from "./tree.js";
 
-const PAGE_BYTES = 65536;
-// Every type of the module may be aligned to this.
-const ALIGNMENT = 16;
 const NO_LIMIT = 2n ** 64n - 1n;
 // A formatted text may have so many bytes, also if its source is short.
 const MOST_FORMATTED = 2 ** 26;
 
-// Whether this engine takes a module with a memory of 64-bit addresses.
+// A module that has what the parser's has beside the first version of WebAssembly: it extends a sign and fills bytes.
+const PROBE = Uint8Array.of(
+  ...[0, 0x61, 0x73, 0x6d, 1, 0, 0, 0], ...[1, 4, 1, 0x60, 0, 0], ...[3, 2, 1, 0], ...[5, 3, 1, 0, 1],
+  ...[10, 14, 1, 12, 0, 0x41, 0, 0xc0, 0x41, 0, 0x41, 0, 0xfc, 11, 0, 0x0b]
+);
+
+// Whether this engine has WebAssembly, and takes the parser's module.
 export function isSupported() {
-  return WebAssembly.validate(Uint8Array.of(0, 0x61, 0x73, 0x6d, 1, 0, 0, 0, 5, 3, 1, 4, 0));
+  return typeof WebAssembly === "object" && WebAssembly.validate(PROBE);
 }
 
 // A number that a caller gives under this name, as a BigInt for the module. Null and Infinity are no limit, and so is a
@@ -85,79 +88,39 @@ const numbers = (row, at, fields) => fields.map((field) => Number(row.getBigUint
 // one byte.
 const places = (row, at, fields, units) => numbers(row, at, fields).map((byte) => units?.[byte] ?? byte);
 
+// What a call gives; or, where there is no memory for its text and its rows, the same as where the module is refused
+// memory: the status, and that nothing was found.
+function orRefused(call, nothing) {
+  try {
+    return call();
+  } catch (error) {
+    if (!(error instanceof NoMemory)) throw error;
+    return { status: STATUS.NO_MEMORY, ...nothing };
+  }
+}
+
 export class Parser {
   // A parser with a module that was compiled.
   constructor(module) {
     this.module = module;
-    this.#start();
+    this.memory = new Memory(module);
   }
-
-  // Makes an instance of the module. It imports its memory's places: an answer is a byte that says whether there is
-  // one, and 8 bytes further on its address.
-  #start() {
-    const heap_alloc = (answer, bytes, _align) => {
-      let start = null;
-      try {
-        start = this.#place(Number(BigInt.asUintN(64, bytes)));
-      } catch {
-        // refused
-      }
-      const view = new DataView(this.memory.buffer, Number(answer));
-      view.setUint8(0, start === null ? 0 : 1);
-      view.setBigUint64(8, BigInt(start ?? ALIGNMENT), true);
-    };
-    const heap_free = (start) => {
-      if (Number(start) === this.last) this.top = this.last;
-    };
-    this.exports = new WebAssembly.Instance(this.module, { heap: { heap_alloc, heap_free } }).exports;
-    this.memory = this.exports.memory;
-    this.#clear();
-    // engines from before the standard count pages in Numbers
-    try {
-      this.memory.grow(0n);
-      this.pages = BigInt;
-    } catch {
-      this.pages = Number;
-    }
-  }
-
-  // Takes back all places. They are above the module's own memory, one above the other; the last one goes back when it
-  // is freed, too.
-  #clear() {
-    this.last = this.top = Number(this.exports.__heap_base.value);
-  }
-
-  // The address of so many bytes. Throws RangeError when the engine refuses memory.
-  #place(bytes) {
-    const start = Math.ceil(this.top / ALIGNMENT) * ALIGNMENT;
-    const size = this.memory.buffer.byteLength;
-    // half as much again, so that it grows seldom
-    if (start + bytes > size)
-      this.memory.grow(this.pages(Math.ceil(Math.max(start + bytes - size, size / 2) / PAGE_BYTES)));
-    this.last = start;
-    this.top = start + bytes;
-    return start;
-  }
-
-  #bytes = (start, length) => new Uint8Array(this.memory.buffer, start, length);
-
-  #row = (start, bytes) => new DataView(this.memory.buffer, start, bytes);
 
   // Writes a text to memory of which all was taken back: its address and its length in bytes.
   #write(text) {
     const room = 3 * lengthOf(text);
-    this.#clear();
-    const start = this.#place(room);
-    const { written } = new TextEncoder().encodeInto(text, this.#bytes(start, room));
+    this.memory.clear();
+    const start = this.memory.place(room);
+    const { written } = new TextEncoder().encodeInto(text, this.memory.bytes(start, room));
     // the encoder puts another character in place of half a pair: with a byte that UTF-8 does not have, the module
     // refuses the text
-    if (!isWellFormed(text)) this.#bytes(start, 1)[0] = 0xff;
-    this.top = start + written;
+    if (!isWellFormed(text)) this.memory.bytes(start, 1)[0] = 0xff;
+    this.memory.top = start + written;
     return [start, written];
   }
 
   #writeLimits(limits) {
-    const start = this.#place(16);
+    const start = this.memory.place(16);
     new BigUint64Array(this.memory.buffer, start, 2).set(limitsOf(limits));
     return start;
   }
@@ -165,16 +128,16 @@ export class Parser {
   // Calls an export. An instance in which a call was cut off, as by a full stack, is thrown away.
   #call(name, ...words) {
     try {
-      return this.exports[name](...words.map(BigInt));
+      return this.memory.exports[name](...words.map(BigInt));
     } catch (error) {
-      this.#start();
+      this.memory = new Memory(this.module);
       throw error;
     }
   }
 
   // Parses a text: the rows of its elements, where the text of the tree ends, its first errors, and how many there are.
   // Offsets are those of the JavaScript string. Throws RangeError or WebAssembly.RuntimeError where the browser's stack
-  // or memory is too small. Each call throws TypeError or RangeError for a wrong argument.
+  // or its memory for arrays is too small. Each call throws TypeError or RangeError for a wrong argument.
   parse(text, limits = {}, mostErrors = 1000) {
     const wanted = most("mostErrors", mostErrors);
     const room = {
@@ -182,26 +145,31 @@ export class Parser {
       errors: Math.min(wanted, 1000),
       messages: text.length + 65536
     };
+    const nothing = { rows: new Uint32Array(0), textEnd: 0, errors: [], errorCount: 0, depth: 0, items: 0 };
+    return orRefused(() => this.#parse(text, limits, wanted, room), nothing);
+  }
+
+  #parse(text, limits, wanted, room) {
     for (;;) {
       const [source, length] = this.#write(text);
-      const [given, counts] = [this.#writeLimits(limits), this.#place(COUNTS_BYTES)];
+      const [given, counts] = [this.#writeLimits(limits), this.memory.place(COUNTS_BYTES)];
       const [elements, errors, messages] =
-        [room.elements * WORDS * 4, room.errors * ERROR_BYTES, room.messages].map((bytes) => this.#place(bytes));
+        [room.elements * WORDS * 4, room.errors * ERROR_BYTES, room.messages].map((bytes) => this.memory.place(bytes));
       const status = this.#call(
         "dumyroke_parse", source, length, given, elements, room.elements, errors, room.errors, messages, room.messages,
         counts
       );
       const fields = ["elements", "text_bytes", "errors", "message_bytes", "recursion_high", "token_high"];
       const [elementCount, textBytes, errorCount, messageBytes, depth, items] =
-        numbers(this.#row(counts, COUNTS_BYTES), COUNTS, fields);
+        numbers(this.memory.row(counts, COUNTS_BYTES), COUNTS, fields);
       const errorsGiven = Math.min(errorCount, wanted);
       if (elementCount <= room.elements && errorsGiven <= room.errors && messageBytes <= room.messages) {
-        const units = length === text.length ? null : unitsBefore(this.#bytes(source, length));
+        const units = length === text.length ? null : unitsBefore(this.memory.bytes(source, length));
         const rows = new Uint32Array(this.memory.buffer, elements, elementCount * WORDS).slice();
         if (units !== null)
           for (let i = WORD.start_and_node; i < rows.length; i += WORDS)
             rows[i] += units[rows[i] % NODE] - (rows[i] % NODE);
-        const found = this.#errors(errors, errorsGiven, this.#bytes(messages, messageBytes), units);
+        const found = this.#errors(errors, errorsGiven, this.memory.bytes(messages, messageBytes), units);
         return { status, rows, textEnd: units?.[textBytes] ?? textBytes, errors: found, errorCount, depth, items };
       }
       Object.assign(room, { elements: elementCount, errors: errorsGiven, messages: messageBytes });
@@ -210,7 +178,7 @@ export class Parser {
 
   #errors(start, count, messages, units) {
     return Array.from({ length: count }, (_, i) => {
-      const row = this.#row(start + i * ERROR_BYTES, ERROR_BYTES);
+      const row = this.memory.row(start + i * ERROR_BYTES, ERROR_BYTES);
       const [from, to] = places(row, ERROR, ["start", "end"], units);
       const [message, bytes] = numbers(row, ERROR, ["message", "message_length"]);
       const [isLimit, isEnd] = ["is_limit", "is_eof"].map((field) => row.getUint32(ERROR[field], true) === 1);
@@ -224,16 +192,21 @@ export class Parser {
   // name is.
   measure(text, limits = {}, mostOperations = Infinity) {
     const wanted = most("mostOperations", mostOperations);
+    const nothing = { operations: [], operationCount: 0, place: null, other: null };
+    return orRefused(() => this.#measure(text, limits, wanted), nothing);
+  }
+
+  #measure(text, limits, wanted) {
     for (let room = Math.min(wanted, 1000); ; ) {
       const [source, length] = this.#write(text);
       const [given, counts, rows] =
-        [this.#writeLimits(limits), this.#place(MEASURE_COUNTS_BYTES), this.#place(room * OPERATION_BYTES)];
+        [this.#writeLimits(limits), this.memory.place(MEASURE_COUNTS_BYTES), this.memory.place(room * OPERATION_BYTES)];
       const status = this.#call("dumyroke_measure", source, length, given, rows, room, counts);
-      const there = this.#row(counts, MEASURE_COUNTS_BYTES);
+      const there = this.memory.row(counts, MEASURE_COUNTS_BYTES);
       const [operationCount] = numbers(there, MEASURE_COUNTS, ["operations"]);
       const count = Math.min(operationCount, wanted);
       if (count <= room) {
-        const units = length === text.length ? null : unitsBefore(this.#bytes(source, length));
+        const units = length === text.length ? null : unitsBefore(this.memory.bytes(source, length));
         const [start, end, otherStart, otherEnd] =
           places(there, MEASURE_COUNTS, ["start", "end", "other_start", "other_end"], units);
         const [place, other] =
@@ -246,7 +219,7 @@ export class Parser {
 
   #operations(start, count, text, units) {
     return Array.from({ length: count }, (_, i) => {
-      const row = this.#row(start + i * OPERATION_BYTES, OPERATION_BYTES);
+      const row = this.memory.row(start + i * OPERATION_BYTES, OPERATION_BYTES);
       const [from, to, nameStart, nameEnd] = places(row, OPERATION, ["start", "end", "name_start", "name_end"], units);
       const figures = Object.entries(FIGURES).map(([name, at]) => [name, row.getBigUint64(at, true)]);
       return { name: text.slice(nameStart, nameEnd) || null, start: from, end: to, ...Object.fromEntries(figures) };
@@ -257,21 +230,24 @@ export class Parser {
   #text(name, text, limits, room) {
     const given = this.#write(text);
     if (limits !== undefined) given.push(this.#writeLimits(limits));
-    const [bytes, start] = [this.#place(8), this.#place(room)];
+    const [bytes, start] = [this.memory.place(8), this.memory.place(room)];
     const status = this.#call(name, ...given, start, room, bytes);
     const length = Number(new BigUint64Array(this.memory.buffer, bytes, 1)[0]);
-    return { status, text: new TextDecoder("utf-8", { ignoreBOM: true }).decode(this.#bytes(start, length)) };
+    return { status, text: new TextDecoder("utf-8", { ignoreBOM: true }).decode(this.memory.bytes(start, length)) };
   }
 
   // Formats a document. A formatted text of more bytes than `mostBytes` has the status NO_ROOM.
   format(text, limits = {}, mostBytes = Math.max(MOST_FORMATTED, 16 * lengthOf(text))) {
     const wanted = most("mostBytes", mostBytes);
     for (let room = Math.min(4 * lengthOf(text) + 64, wanted); ; room = Math.min(4 * room, wanted)) {
-      const formatted = this.#text("dumyroke_format", text, limits, room);
+      const formatted = orRefused(() => this.#text("dumyroke_format", text, limits, room), { text: "" });
       if (formatted.status !== STATUS.NO_ROOM || room === wanted) return formatted;
     }
   }
 
   // The value of a string literal with its quotes, which has no more bytes than the literal.
-  stringValue = (literal) => this.#text("dumyroke_string_value", literal, undefined, 3 * lengthOf(literal));
+  stringValue(literal) {
+    const room = 3 * lengthOf(literal);
+    return orRefused(() => this.#text("dumyroke_string_value", literal, undefined, room), { text: "" });
+  }
 }

@@ -121,6 +121,11 @@ def texts():
     return [text.encode() for text in corpus.texts()]
 
 
+def numbers_of(limits):
+    """Both limits as numbers. Without one, tokens have None."""
+    return int((*limits, 500)[0]), int(limits[1]) if limits[1:] else None
+
+
 def words_of(mode, limits):
     """The command line of gqlcst for a mode and limits."""
     return [mode, *(word for pair in zip(("--recursion", "--tokens"), limits) for word in pair)]

@@ -10,7 +10,7 @@ import zipfile
 from pathlib import Path
 from xml.etree import ElementTree
 
-from bindings.page import node_words
+from bindings.page import OLDEST_NODE, has_node
 from bindings.shared import BUILD, TOP, run, stop
 
 from .about import LICENCES
@@ -153,8 +153,10 @@ def npm_example():
 
 def test_npm(folder):
     """The package as npm installs it without a network: its tests, its README's example, and its types."""
-    if not (shutil.which("node") and shutil.which("npm") and node_words()):
-        print("there is no npm, or no node with 64-bit memory: the npm package was not tried")
+    if without("wasm-opt", "the npm package"):
+        return
+    if not (has_node() and shutil.which("npm")):
+        print(f"there is no npm, or no node of version {OLDEST_NODE} or later: the npm package was not tried")
         return
     (folder / "package.json").write_text('{"private": true, "type": "module"}')
     program, shown = npm_example()
@@ -168,7 +170,6 @@ def test_npm(folder):
     if "warn" in packed.lower():
         stop(f"npm warns of the package:\n{packed}")
     run("npm", "install", "--offline", "--no-audit", "--no-fund", "--silent", package(".tgz"), cwd=folder)
-    # without a flag, which the package sets where it needs one
     run("node", "package_test.mjs", cwd=folder)
     if run("node", "example.mjs", cwd=folder, stdout=subprocess.PIPE).stdout.decode() != shown:
         stop("the example of bindings/npm/README.md prints something else")

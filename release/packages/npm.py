@@ -9,7 +9,7 @@ from .archives import File, packed, read, tar, under
 
 NPM = TOP / "bindings/npm"
 OWN = ["package.json", "README.md", "browser.js", "calls.js", "index.d.ts", "node.js", "source.js"]
-READER = ["kinds.js", "parser.js", "rows.js", "tree.js"]
+READER = ["kinds.js", "memory.js", "parser.js", "rows.js", "tree.js"]
 
 
 def kinds():

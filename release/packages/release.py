@@ -77,9 +77,18 @@ def proved():
 
 Programs: `run` of gqlcheck_run, gqlcst_run, gqlfmt_run and gqlls_program is proved, with the devices of byte_streams; the system below them is trusted.
 libdumyroke, and so the Rust crate and the Python package; the page's module, which is the npm package's: each exported call is proved. Headers, Rust,
-Python, JavaScript, the module's memory, and the extension for VS Code are tested only.
-docs/PROMISES.md says what is proved, and EVIDENCE.md which lemmas prove it. The provers and compilers of the kit, LLVM and the C library are trusted.
+Python, JavaScript, the module's memory, and the extension for VS Code are tested only. After the proof, binaryen gives the module addresses of 32 bits.
+docs/PROMISES.md says what is proved, and EVIDENCE.md which lemmas prove it. The provers and compilers of the kit, LLVM, binaryen and the C library are trusted.
 """
+
+
+def made_with_more():
+    """What makes the packages that take a program which may be missing. This is said."""
+    makers = {"the Rust crate": ("cargo", crate), "the npm package": ("wasm-opt", npm), "the page": ("wasm-opt", page)}
+    for name, (program, _) in makers.items():
+        if not shutil.which(program):
+            print(f"there is no {program}: {name} is left out")
+    return [make for program, make in makers.values() if shutil.which(program)]
 
 
 def release():
@@ -98,12 +107,7 @@ def release():
         print(
             "bindings/c/released_kinds.txt is of another release: run `tools/kinds` when these packages are published"
         )
-    makers = [archive, deb, wheel, npm, vsix, page]
-    if shutil.which("cargo"):
-        makers.append(crate)
-    else:
-        print("there is no cargo: the Rust crate is left out")
-    files = dict(make() for make in makers) | {
+    files = dict(make() for make in [archive, deb, wheel, vsix, *made_with_more()]) | {
         "PROVED.txt": proved().encode(),
         "EVIDENCE.md": (BUILD / "EVIDENCE.md").read_bytes(),
     }

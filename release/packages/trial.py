@@ -10,7 +10,7 @@ from pathlib import Path
 from bindings.shared import RUST, TOP, run, stop
 
 from . import debian
-from .here import NPM, npm_example, package
+from .here import NPM, npm_example, package, without
 from .installed import PROGRAMS
 
 # What the packages need beside themselves: a C compiler and pkg-config, pip, cargo, node. npm would bring four hundred
@@ -139,12 +139,13 @@ def try_npm(bare, name):
     bare.run("node package_test.mjs")
 
 
+# Each with the program without which the package is left out.
 TRIALS = [
-    (try_debian, ".deb"),
-    (try_archive, "-linux-x86_64.tar.gz"),
-    (try_wheel, ".whl"),
-    (try_crate, ".crate"),
-    (try_npm, ".tgz"),
+    (try_debian, ".deb", "strip"),
+    (try_archive, "-linux-x86_64.tar.gz", "strip"),
+    (try_wheel, ".whl", "strip"),
+    (try_crate, ".crate", "cargo"),
+    (try_npm, ".tgz", "wasm-opt"),
 ]
 
 
@@ -158,5 +159,6 @@ def trial():
         if not debian.make(bare.root, NEEDED):
             print("no bare Debian could be made from the network: the packages were not tried in it")
             return
-        for trial_of, ending in TRIALS:
-            bare.try_one(trial_of, ending)
+        for trial_of, ending, program in TRIALS:
+            if not without(program, f"the package *{ending}"):
+                bare.try_one(trial_of, ending)

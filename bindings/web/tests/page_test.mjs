@@ -291,11 +291,11 @@ const tests = {
     assert.equal(await page.evaluate("document.querySelector('.words').textContent"), '<b>&amp;<img src="x"> "<i>"\n');
   },
 
-  async "a browser without 64-bit memory is told so"() {
+  async "a browser without WebAssembly is told so"() {
     const { identifier } =
-      await page.send("Page.addScriptToEvaluateOnNewDocument", { source: "WebAssembly.validate = () => false" });
+      await page.send("Page.addScriptToEvaluateOnNewDocument", { source: "delete globalThis.WebAssembly" });
     await page.open(`${address}index.html`);
-    await says("This browser has no 64-bit memory");
+    await says("This browser has no WebAssembly");
     await page.send("Page.removeScriptToEvaluateOnNewDocument", { identifier });
   },
 

@@ -3,11 +3,13 @@
 // tested.
 import assert from "node:assert/strict";
 import fs from "node:fs";
-import { Parser } from "../parser.js";
+import { NoMemory } from "../memory.js";
+import { isSupported, Parser } from "../parser.js";
 import { STATUS } from "../rows.js";
 import { Tree } from "../tree.js";
 
-const parser = new Parser(new WebAssembly.Module(fs.readFileSync(process.argv[2])));
+const module = new WebAssembly.Module(fs.readFileSync(process.argv[2]));
+const parser = new Parser(module);
 const ESCAPES = { "\0": "\\0", "\t": "\\t", "\n": "\\n", "\r": "\\r", '"': '\\"', "\\": "\\\\" };
 
 // A text in quotes, with the escapes that gqlcst has.
@@ -41,6 +43,16 @@ for (const { text, limits } of JSON.parse(fs.readFileSync(0, "utf8")))
   console.log(JSON.stringify(printed(text, limits)));
 
 const LIMITS = { recursion: 1000000, tokens: null };
+// The last address of the memory: the last 64 MB of those that 32 bits have are left out.
+const END = 2 ** 32 - 2 ** 26;
+
+// A parser whose memory is taken up to the last bytes.
+function parserAtTheEnd(bytes) {
+  const last = new Parser(module);
+  last.memory.clear = () => Object.assign(last.memory, { last: END - bytes, top: END - bytes });
+  return last;
+}
+
 const tests = {
   // the values are those that GraphQL October 2021, section 2.9.4, gives
   "string values"() {
@@ -207,13 +219,56 @@ const tests = {
     assert.equal(parser.memory.buffer.byteLength, before);
   },
 
+  "the last places of the memory are as good as the first"() {
+    const last = parserAtTheEnd(2 ** 20);
+    for (const text of ["", "{", '{a(b:"é𝄞"),}', "query Q($a:[A!]){a@b{...F}} fragment F on T{c}", "} ".repeat(1000)])
+      for (const call of [parser.parse, parser.format, parser.measure, parser.stringValue])
+        assert.deepEqual(call.call(last, text), call.call(parser, text));
+    assert.ok(last.memory.top > END - 2 ** 20);
+    assert.equal(last.memory.buffer.byteLength, END);
+  },
+
+  // Of the texts, some do not fit themselves, and of others the module is refused memory.
+  "what the memory does not hold has the status NO_MEMORY"() {
+    const last = parserAtTheEnd(2 ** 20);
+    const { memory } = last;
+    const status = STATUS.NO_MEMORY;
+    const nothing = { rows: new Uint32Array(0), textEnd: 0, errors: [], errorCount: 0, depth: 0, items: 0 };
+    const statuses = Array.from({ length: 20 }, (_, power) => last.parse("{a}".repeat(2 ** power)).status);
+    const full = statuses.indexOf(status);
+    assert.deepEqual(statuses, statuses.map((_, power) => (power < full ? STATUS.OK : status)));
+    assert.ok(full > 5 && full < 15, full);
+    for (const power of [full, 19]) {
+      const text = "{a}".repeat(2 ** power);
+      assert.deepEqual(last.parse(text), { status, ...nothing });
+      assert.deepEqual(last.measure(text), { status, operations: [], operationCount: 0, place: null, other: null });
+      assert.deepEqual(last.format(text), { status, text: "" });
+    }
+    assert.deepEqual(last.stringValue("a".repeat(2 ** 20)), { status, text: "" });
+    assert.equal(last.memory, memory);
+    assert.equal(last.parse("{a}").errorCount, 0);
+  },
+
+  "the memory ends before the last addresses of 32 bits"() {
+    const { memory } = new Parser(module);
+    for (const bytes of [END, 2 ** 32, 2 ** 53, 2 ** 64])
+      assert.throws(() => memory.place(bytes), NoMemory);
+    assert.equal(memory.place(END - memory.top - 16) % 16, 0);
+    assert.throws(() => memory.place(32), NoMemory);
+    assert.equal(memory.buffer.byteLength, END);
+  },
+
+  "this engine is supported"() {
+    assert.equal(isSupported(), true);
+  },
+
   "an instance whose stack was full is replaced"() {
-    const { exports } = parser;
+    const { memory } = parser;
     for (const text of
            ["{a".repeat(100000), "{a(b:".padEnd(500000, "["), `{a(b:${"{c:".repeat(100000)}`,
             `type A{b:${"[".repeat(100000)}`])
       assert.throws(() => parser.parse(text, LIMITS));
-    assert.notEqual(parser.exports, exports);
+    assert.notEqual(parser.memory, memory);
     assert.equal(parser.parse("{ a }").errorCount, 0);
   },
 
