@@ -31,6 +31,12 @@ def tag():
     return f"py3-none-{re.sub('[-.]', '_', sysconfig.get_platform())}"
 
 
+def tags():
+    """The tag for each platform that `tag` has."""
+    *start, platforms = tag().split("-")
+    return ["-".join([*start, platform]) for platform in platforms.split(".")]
+
+
 def licences():
     """The files of the licences. They are at the top of the repository."""
     missing = [name for name in project("license-files") if not (TOP / name).exists()]
@@ -83,9 +89,8 @@ def build_wheel(wheel_directory, config_settings=None, metadata_directory=None):
     name = f"{project('name')}-{project('version')}"
     content = files()
     content[f"{name}.dist-info/METADATA"] = metadata().encode()
-    content[
-        f"{name}.dist-info/WHEEL"
-    ] = f"Wheel-Version: 1.0\nGenerator: dumyroke\nRoot-Is-Purelib: false\nTag: {tag()}\n".encode()
+    head = ["Wheel-Version: 1.0", "Generator: dumyroke", "Root-Is-Purelib: false", *(f"Tag: {one}" for one in tags())]
+    content[f"{name}.dist-info/WHEEL"] = "".join(f"{line}\n" for line in head).encode()
     content |= {f"{name}.dist-info/{path.name}": path.read_bytes() for path in [*licences(), TOP / "CHANGELOG.md"]}
     record = f"{name}.dist-info/RECORD"
     lines = "".join(recorded(*item) for item in content.items())

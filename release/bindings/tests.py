@@ -1,6 +1,7 @@
 """Tests the libraries for C, the headers, the Rust crate and the Python package, as they are and as they are
 installed."""
 
+import itertools
 import json
 import os
 import re
@@ -11,16 +12,19 @@ import tempfile
 import zipfile
 from pathlib import Path
 
+from .answers import compare
 from .library import CALLS, install
 from .shared import BUILD, C, INCLUDE, LIMITS, PACKAGE, PYTHON, RUST, gqlcst, need, run, stop, texts, version, words_of
 
 WARNINGS = ["-Wall", "-Wextra", "-Werror", "-pedantic"]
+# All that the library calls.
+NEEDED = ["free", "malloc", "memcpy", "memmove", "memset", "realloc"]
 
 
-def compiled(source, folder, *flags, library=("-ldumyroke",)):
+def compiled(source, folder, *flags, library=("-ldumyroke",), gcc="gcc"):
     """A program, compiled with all warnings as errors."""
     program = folder / Path(source).stem
-    compiler = ["g++", "-std=c++11"] if source.endswith(".cpp") else ["gcc", "-std=c11"]
+    compiler = ["g++", "-std=c++11"] if source.endswith(".cpp") else [gcc, "-std=c11"]
     run(
         *compiler, "-O2", *WARNINGS, *flags, f"-I{INCLUDE}", "-o", program, C / source, f"-L{BUILD}", *library,
         "-lpthread",
@@ -48,14 +52,37 @@ def test_c(folder):
         print("there is no g++: the headers were not tried in C++")
 
 
+def test_musl(folder):
+    """The same libraries with musl in the place of glibc: the tests in C, and all answers."""
+    if not shutil.which("musl-gcc"):
+        print("there is no musl-gcc: the libraries were not tried with musl")
+        return
+    path = ["env", f"LD_LIBRARY_PATH={BUILD}"]
+    kinds = {"shared": ("-ldumyroke",), "static": ("-l:libdumyroke.a", "-static")}
+    programs = ["tests/edges.c", "tests/no_memory.c", "tests/threads.c"]
+    for source, library in itertools.product(programs, kinds.values()):
+        run(*path, compiled(source, folder, library=library, gcc="musl-gcc"))
+    for kind, library in kinds.items():
+        program = compiled("tests/answers.c", folder, library=library, gcc="musl-gcc")
+        compare(f"the {kind} library with musl", [*path, program], folder)
+
+
+def symbols(*words):
+    """The names that nm lists."""
+    listed = run("nm", *words, stdout=subprocess.PIPE).stdout.decode()
+    return sorted(line.split()[-1] for line in listed.splitlines() if len(line.split()) > 1)
+
+
 def test_symbols():
-    """Both libraries have the calls alone, and the shared one its name."""
-    shared = BUILD / "libdumyroke.so"
-    for library, words in ((shared, ["-D"]), (BUILD / "libdumyroke.a", ["-g"])):
-        listed = run("nm", *words, "--defined-only", library, stdout=subprocess.PIPE).stdout.decode()
-        found = sorted(line.split()[-1] for line in listed.splitlines() if len(line.split()) == 3)
+    """Both libraries have the calls alone, the static one needs six functions of C alone, and the shared one has its
+    name."""
+    shared, static = BUILD / "libdumyroke.so", BUILD / "libdumyroke.a"
+    for library, words in ((shared, ["-D"]), (static, ["-g"])):
+        found = symbols(*words, "--defined-only", library)
         if found != CALLS:
             stop(f"{library.name} has the symbols {' '.join(found)}")
+    if symbols("-u", static) != NEEDED:
+        stop(f"libdumyroke.a needs the symbols {' '.join(symbols('-u', static))}")
     if b"(SONAME)" not in run("readelf", "-d", shared, stdout=subprocess.PIPE).stdout:
         stop("libdumyroke.so has no SONAME")
 
@@ -111,14 +138,35 @@ def test_rust_platforms(_folder):
     if not shutil.which("cargo"):
         return
     there = {name: value for name, value in os.environ.items() if name != "DUMYROKE_LIB_DIR"}
-    for target in (
-        "aarch64-apple-darwin", "x86_64-pc-windows-msvc", "wasm32-unknown-unknown", "x86_64-unknown-linux-musl",
-    ):
+    made = "x86_64-unknown-linux-gnu and x86_64-unknown-linux-musl"
+    for target in ("aarch64-apple-darwin", "x86_64-pc-windows-msvc", "wasm32-unknown-unknown"):
         built = subprocess.run(
             ["cargo", "check", "--offline", "--target", target], cwd=RUST, env=there, capture_output=True, text=True
         )
-        if f"made for x86_64-unknown-linux-gnu alone, and this is a build for {target}" not in built.stderr:
+        if f"made for {made} alone, and this is a build for {target}" not in built.stderr:
             stop(f"a build of the Rust crate for {target} says\n{built.stderr}")
+
+
+def linked(program, target, crate):
+    """What build.rs, compiled as a program, says of a crate's folder for a platform: where the library is."""
+    there = {"PATH": os.environ["PATH"], "TARGET": target, "CARGO_MANIFEST_DIR": str(crate)}
+    said = run(program, env=there, stdout=subprocess.PIPE).stdout.decode()
+    return re.search("^cargo:rustc-link-search=native=(.*)$", said, re.MULTILINE)[1]
+
+
+def test_rust_libraries(folder):
+    """On each platform that has a library the crate links it: a package its own, the repository the one in build/."""
+    if not shutil.which("rustc"):
+        return
+    program = folder / "build"
+    run("rustc", "--edition=2021", "-o", program, RUST / "build.rs")
+    for target in ("x86_64-unknown-linux-gnu", "x86_64-unknown-linux-musl"):
+        packed = folder / "crate/lib" / target
+        packed.mkdir(parents=True)
+        shutil.copy(BUILD / "libdumyroke.a", packed)
+        found = [linked(program, target, crate) for crate in (folder / "crate", RUST)]
+        if found != [str(packed), str(BUILD)]:
+            stop(f"for {target} the Rust crate links the libraries in {' and '.join(found)}")
 
 
 def test_rust_trees(_folder):
@@ -292,8 +340,8 @@ def test_cmake(folder):
             stop(f"fields.c, built by cmake with the {program} library, writes something else")
 
 
-C_PARTS = (test_c, test_trees, test_install, test_cmake)
-RUST_PARTS = (test_rust, test_clippy, test_rust_platforms, test_rust_trees)
+C_PARTS = (test_c, test_musl, test_trees, test_install, test_cmake)
+RUST_PARTS = (test_rust, test_clippy, test_rust_platforms, test_rust_libraries, test_rust_trees)
 PYTHON_PARTS = (test_python, test_mypy, test_python_readme, test_query_log, test_room)
 # The parts that compare with the program gqlcst, which `rt ci` builds.
 COMPARING = (test_trees, test_rust_trees)

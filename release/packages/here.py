@@ -4,6 +4,7 @@ import json
 import re
 import shutil
 import subprocess
+import sys
 import tarfile
 import tempfile
 import zipfile
@@ -138,10 +139,26 @@ def test_debian(folder):
             stop(f"the copyright file of the package for Debian lacks: {part}")
 
 
+# Prints the tags of a wheel's name, as pip reads it.
+TAGS = """
+import sys
+from pip._vendor.packaging.utils import parse_wheel_filename
+print(*parse_wheel_filename(sys.argv[1])[3])
+"""
+
+
 def test_wheel(_folder):
-    """The page of the wheel is one that the index of Python shows."""
+    """The page of the wheel is one that the index of Python shows, and its tags are those of its name."""
+    wheel = package(".whl")
     if not without("twine", "the wheel"):
-        run("twine", "check", "--strict", package(".whl"), stdout=subprocess.DEVNULL, timeout=300)
+        run("twine", "check", "--strict", wheel, stdout=subprocess.DEVNULL, timeout=300)
+    read = subprocess.run([sys.executable, "-c", TAGS, wheel.name], capture_output=True, text=True)
+    if read.returncode:
+        print("there is no pip that reads the names of wheels: the tags of the wheel were not tried")
+        return
+    tags = re.findall(r"^Tag: (.*)$", contents(wheel)["WHEEL"].decode(), re.MULTILINE)
+    if sorted(read.stdout.split()) != sorted(tags) or "musllinux" not in read.stdout:
+        stop(f"the name {wheel.name} has the tags {read.stdout.strip()}, and the wheel {' '.join(tags)}")
 
 
 def npm_example():

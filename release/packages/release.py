@@ -26,28 +26,34 @@ def archive():
     return f"{name}.tar.gz", packed(tar(under(name, files)))
 
 
+# The first version of musl that the wheel is for. The library was tried with 1.2.3 and 1.2.5.
+MUSL = "1_2"
+
+
 def wheel():
-    """The Python package, for each Linux whose glibc has the symbols that the library names."""
+    """The Python package, for each Linux whose glibc has the symbols that the library names, and for those with
+    musl."""
     described = importlib.util.spec_from_file_location("backend", PYTHON / "backend.py")
     backend = importlib.util.module_from_spec(described)
     described.loader.exec_module(backend)
     major, minor = glibc(PACKAGE / "libdumyroke.so")
-    backend.tag = lambda: f"py3-none-manylinux_{major}_{minor}_x86_64"
+    backend.tag = lambda: f"py3-none-manylinux_{major}_{minor}_x86_64.musllinux_{MUSL}_x86_64"
     with tempfile.TemporaryDirectory() as folder:
         name = backend.build_wheel(folder)
         return name, Path(folder, name).read_bytes()
 
 
 def crate():
-    """The Rust crate as cargo packages it, with the static library inside."""
+    """The Rust crate as cargo packages it, with the static library inside for each platform."""
     with tempfile.TemporaryDirectory() as name:
         folder = Path(name, "rust")
         shutil.copytree(RUST, folder, ignore=shutil.ignore_patterns("target", "original", "Cargo.lock"))
         for document in (*LICENCES, "CHANGELOG.md"):
             shutil.copy(TOP / document, folder)
-        library = folder / "lib/x86_64-unknown-linux-gnu"
-        library.mkdir(parents=True)
-        shutil.copy(BUILD / "libdumyroke.a", library)
+        for system in ("gnu", "musl"):
+            library = folder / f"lib/x86_64-unknown-linux-{system}"
+            library.mkdir(parents=True)
+            shutil.copy(BUILD / "libdumyroke.a", library)
         said = run(
             "cargo", "package", "--offline", "--no-verify", "--allow-dirty", cwd=folder, stderr=subprocess.PIPE
         ).stderr.decode()

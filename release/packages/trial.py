@@ -1,4 +1,4 @@
-"""Tries the packages where the kit is not: in a bare Debian."""
+"""Tries the packages where the kit is not: in a bare Debian, and in a folder with musl."""
 
 import re
 import shutil
@@ -12,6 +12,7 @@ from bindings.shared import RUST, TOP, run, stop
 from . import debian
 from .here import NPM, npm_example, package, without
 from .installed import PROGRAMS
+from .musl import try_musl
 
 # What the packages need beside themselves: a C compiler and pkg-config, pip, cargo, node. npm would bring four hundred
 # packages more.
@@ -150,6 +151,7 @@ TRIALS = [
 
 
 def trial():
+    try_musl()
     why = debian.why_not()
     if why:
         print(f"{why}: the packages were not tried in a bare Debian")
