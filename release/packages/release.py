@@ -2,6 +2,7 @@
 
 import hashlib
 import importlib.util
+import re
 import shutil
 import subprocess
 import tempfile
@@ -72,6 +73,12 @@ def page():
     return f"{name}.tar.gz", packed(tar(under(name, files | licences())))
 
 
+def platforms():
+    """The section of docs/BINDINGS.md that says what was tried on which platform."""
+    text = read(TOP / "docs/BINDINGS.md").content.decode()
+    return re.search(r"^## (Platforms\n.*?)\n## ", text, re.DOTALL | re.MULTILINE)[1]
+
+
 def proved():
     """What the release is made of, and where its proof ends."""
     words = {"stdout": subprocess.PIPE, "text": True, "check": True}
@@ -85,7 +92,8 @@ Programs: `run` of gqlcheck_run, gqlcst_run, gqlfmt_run and gqlls_program is pro
 libdumyroke, and so the Rust crate and the Python package; the page's module, which is the npm package's: each exported call is proved. Headers, Rust,
 Python, JavaScript, the module's memory, and the extension for VS Code are tested only. After the proof, binaryen gives the module addresses of 32 bits.
 docs/PROMISES.md says what is proved, and EVIDENCE.md which lemmas prove it. The provers and compilers of the kit, LLVM, binaryen and the C library are trusted.
-"""
+
+{platforms()}"""
 
 
 def made_with_more():
