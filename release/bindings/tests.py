@@ -14,7 +14,9 @@ from pathlib import Path
 
 from .answers import compare
 from .library import CALLS, install
-from .shared import BUILD, C, INCLUDE, LIMITS, PACKAGE, PYTHON, RUST, gqlcst, need, run, stop, texts, version, words_of
+from .shared import (
+    BUILD, C, INCLUDE, LIMITS, PACKAGE, PYTHON, RUST, UNPROVED, gqlcst, need, run, stop, texts, version, words_of
+)
 
 WARNINGS = ["-Wall", "-Wextra", "-Werror", "-pedantic"]
 # All that the library calls.
@@ -50,6 +52,15 @@ def test_c(folder):
         run(compiled("tests/headers.cpp", folder), env=there)
     else:
         print("there is no g++: the headers were not tried in C++")
+
+
+def test_stack(folder):
+    """The usual limits are safe with the stacks that docs/BINDINGS.md names."""
+    if UNPROVED.exists():
+        return  # its checks take more stack
+    program = compiled("tests/stack.c", folder, library=("-l:libdumyroke.a",))
+    run(program, 100_000)
+    run(program, 440_000, "measure")
 
 
 def test_musl(folder):
@@ -340,7 +351,7 @@ def test_cmake(folder):
             stop(f"fields.c, built by cmake with the {program} library, writes something else")
 
 
-C_PARTS = (test_c, test_musl, test_trees, test_install, test_cmake)
+C_PARTS = (test_c, test_stack, test_musl, test_trees, test_install, test_cmake)
 RUST_PARTS = (test_rust, test_clippy, test_rust_platforms, test_rust_libraries, test_rust_trees)
 PYTHON_PARTS = (test_python, test_mypy, test_python_readme, test_query_log, test_room)
 # The parts that compare with the program gqlcst, which `rt ci` builds.

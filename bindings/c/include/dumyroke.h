@@ -43,8 +43,9 @@ enum dumyroke_status {
 /* The limits of a parse. Any number is allowed, and SIZE_MAX is no limit. C makes a number near SIZE_MAX of one below 0, so also no limit: a program that
  * computes a limit, or reads it as a signed number, has to look whether it is below 0. The same holds for the other limits of this file. */
 typedef struct dumyroke_limits {
-    /* How deep selection sets, types and values may nest. Parsing takes 80 to 192 bytes of stack for each level. If the limit is higher than
-     * the stack of the thread allows, a deep text ends the program. 500 is the usual limit, and safe. */
+    /* How deep selection sets, types and values may nest. Parsing takes 80 to 192 bytes of stack for each level, and dumyroke_measure up to 832. If
+     * the limit is higher than the stack of the thread allows, a deep text ends the program. 500 is the usual limit, and safe with 100,000 bytes of
+     * stack, or 440,000 for dumyroke_measure. A thread of musl has 128 KB, unless its program sets more. */
     size_t recursion;
     /* How many tokens are read at most. Ignored tokens count, and so does the end of the text. */
     size_t tokens;
