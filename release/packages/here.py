@@ -190,7 +190,7 @@ def test_npm(folder):
     run("node", "package_test.mjs", cwd=folder)
     if run("node", "example.mjs", cwd=folder, stdout=subprocess.PIPE).stdout.decode() != shown:
         stop("the example of bindings/npm/README.md prints something else")
-    if not without("tsc", "the types of the npm package"):
+    if not without("tsc", "the typing of the npm package"):
         run(
             "tsc", "--strict", "--noEmit", "--module", "nodenext", "--target", "es2022", "--lib", "es2022,dom",
             "types.mts", cwd=folder,
