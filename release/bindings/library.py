@@ -3,9 +3,10 @@
 import os
 import shutil
 import tempfile
+from dataclasses import dataclass
 from pathlib import Path
 
-from .shared import BUILD, C, INCLUDE, PACKAGE, TOP, kit, need, rattle, run, static_library, stop, version
+from .shared import BUILD, C, INCLUDE, PACKAGE, TOP, WARNINGS, kit, need, rattle, run, static_library, stop, version
 
 CALLS = [
     "dumyroke_default_steps", "dumyroke_format", "dumyroke_lex", "dumyroke_measure", "dumyroke_parse",
@@ -14,10 +15,44 @@ CALLS = [
 CALLS += ["dumyroke_parse_type", "dumyroke_string_value", "dumyroke_validate"]
 
 
-def make_archive(archive):
+@dataclass(frozen=True)
+class Platform:
+    """A Linux that the library is made for: its processor, the folder of its libraries, and how the names of its
+    compiler and tools begin."""
+
+    processor: str
+    folder: Path
+    tools: str = ""
+
+    @property
+    def target(self):
+        """Its name for rattle and cargo."""
+        return f"{self.processor}-unknown-linux-gnu"
+
+    def run(self, tool, *words, **how):
+        return run(f"{self.tools}{tool}", *words, **how)
+
+
+HERE = Platform("x86_64", BUILD)
+ARM64 = Platform("aarch64", BUILD / "arm64", "aarch64-linux-gnu-")
+TOOLS = ["gcc", "ar", "ld", "objcopy"]
+
+
+def make_archive(archive, platform):
     """Has rattle prove c_exports once more, over the libraries that `rt ci` proved, and make the static library.
     `rt ci` itself makes none, and `rt lib` would prove all libraries again, since it takes nothing from `rt ci`."""
-    return rattle("c_exports", TOP / "crates/c_exports", archive, *static_library())
+    target = () if platform == HERE else ("--target", platform.target)
+    return rattle("c_exports", TOP / "crates/c_exports", archive, *static_library(), *target)
+
+
+def make_heap(heap, platform):
+    """Makes the object that has malloc, realloc and free under the names which the library calls: the kit's, or ours
+    where the kit has none."""
+    if platform == HERE:
+        run("ar", "x", kit() / "c/liblibc_c.a", "heap.pic.o", cwd=heap.parent)
+        (heap.parent / "heap.pic.o").rename(heap)
+    else:
+        platform.run("gcc", "-std=c11", "-O2", "-fPIC", *WARNINGS, "-c", C / "heap.c", "-o", heap)
 
 
 def pc_text(prefix, include, library):
@@ -54,44 +89,66 @@ def cmake_files(include):
     return files
 
 
-def join(archive, *members):
+def join(platform, archive, *members):
     """Makes one object of an archive and of objects, which has the calls alone as symbols: two libraries of the kit in
     one program would have the others twice."""
     joined = archive.with_suffix(".o")
-    run("ld", "-r", "-o", joined, "--whole-archive", archive, "--no-whole-archive", *members)
-    run("objcopy", *(f"--keep-global-symbol={call}" for call in CALLS), joined)
+    platform.run("ld", "-r", "-o", joined, "--whole-archive", archive, "--no-whole-archive", *members)
+    platform.run("objcopy", *(f"--keep-global-symbol={call}" for call in CALLS), joined)
     archive.unlink()
-    run("ar", "rcsD", archive, joined)
+    platform.run("ar", "rcsD", archive, joined)
     joined.unlink()
 
 
-def build(given=None):
-    """Makes both libraries and the file for pkg-config in build/, and puts the shared library into the Python
-    package."""
-    need("gcc", "ar", "ld", "objcopy")
-    with tempfile.TemporaryDirectory() as folder:
-        made = given or make_archive(Path(folder) / "libdumyroke_c.a")
-        shutil.rmtree(BUILD, ignore_errors=True)
-        BUILD.mkdir()
-        archive, heap = BUILD / "libdumyroke.a", BUILD / "heap.pic.o"
-        shutil.copyfile(made, archive)
-    # the kit's object that has malloc, realloc and free under the names which the library calls
-    run("ar", "x", kit() / "c/liblibc_c.a", heap.name, cwd=BUILD)
-    join(archive, heap)
-    heap.unlink()
-    shared, exports = BUILD / f"libdumyroke.so.{version()}", BUILD / "exports.map"
+def link(platform, archive, shared):
+    """Makes the shared library, which has the calls alone as symbols."""
+    exports = shared.with_name("exports.map")
     exports.write_text(f"{{ global: {' '.join(f'{call};' for call in CALLS)} local: *; }};\n")
     words = [
         "-Wl,--whole-archive", archive, "-Wl,--no-whole-archive", f"-Wl,--version-script={exports}",
         f"-Wl,-soname,{soname()}", "-Wl,-z,defs,-z,relro,-z,now",
     ]
-    run("gcc", "-shared", "-s", "-o", shared, *words)
+    platform.run("gcc", "-shared", "-s", "-o", shared, *words)
     exports.unlink()
+
+
+def make_libraries(platform, given=None):
+    """Makes both libraries in the platform's folder, and answers where the shared one is."""
+    with tempfile.TemporaryDirectory() as name:
+        folder = Path(name)
+        made, heap = given or make_archive(folder / "libdumyroke_c.a", platform), folder / "heap.o"
+        shutil.rmtree(platform.folder, ignore_errors=True)
+        platform.folder.mkdir()
+        archive = platform.folder / "libdumyroke.a"
+        shutil.copyfile(made, archive)
+        make_heap(heap, platform)
+        join(platform, archive, heap)
+    shared = platform.folder / f"libdumyroke.so.{version()}"
+    link(platform, archive, shared)
     # copies, since `rt ci` takes no link within the repository
     for name in (soname(), "libdumyroke.so"):
-        shutil.copy(shared, BUILD / name)
+        shutil.copy(shared, platform.folder / name)
+    return shared
+
+
+def make_arm64():
+    """Makes the libraries for arm64 Linux in build/arm64, where there are tools for it."""
+    missing = [tool for tool in TOOLS if not shutil.which(f"{ARM64.tools}{tool}")]
+    if missing:
+        print(f"there is no {ARM64.tools}{missing[0]}: the libraries for arm64 were not made")
+        return
+    make_libraries(ARM64)
+
+
+def build(given=None):
+    """Makes both libraries and the file for pkg-config in build/, and puts the shared library into the Python package.
+    Of a given archive there are none for arm64."""
+    need(*TOOLS)
+    shared = make_libraries(HERE, given)
     (BUILD / "dumyroke.pc").write_text(pc_text("${pcfiledir}/..", "${prefix}/bindings/c/include", "${pcfiledir}"))
     shutil.copyfile(shared, PACKAGE / "libdumyroke.so")
+    if not given:
+        make_arm64()
 
 
 def install(settings):

@@ -21,6 +21,8 @@ INCLUDE = C / "include"
 # Is there where the library in build/ was made without a proof.
 UNPROVED = BUILD / "UNPROVED"
 PACKAGE = PYTHON / "dumyroke"
+# The warnings that a compiler of C takes for errors.
+WARNINGS = ["-Wall", "-Wextra", "-Werror", "-pedantic"]
 # The list of the page's crates.
 PAGES = "bindings/web/page_crates.txt"
 # The limits that the trees are printed with: the usual ones, and two that are met often.

@@ -13,22 +13,25 @@ import zipfile
 from pathlib import Path
 
 from .answers import compare
-from .library import CALLS, install
+from .arm64 import QEMU, emulated, sysroot
+from .library import ARM64, CALLS, HERE, install
 from .shared import (
-    BUILD, C, INCLUDE, LIMITS, PACKAGE, PYTHON, RUST, UNPROVED, gqlcst, need, run, stop, texts, version, words_of
+    BUILD, C, INCLUDE, LIMITS, PACKAGE, PYTHON, RUST, UNPROVED, WARNINGS, gqlcst, need, run, stop, texts, version,
+    words_of,
 )
 
-WARNINGS = ["-Wall", "-Wextra", "-Werror", "-pedantic"]
+# The fewest bytes that glibc takes for a thread's stack on arm64.
+SMALLEST_ON_ARM64 = 131_072
 # All that the library calls.
 NEEDED = ["free", "malloc", "memcpy", "memmove", "memset", "realloc"]
 
 
-def compiled(source, folder, *flags, library=("-ldumyroke",), gcc="gcc"):
-    """A program, compiled with all warnings as errors."""
+def compiled(source, folder, *flags, library=("-ldumyroke",), gcc="gcc", built=BUILD):
+    """A program over the library in a folder, compiled with all warnings as errors."""
     program = folder / Path(source).stem
     compiler = ["g++", "-std=c++11"] if source.endswith(".cpp") else [gcc, "-std=c11"]
     run(
-        *compiler, "-O2", *WARNINGS, *flags, f"-I{INCLUDE}", "-o", program, C / source, f"-L{BUILD}", *library,
+        *compiler, "-O2", *WARNINGS, *flags, f"-I{INCLUDE}", "-o", program, C / source, f"-L{built}", *library,
         "-lpthread",
     )
     return program
@@ -47,6 +50,7 @@ def test_c(folder):
         )
     )
     run(compiled("tests/no_memory.c", folder), env=there)
+    test_refused([], folder)
     run(compiled("tests/threads.c", folder), env=there)
     if shutil.which("g++"):
         run(compiled("tests/headers.cpp", folder), env=there)
@@ -54,48 +58,78 @@ def test_c(folder):
         print("there is no g++: the headers were not tried in C++")
 
 
-def test_stack(folder):
+def test_refused(command, folder, **how):
+    """Whichever request for memory is refused, a call says so."""
+    wrapped = "-Wl,--wrap=malloc,--wrap=realloc"
+    run(*command, compiled("tests/refused.c", folder, wrapped, library=("-l:libdumyroke.a",), **how))
+
+
+def test_stacks(smallest, command, folder, **how):
     """The usual limits are safe with the stacks that docs/BINDINGS.md names."""
-    if UNPROVED.exists():
-        return  # its checks take more stack
-    program = compiled("tests/stack.c", folder, library=("-l:libdumyroke.a",))
-    run(program, 100_000)
-    run(program, 440_000, "measure")
+    program = compiled("tests/stack.c", folder, library=("-l:libdumyroke.a",), **how)
+    run(*command, program, smallest)
+    run(*command, program, 440_000, "measure")
+
+
+def test_stack(folder):
+    """As it is proved, since the checks of a library without a proof take more stack."""
+    if not UNPROVED.exists():
+        test_stacks(100_000, [], folder)
+
+
+def test_kinds(name, command, programs, folder, **how):
+    """The tests in C, and all answers, with both kinds of the library. The command runs a program on a platform."""
+    kinds = {"shared": ("-ldumyroke",), "static": ("-l:libdumyroke.a", "-static")}
+    for source, library in itertools.product(programs, kinds.values()):
+        run(*command, compiled(source, folder, library=library, **how))
+    for kind, library in kinds.items():
+        program = compiled("tests/answers.c", folder, library=library, **how)
+        compare(f"the {kind} library {name}", [*command, program], folder)
 
 
 def test_musl(folder):
-    """The same libraries with musl in the place of glibc: the tests in C, and all answers."""
+    """The same libraries with musl in the place of glibc."""
     if not shutil.which("musl-gcc"):
         print("there is no musl-gcc: the libraries were not tried with musl")
         return
-    path = ["env", f"LD_LIBRARY_PATH={BUILD}"]
-    kinds = {"shared": ("-ldumyroke",), "static": ("-l:libdumyroke.a", "-static")}
     programs = ["tests/edges.c", "tests/no_memory.c", "tests/threads.c"]
-    for source, library in itertools.product(programs, kinds.values()):
-        run(*path, compiled(source, folder, library=library, gcc="musl-gcc"))
-    for kind, library in kinds.items():
-        program = compiled("tests/answers.c", folder, library=library, gcc="musl-gcc")
-        compare(f"the {kind} library with musl", [*path, program], folder)
+    test_kinds("with musl", ["env", f"LD_LIBRARY_PATH={BUILD}"], programs, folder, gcc="musl-gcc")
 
 
-def symbols(*words):
+def test_arm64(folder):
+    """The libraries for arm64 in qemu, which does not limit memory as no_memory.c wants it."""
+    if not ARM64.folder.exists():
+        return  # making them has said why
+    if not shutil.which(QEMU):
+        print(f"there is no {QEMU}: the libraries for arm64 were not tried")
+        return
+    test_symbols(ARM64)
+    how = {"gcc": f"{ARM64.tools}gcc", "built": ARM64.folder}
+    command = emulated(sysroot(), f"LD_LIBRARY_PATH={ARM64.folder}")
+    test_kinds("for arm64", command, ["tests/edges.c", "tests/threads.c"], folder, **how)
+    test_refused(command, folder, **how)
+    test_stacks(SMALLEST_ON_ARM64, command, folder, **how)
+
+
+def symbols(platform, *words):
     """The names that nm lists."""
-    listed = run("nm", *words, stdout=subprocess.PIPE).stdout.decode()
+    listed = platform.run("nm", *words, stdout=subprocess.PIPE).stdout.decode()
     return sorted(line.split()[-1] for line in listed.splitlines() if len(line.split()) > 1)
 
 
-def test_symbols():
+def test_symbols(platform=HERE):
     """Both libraries have the calls alone, the static one needs six functions of C alone, and the shared one has its
     name."""
-    shared, static = BUILD / "libdumyroke.so", BUILD / "libdumyroke.a"
+    shared, static = platform.folder / "libdumyroke.so", platform.folder / "libdumyroke.a"
     for library, words in ((shared, ["-D"]), (static, ["-g"])):
-        found = symbols(*words, "--defined-only", library)
+        found = symbols(platform, *words, "--defined-only", library)
         if found != CALLS:
-            stop(f"{library.name} has the symbols {' '.join(found)}")
-    if symbols("-u", static) != NEEDED:
-        stop(f"libdumyroke.a needs the symbols {' '.join(symbols('-u', static))}")
-    if b"(SONAME)" not in run("readelf", "-d", shared, stdout=subprocess.PIPE).stdout:
-        stop("libdumyroke.so has no SONAME")
+            stop(f"{library} has the symbols {' '.join(found)}")
+    needed = symbols(platform, "-u", static)
+    if needed != NEEDED:
+        stop(f"{static} needs the symbols {' '.join(needed)}")
+    if b"(SONAME)" not in platform.run("readelf", "-d", shared, stdout=subprocess.PIPE).stdout:
+        stop(f"{shared} has no SONAME")
 
 
 def test_printed(name, modes, command):
@@ -351,7 +385,7 @@ def test_cmake(folder):
             stop(f"fields.c, built by cmake with the {program} library, writes something else")
 
 
-C_PARTS = (test_c, test_stack, test_musl, test_trees, test_install, test_cmake)
+C_PARTS = (test_c, test_stack, test_musl, test_arm64, test_trees, test_install, test_cmake)
 RUST_PARTS = (test_rust, test_clippy, test_rust_platforms, test_rust_libraries, test_rust_trees)
 PYTHON_PARTS = (test_python, test_mypy, test_python_readme, test_query_log, test_room)
 # The parts that compare with the program gqlcst, which `rt ci` builds.
