@@ -12,6 +12,8 @@ from pathlib import Path
 FOLDER = Path(__file__).resolve().parent
 PACKAGE = FOLDER / "dumyroke"
 TOP = FOLDER.parent.parent
+# The library that goes into the wheel.
+LIBRARY = PACKAGE / "libdumyroke.so"
 
 
 def project(field):
@@ -72,10 +74,10 @@ def metadata():
 
 def files():
     """The files of the package and their bytes, by their names in the wheel."""
-    if not (PACKAGE / "libdumyroke.so").exists():
+    if not LIBRARY.exists():
         raise SystemExit("bindings/python/dumyroke/libdumyroke.so is missing: `./do bindings` makes it")
-    wanted = (path for path in sorted(PACKAGE.iterdir()) if path.suffix in (".py", ".so", ".typed"))
-    return {f"dumyroke/{path.name}": path.read_bytes() for path in wanted}
+    wanted = [*(path for path in sorted(PACKAGE.iterdir()) if path.suffix in (".py", ".typed")), LIBRARY]
+    return {f"dumyroke/{path.name}": path.read_bytes() for path in sorted(wanted, key=lambda path: path.name)}
 
 
 def recorded(name, content):

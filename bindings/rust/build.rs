@@ -1,13 +1,19 @@
 //! Links the library, and says where it is: the folder in `DUMYROKE_LIB_DIR`; else `lib/TARGET` of this crate, where a package has it; else, on a platform
-//! that the library is made for, `build` of the repository that this crate lies in; or, with glibc, where pkg-config says. With `DUMYROKE_LINK=dylib` it is
+//! that the library is made for, `build` of the repository that this crate lies in; or, on x86-64 with glibc, where pkg-config says. With `DUMYROKE_LINK=dylib` it is
 //! the shared library.
 use std::path::PathBuf;
 use std::process::Command;
 use std::{env, fs};
 
-/// The platforms that the library is made for: one file for both. What pkg-config finds is in a folder with glibc.
+/// The platforms that the library is made for, and where the repository has it: one file with glibc and with musl.
+const PLATFORMS: [(&str, &str); 4] = [
+    (GLIBC, "build"),
+    ("x86_64-unknown-linux-musl", "build"),
+    ("aarch64-unknown-linux-gnu", "build/arm64"),
+    ("aarch64-unknown-linux-musl", "build/arm64"),
+];
+/// The platform of what pkg-config finds.
 const GLIBC: &str = "x86_64-unknown-linux-gnu";
-const MUSL: &str = "x86_64-unknown-linux-musl";
 
 fn pkg_config() -> Option<PathBuf> {
     let program = env::var_os("PKG_CONFIG").unwrap_or_else(|| "pkg-config".into());
@@ -29,16 +35,16 @@ fn main() {
     };
     let crate_folder = PathBuf::from(env::var_os("CARGO_MANIFEST_DIR").unwrap());
     let target = env::var("TARGET").unwrap();
-    let is_made_for_it = [GLIBC, MUSL].contains(&target.as_str());
     let packed = Some(crate_folder.join("lib").join(&target));
-    let built = is_made_for_it.then(|| crate_folder.join("../../build"));
+    let built = PLATFORMS.iter().find(|platform| platform.0 == target).map(|platform| crate_folder.join("../..").join(platform.1));
+    let is_made_for_it = built.is_some();
     let near = packed.into_iter().chain(built).find(|folder| folder.join(file).exists());
     let found = env::var_os("DUMYROKE_LIB_DIR").map(PathBuf::from).or(near).or_else(|| (target == GLIBC).then(pkg_config)?);
     let Some(folder) = found.and_then(|folder| fs::canonicalize(folder).ok()).filter(|folder| folder.join(file).exists()) else {
         let why = match target.as_str() {
             GLIBC => "`./do bindings install` of the repository puts it where pkg-config finds it".to_owned(),
-            MUSL => "`./do bindings` of the repository makes it".to_owned(),
-            _ => format!("the parser is a library that is made for {GLIBC} and {MUSL} alone, and this is a build for {target}"),
+            _ if is_made_for_it => "`./do bindings` of the repository makes it".to_owned(),
+            _ => format!("the parser is a library that is made for {} alone, and this is a build for {target}", PLATFORMS.map(|platform| platform.0).join(", ")),
         };
         panic!("there is no {file}: {why}. DUMYROKE_LIB_DIR names the folder of another one");
     };

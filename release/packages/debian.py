@@ -5,6 +5,8 @@ import shutil
 import subprocess
 import urllib.request
 
+from bindings.shared import run
+
 SUITE = "trixie"
 # The variable that names Debian's mirror. Without it the machine's own apt says which mirror.
 VARIABLE = "DEBIAN_MIRROR"
@@ -52,3 +54,15 @@ def make(root, packages):
         ["chroot", root, "env", "DEBIAN_FRONTEND=noninteractive", *install],
     ]
     return all(subprocess.run(command, **SILENT).returncode == 0 for command in commands)
+
+
+def unpack(root, architecture, packages):
+    """Puts the files of a bare system for another processor, with these packages, into a folder, and answers whether
+    the network was there to the end. Nothing of it is run."""
+    root.mkdir()
+    words = ["--download-only", "--variant=minbase", f"--arch={architecture}", f"--include={','.join(packages)}"]
+    if subprocess.run(["debootstrap", *words, SUITE, root, mirror()], **SILENT).returncode:
+        return False
+    for file in sorted((root / "var/cache/apt/archives").glob("*.deb")):
+        run("dpkg-deb", "-x", file, root)
+    return True

@@ -147,9 +147,13 @@ print(*parse_wheel_filename(sys.argv[1])[3])
 """
 
 
-def test_wheel(_folder):
+def test_wheels(_folder):
+    for wheel in RELEASE.glob("*.whl"):
+        test_wheel(wheel)
+
+
+def test_wheel(wheel):
     """The page of the wheel is one that the index of Python shows, and its tags are those of its name."""
-    wheel = package(".whl")
     if not without("twine", "the wheel"):
         run("twine", "check", "--strict", wheel, stdout=subprocess.DEVNULL, timeout=300)
     read = subprocess.run([sys.executable, "-c", TAGS, wheel.name], capture_output=True, text=True)
@@ -223,7 +227,7 @@ def test_vsix(folder):
 
 
 def test_here():
-    for test in (test_manuals, test_completions, test_licences, test_debian, test_wheel, test_npm, test_vsix):
+    for test in (test_manuals, test_completions, test_licences, test_debian, test_wheels, test_npm, test_vsix):
         with tempfile.TemporaryDirectory() as folder:
             test(Path(folder))
     test_same()

@@ -2,13 +2,14 @@
 
 import hashlib
 import importlib.util
+import itertools
 import re
 import shutil
 import subprocess
 import tempfile
 from pathlib import Path
 
-from bindings.library import pc_text
+from bindings.library import ARM64, HERE, pc_text
 from bindings.shared import BUILD, C, PACKAGE, PYTHON, RUST, SITE, TOP, UNPROVED, need, run, stop, version
 
 from .about import LICENCES, about, licences
@@ -31,17 +32,24 @@ def archive():
 MUSL = "1_2"
 
 
-def wheel():
-    """The Python package, for each Linux whose glibc has the symbols that the library names, and for those with
-    musl."""
+def wheel(platform):
+    """The Python package, for each Linux of a processor whose glibc has the symbols that the library names, and for
+    those with musl."""
     described = importlib.util.spec_from_file_location("backend", PYTHON / "backend.py")
     backend = importlib.util.module_from_spec(described)
     described.loader.exec_module(backend)
-    major, minor = glibc(PACKAGE / "libdumyroke.so")
-    backend.tag = lambda: f"py3-none-manylinux_{major}_{minor}_x86_64.musllinux_{MUSL}_x86_64"
+    backend.LIBRARY = platform.folder / "libdumyroke.so"
+    major, minor = glibc(backend.LIBRARY)
+    systems = [f"manylinux_{major}_{minor}", f"musllinux_{MUSL}"]
+    backend.tag = lambda: f"py3-none-{'.'.join(f'{system}_{platform.processor}' for system in systems)}"
     with tempfile.TemporaryDirectory() as folder:
         name = backend.build_wheel(folder)
         return name, Path(folder, name).read_bytes()
+
+
+def made_for():
+    """The platforms that have libraries."""
+    return [platform for platform in (HERE, ARM64) if platform.folder.exists()]
 
 
 def crate():
@@ -51,10 +59,10 @@ def crate():
         shutil.copytree(RUST, folder, ignore=shutil.ignore_patterns("target", "original", "Cargo.lock"))
         for document in (*LICENCES, "CHANGELOG.md"):
             shutil.copy(TOP / document, folder)
-        for system in ("gnu", "musl"):
-            library = folder / f"lib/x86_64-unknown-linux-{system}"
+        for platform, system in itertools.product(made_for(), ("gnu", "musl")):
+            library = folder / f"lib/{platform.processor}-unknown-linux-{system}"
             library.mkdir(parents=True)
-            shutil.copy(BUILD / "libdumyroke.a", library)
+            shutil.copy(platform.folder / "libdumyroke.a", library)
         said = run(
             "cargo", "package", "--offline", "--no-verify", "--allow-dirty", cwd=folder, stderr=subprocess.PIPE
         ).stderr.decode()
@@ -85,12 +93,16 @@ def proved():
     commit = subprocess.run(["git", "-C", TOP, "rev-parse", "HEAD"], **words).stdout.strip()
     changed = subprocess.run(["git", "-C", TOP, "status", "--porcelain", "--untracked-files=no"], **words).stdout
     kit = subprocess.run(["rt", "version"], **words).stdout.strip()
+    arm64 = "The libraries for arm64 are proved for it; the heap below them, bindings/c/heap.c, is tested only."
+    if ARM64 not in made_for():
+        arm64 = "No libraries for arm64 were made."
     unproved = "NOT PROVED: the library was made without a proof, to try the packages.\n\n" if UNPROVED.exists() else ""
     return f"""{unproved}Dumyroke {version()}, from commit {commit}{" with changes" if changed else ""}, proved by {kit}.
 
 Programs: `run` of gqlcheck_run, gqlcst_run, gqlfmt_run and gqlls_program is proved, with the devices of byte_streams; the system below them is trusted.
 libdumyroke, and so the Rust crate and the Python package; the page's module, which is the npm package's: each exported call is proved. Headers, Rust,
 Python, JavaScript, the module's memory, and the extension for VS Code are tested only. After the proof, binaryen gives the module addresses of 32 bits.
+{arm64}
 docs/PROMISES.md says what is proved, and EVIDENCE.md which lemmas prove it. The provers and compilers of the kit, LLVM, binaryen and the C library are trusted.
 
 {platforms()}"""
@@ -112,6 +124,8 @@ def release():
         stop("there is no build/: `./do gate` comes first")
     for library in (BUILD / "libdumyroke.a", PACKAGE / "libdumyroke.so"):
         read(library, made_by="./do bindings build")
+    if ARM64 not in made_for():
+        print("there are no libraries for arm64: its wheel is left out, and the Rust crate has none for it")
     if f"## {version()}" not in read(TOP / "CHANGELOG.md").content.decode().splitlines():
         stop(f"CHANGELOG.md has no entry `## {version()}`")
     if about()["homepage"].endswith(".example"):
@@ -121,7 +135,8 @@ def release():
         print(
             "bindings/c/released_kinds.txt is of another release: run `tools/kinds` when these packages are published"
         )
-    files = dict(make() for make in [archive, deb, wheel, vsix, *made_with_more()]) | {
+    packages = [*map(wheel, made_for()), *(make() for make in [archive, deb, vsix, *made_with_more()])]
+    files = dict(packages) | {
         "PROVED.txt": proved().encode(),
         "EVIDENCE.md": (BUILD / "EVIDENCE.md").read_bytes(),
     }

@@ -1,4 +1,4 @@
-"""Tries the packages where the kit is not: in a bare Debian, and in a folder with musl."""
+"""Tries the packages where the kit is not: in a bare Debian, in a folder with musl, and under qemu."""
 
 import re
 import shutil
@@ -10,6 +10,7 @@ from pathlib import Path
 from bindings.shared import RUST, TOP, run, stop
 
 from . import debian
+from .arm64 import try_arm64
 from .here import NPM, npm_example, package, without
 from .installed import PROGRAMS
 from .musl import try_musl
@@ -144,7 +145,7 @@ def try_npm(bare, name):
 TRIALS = [
     (try_debian, ".deb", "strip"),
     (try_archive, "-linux-x86_64.tar.gz", "strip"),
-    (try_wheel, ".whl", "strip"),
+    (try_wheel, "x86_64.whl", "strip"),
     (try_crate, ".crate", "cargo"),
     (try_npm, ".tgz", "wasm-opt"),
 ]
@@ -154,8 +155,9 @@ def trial():
     try_musl()
     why = debian.why_not()
     if why:
-        print(f"{why}: the packages were not tried in a bare Debian")
+        print(f"{why}: the packages were not tried in a bare Debian, and those for arm64 were not tried")
         return
+    try_arm64()
     with tempfile.TemporaryDirectory() as folder:
         bare = Bare(Path(folder))
         if not debian.make(bare.root, NEEDED):
