@@ -35,7 +35,7 @@ use Rattle.document_validation.specs.declared.lists.NamedList.TheVariants as lis
 use Rattle.document_validation.specs.Breaches.{breaches, foreign_as, foreign_at, foreign_in, judged_list, of_each}
 use Rattle.document_validation.specs.Breaches.{of_each_from, repeats_as, repeats_at, repeats_in, rule_of}
 use Rattle.document_validation.specs.Lists.{document_kind, is_executable, item_of, items_of}
-use Rattle.document_validation.specs.OwnNames.{own_name}
+use Rattle.validation_names.specs.OwnNames.{own_name}
 use Rattle.document_validation.proofs.DifferLemmas.{Differ, IsAbout, none_differ, of_none, of_one, one_differs}
 use Rattle.document_validation.proofs.DifferLemmas.{repeats_about, repeats_differ, singles_differ, unknown_about}
 use Rattle.document_validation.proofs.DifferLemmas.{unknown_differ}

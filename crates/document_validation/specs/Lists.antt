@@ -20,7 +20,7 @@ use Rattle.document_validation.specs.declared.lists.NamedList.TheVariants.{Argum
 use Rattle.document_validation.specs.declared.lists.NamedList.TheVariants.{FieldDefinitions, InputFieldDefinitions}
 use Rattle.document_validation.specs.declared.lists.NamedList.TheVariants.{ArgumentDefinitions, EnumValues}
 use Rattle.document_validation.specs.declared.lists.NamedList.TheVariants.{UnionMembers, Interfaces}
-use Rattle.document_validation.specs.OwnNames.{own_name}
+use Rattle.validation_names.specs.OwnNames.{own_name}
 
 -- the list that an element is
 abbrev pub list_of : Place → Option NamedList

@@ -19,7 +19,7 @@ use Rattle.validation_rules.specs.declared.violations.Rule.TheVariants.{UniqueAr
 use Rattle.validation_rules.specs.declared.violations.Rule.TheVariants.{UniqueEnumValueNames, UniqueUnionMemberTypes}
 use Rattle.validation_rules.specs.declared.violations.Rule.TheVariants.{UniqueImplementedInterfaces}
 use Rattle.validation_rules.specs.Violations.{Breach}
-use Rattle.document_validation.specs.OwnNames.{name_at, or_nothing, own_name}
+use Rattle.validation_names.specs.OwnNames.{name_at, or_nothing, own_name}
 
 abbrev pub Text : Type 0
 Text = List ℕ

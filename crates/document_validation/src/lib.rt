@@ -9,7 +9,6 @@
 pub mod laws;
 mod lists;
 mod messages;
-mod names;
 mod validation;
 
 pub use lists::{DocumentKind, document_kind};

@@ -10,10 +10,9 @@ ghost use Rattle.document_validation.specs.Lists.{document_kind, has_item, is_ex
 ghost use Rattle.document_validation.specs.Breaches.{foreign_as, foreign_at, foreign_in, is_judged, judged_list};
 ghost use Rattle.document_validation.specs.Breaches.{of_each, repeats_at, repeats_in, rule_of};
 
-use crate::names::own_name;
 use apollo_tree::{SyntaxKind, SyntaxNode};
 use std::alloc::{AllocError, Global};
-use validation_names::{Mention, Site};
+use validation_names::{Mention, Site, own_name};
 use validation_rules::{Rule, Violations, add_repeats};
 
 /// What a document is judged as.

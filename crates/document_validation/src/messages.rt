@@ -2,15 +2,15 @@
 ghost use Rattle.std.specs.Prelude.{◌≡◌, ◌++◌, IfOk, bytes_eq, codes, option_map, string_bytes};
 ghost use Rattle.apollo_tree.specs.References.{node_place};
 ghost use Rattle.validation_rules.specs.Violations.{as_breach};
-ghost use Rattle.document_validation.specs.OwnNames.{own_name};
+ghost use Rattle.validation_names.specs.OwnNames.{own_name};
 ghost use Rattle.document_validation.specs.Messages.{argument, holder, interface, is_schema, member, member_type};
 ghost use Rattle.document_validation.specs.Messages.{message_of, name_of_other, never_used, not_defined};
 ghost use Rattle.document_validation.specs.Messages.{not_executable, only_once, only_one, owner, with_arguments};
 ghost use Rattle.document_validation.specs.Messages.{within_itself};
 
-use crate::names::{name_at, or_nothing, own_name};
 use apollo_tree::{SyntaxKind, SyntaxNode};
 use std::alloc::{AllocError, Allocator};
+use validation_names::{name_at, or_nothing, own_name, with_names};
 use validation_rules::{Rule, Violation};
 
 fn is_schema(node: &SyntaxNode<'_>) -> bool
@@ -18,27 +18,6 @@ fn is_schema(node: &SyntaxNode<'_>) -> bool
 {
     let kind = node.kind();
     kind.is(SyntaxKind::SCHEMA_DEFINITION) || kind.is(SyntaxKind::SCHEMA_EXTENSION)
-}
-
-// Two names and the words around them.
-fn with_names<A: Allocator>(
-    alloc: A,
-    before: &str,
-    name: &str,
-    between: &str,
-    other: &str,
-    after: &str,
-) -> Result<String<A>, AllocError>
-    ensures { IfOk result (λ text. string_bytes text ≡ before.now ++ name.now ++ between.now
-        ++ other.now ++ after.now) }
-{
-    let mut text = String::new(alloc);
-    text.push_str(before)?;
-    text.push_str(name)?;
-    text.push_str(between)?;
-    text.push_str(other)?;
-    text.push_str(after)?;
-    Ok(text)
 }
 
 fn not_executable<A: Allocator>(

@@ -4,7 +4,8 @@ ghost use Rattle.apollo_tree.specs.Above.{at_or_above};
 ghost use Rattle.apollo_tree.specs.References.{node_place};
 ghost use Rattle.validation_names.specs.Sites.{as_located};
 ghost use Rattle.type_system.specs.Schemas.{as_with_arguments, types};
-ghost use Rattle.query_validation.specs.Contexts.{as_context, composite, condition, directive_at, field_at, field_of};
+ghost use Rattle.query_validation.specs.Contexts.{around, as_context, composite, condition, directive_at, field_at};
+ghost use Rattle.query_validation.specs.Contexts.{field_of};
 ghost use Rattle.query_validation.specs.Contexts.{inline, inside, is_composite, is_leaf, step, type_definition};
 ghost use Rattle.query_validation.specs.Contexts.{type_named_in, type_of};
 
@@ -215,4 +216,21 @@ pub(crate) fn inside_of<'s, 't>(
 {
     let chain = ancestors(alloc, node)?;
     Ok(inside(schema, &chain))
+}
+
+/// What holds around a node, by all nodes above it.
+pub(crate) fn around_of<'s, 't>(
+    alloc: Global,
+    schema: &'s Schema<'t>,
+    node: &SyntaxNode<'_>,
+) -> Result<Context<'s, 't>, AllocError>
+    ensures { IfOk result (λ context. as_context context ≡ around (types schema.now) (node_place node.now)) }
+{
+    match node.parent() {
+        Some(parent) => inside_of(alloc, schema, &parent),
+        None => Ok(Context {
+            parent: None,
+            definition: None,
+        }),
+    }
 }

@@ -7,10 +7,12 @@
 
 mod contexts;
 mod judging;
+mod messages;
 mod parts;
 mod rules;
 mod stack;
 
 pub use contexts::Context;
 pub use judging::{QueryViolation, validate};
+pub use messages::message;
 pub use rules::{QUERY_RULES, QueryRule};

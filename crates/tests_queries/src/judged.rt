@@ -1,6 +1,6 @@
 // What breaks the rules in the documents of one record.
 use apollo_parser::{DocumentRoot, Parser, SyntaxNode, SyntaxTree};
-use query_validation::{QueryViolation, validate};
+use query_validation::{QueryViolation, message, validate};
 use schema_members::STANDARD;
 use std::alloc::{AllocError, Global};
 use type_system::Schema;
@@ -35,15 +35,24 @@ fn write_site(answer: &mut String, site: &Site<'_>) -> Result<(), AllocError> {
     write!(answer, " {}:{start}", site.document)
 }
 
-// A line on a violation.
-fn write_line(answer: &mut String, violation: &QueryViolation<'_, '_>) -> Result<(), AllocError> {
+// What a line on a violation begins with.
+fn write_places(answer: &mut String, violation: &QueryViolation<'_, '_>) -> Result<(), AllocError> {
     let rule = violation.rule.name();
     write!(answer, "{rule}")?;
     write_site(answer, &violation.site)?;
     if let Some(definition) = &violation.definition {
         write_site(answer, definition)?;
     }
-    writeln!(answer)
+    Ok(())
+}
+
+// What a record wants to know.
+#[derive(Clone, Copy)]
+struct Wanted<'t> {
+    most: usize,
+    messages: bool,
+    schema: &'t str,
+    documents: &'t str,
 }
 
 // The lines on the documents in some texts. Their trees do not live as long as the schema.
@@ -51,39 +60,52 @@ fn write_violations(
     alloc: Global,
     answer: &mut String,
     schema: &Schema<'_>,
-    texts: &str,
-    most: usize,
+    wanted: &Wanted<'_>,
 ) -> Result<(), AllocError> {
     let mut trees = Vec::new(alloc);
-    add_trees(alloc, &mut trees, texts)?;
+    add_trees(alloc, &mut trees, wanted.documents)?;
     let documents = roots(alloc, &trees)?;
-    for violation in &validate(alloc, schema, &documents, most)? {
-        write_line(answer, violation)?;
+    for violation in &validate(alloc, schema, &documents, wanted.most)? {
+        write_places(answer, violation)?;
+        if wanted.messages {
+            let message = message(alloc, schema, violation)?;
+            write!(answer, ": {message}")?;
+        }
+        writeln!(answer)?;
     }
     Ok(())
 }
 
-// The bound in a record's first line, the texts of its schema, and those of its operations.
-fn read(record: &str) -> Option<(usize, &str, &str)> {
-    let (most, texts) = record.split_once('\n')?;
+// The bound in a record's first line, whether messages are wanted, the texts of its schema, and those of its operations.
+fn read(record: &str) -> Option<Wanted<'_>> {
+    let (head, texts) = record.split_once('\n')?;
+    let (most, messages) = match head.strip_suffix(" messages") {
+        Some(most) => (most, true),
+        None => (head, false),
+    };
     let most = most.parse::<usize>().ok()?;
     let (schema, documents) = texts.split_once("%%%%\n")?;
-    Some((most, schema, documents))
+    Some(Wanted {
+        most,
+        messages,
+        schema,
+        documents,
+    })
 }
 
 /// The lines on one record.
 pub(crate) fn answer(alloc: Global, record: &str) -> Result<String, AllocError> {
     let mut answer = String::new(alloc);
-    let Some((most, schema, documents)) = read(record) else {
+    let Some(wanted) = read(record) else {
         writeln!(answer, "no record")?;
         return Ok(answer);
     };
     let mut types = Vec::new(alloc);
-    add_trees(alloc, &mut types, schema)?;
+    add_trees(alloc, &mut types, wanted.schema)?;
     types.push(Parser::new(STANDARD).parse(alloc)?)?;
     let definitions = roots(alloc, &types)?;
     let schema = Schema::read(alloc, &definitions)?;
-    write_violations(alloc, &mut answer, &schema, documents, most)?;
+    write_violations(alloc, &mut answer, &schema, &wanted)?;
     writeln!(answer, "--")?;
     Ok(answer)
 }

@@ -1,4 +1,5 @@
 pub mod Definitions
 pub mod Mentions
 pub mod Names
+pub mod OwnNames
 pub mod Sites

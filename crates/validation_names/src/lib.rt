@@ -10,6 +10,7 @@
 mod executables;
 mod name_mentions;
 mod names;
+mod own_names;
 mod sites;
 
 pub use executables::{
@@ -17,4 +18,5 @@ pub use executables::{
 };
 pub use name_mentions::{Mention, MentionKind, mentions, name, name_of_fragment};
 pub use names::{enter, is_entered};
+pub use own_names::{name_at, or_nothing, own_name, with_names};
 pub use sites::Site;

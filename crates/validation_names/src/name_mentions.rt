@@ -48,8 +48,8 @@ pub fn name_of_fragment<'t>(node: &SyntaxNode<'t>) -> Option<&'t str>
     name(fragment?.syntax())
 }
 
-// The name of the variable that a definition declares.
-fn name_of_variable<'t>(node: &SyntaxNode<'t>) -> Option<&'t str>
+/// The name of the variable that a definition declares.
+pub(crate) fn name_of_variable<'t>(node: &SyntaxNode<'t>) -> Option<&'t str>
     ensures { option_map (λ n. n.now) result ≡ name_in VARIABLE (node_place node.now) }
 {
     let variable: Option<Variable<'t>> = child(node);
