@@ -36,7 +36,8 @@ PARTS = {
     "validation": """
         document_validation/src/validation.rt document_validation/src/messages.rt document_validation/src/lists.rt
         variable_rules/src/judging.rt variable_rules/src/steps.rt""",
-    "validation against a schema": "type_system/src/reading.rt query_validation/src/judging.rt",
+    "validation against a schema": """
+        type_system/src/reading.rt query_validation/src/judging.rt query_validation/src/messages.rt""",
     "the cost of operations": (
         "cost_limits/src/measures.rt cost_limits/src/limits.rt cost_figures/src/limits.rt"
     ),
@@ -57,7 +58,9 @@ COUNTED = {
     "`gqlcheck`": "gqlcheck_run/src/program.rt",
     "`gqlls`": "gqlls_program/src/program.rt",
     "C, Python and the page": "c_exports/src/lib.rt",
-    "`Schema::read` and `query_validation`": "type_system/src/reading.rt query_validation/src/judging.rt",
+    "`Schema::read` and `query_validation`": (
+        "type_system/src/reading.rt query_validation/src/judging.rt query_validation/src/messages.rt"
+    ),
 }
 # The four clauses of `parse` that are the main theorem.
 MAIN = ["sound", "accepts", "only_derivation", "still_a_sentence"]

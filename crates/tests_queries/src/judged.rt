@@ -76,7 +76,8 @@ fn write_violations(
     Ok(())
 }
 
-// The bound in a record's first line, whether messages are wanted, the texts of its schema, and those of its operations.
+// The bound in a record's first line, whether messages are wanted, the texts of its schema, and those of its
+// operations.
 fn read(record: &str) -> Option<Wanted<'_>> {
     let (head, texts) = record.split_once('\n')?;
     let (most, messages) = match head.strip_suffix(" messages") {
