@@ -54,14 +54,14 @@ fn deepest_indent(nesting: usize) -> u16
 // is left out, so that a text is refused only where `most` is small for it. The layout stays within `deepest`, so
 // nothing of it is ever left out.
 #[derive(Clone, Copy)]
-struct Bounds {
+struct TextBounds {
     // how many bytes it has at most
     most: usize,
     // how many spaces a line begins with at most
     deepest: u16,
 }
 
-impl Bounds {
+impl TextBounds {
     // How many bytes there are for a token that has this text in the source, besides those for the gap before it, a
     // sign, spaces and a line feed.
     fn room(self, text: &str) -> usize
@@ -93,7 +93,7 @@ struct Writer<A: Allocator> {
     alloc: A,
     layout: Layout<A>,
     gaps: Gaps<A>,
-    bounds: Bounds,
+    bounds: TextBounds,
     // what the last tokens say of an optional sign
     lead: Lead,
     // how many spaces the line begins with
@@ -389,7 +389,7 @@ fn write<A: Allocator + Copy>(
     alloc: A,
     source: &str,
     gaps: Gaps<A>,
-    bounds: Bounds,
+    bounds: TextBounds,
 ) -> Result<String<A>, WriteError>
     requires { length (items_of source.now) ≤ usize_max }
     ensures same { IfOk result (λ text. HoldsChosen (string_bytes text) (Kept (items_of source.now))) }
@@ -440,7 +440,7 @@ pub fn format_text<A: Allocator + Copy>(
     ensures small { IfErr result (λ error. error ≡ TooLong → most < longest_layout nesting (length source.now)) }
 {
     let deepest = deepest_indent(nesting);
-    let text = write(alloc, source, gaps, Bounds { most, deepest })?;
+    let text = write(alloc, source, gaps, TextBounds { most, deepest })?;
     if text.len() > most {
         return Err(WriteError::TooLong);
     }
