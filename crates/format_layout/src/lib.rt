@@ -9,6 +9,26 @@
 //! writes the tokens so that they stay the tokens that they are. So is how block strings are spelled: `spelled`
 //! compares the values, and the laws say what a text keeps whose block strings are spelled anew. And so is which signs
 //! come or go: the writer knows by the tokens before them which ones are optional (`Lead`).
+//!
+//! In `{ a(x: 1) }`, for example, the walk reads the `Elements` of the tree. It has a `Frame` for each node that it is
+//! inside, and leaves a `Slot` before each token. When the writer is at the token, `Gaps` makes a `Gap` of the slot,
+//! by the `Form` of the group:
+//!
+//! ```text
+//! token   Slot: separator, part, width   Gap in a group that is Flat   Gap in one that is Broken
+//! a       Line                           a line feed, 2 spaces         a line feed, 2 spaces
+//! (       Nothing, Open, 6               nothing                       nothing
+//! x       SoftNothing                    nothing                       a line feed, 4 spaces
+//! :       Nothing                        nothing                       nothing
+//! 1       Space                          1 space                       1 space
+//! )       SoftNothing, Close             nothing                       a line feed, 2 spaces
+//!
+//!                                          a(x: 1)                       a(
+//!                                           ^^^^^^ width 6                 x: 1
+//!                                                                        )
+//! ```
+//!
+//! The group is `(x: 1)`. It is flat where the columns in front of it and its width make at most 80 together.
 #![tactic(auto)]
 
 mod block_strings;
