@@ -1,6 +1,6 @@
 -- Rows of items, and their tables.
 use Rattle.std.proofs.Common.{◌≡◌, ◌≢◌, ℕ, ◌+◌, ◌<◌, ◌≤◌, List, [], ◌∷◌, ◌++◌, length, map, get_or, set, true}
-use Rattle.std.proofs.Common.{false, Some, None, eqb, refl, sym, ◌∙◌, ap, ⊎_elim, append-nil, arith}
+use Rattle.std.proofs.Common.{false, Some, eqb, refl, sym, ◌∙◌, ap, ⊎_elim, append-nil, arith}
 use Rattle.std.specs.Prelude.{slice_get}
 use Rattle.std.specs.declared.alloc.Global.{Global}
 use Rattle.std.specs.declared.vec.Vec.{Vec}
@@ -8,51 +8,19 @@ use Rattle.std.proofs.lemmas.Bool.{cases_eq, cases_lt}
 use Rattle.std.proofs.lemmas.Bool.Decides.{nat_tests}
 use Rattle.std.proofs.lemmas.List.{get_or-map, get_or-set_other, get_or-set_same, get_or_append_left, get_or_push}
 use Rattle.std.proofs.lemmas.List.{length-append}
-use Rattle.std.proofs.lemmas.List.{length-map, length-set, map-append, map-set}
-use Rattle.std.proofs.lemmas.Option.{slice_get_cases, slice_get-get_or, slice_get_past, slice_get_within}
+use Rattle.std.proofs.lemmas.List.{length-map, length-set, map-set}
+use Rattle.std.proofs.lemmas.Option.{slice_get-get_or, slice_get_within}
 use Rattle.std.proofs.lemmas.Option.{get_or_from_slice_get}
 use Rattle.document_grammar.specs.declared.kind.SyntaxKind.{SyntaxKind}
-use Rattle.document_grammar.specs.declared.kind.SyntaxKind.TheVariants.{FIELDS_DEFINITION}
 use Rattle.validation_names.specs.Names.{Entries}
-use Rattle.validation_names.specs.Sites.{Located, as_located}
+use Rattle.validation_names.specs.Sites.{Located}
 use Rattle.validation_names.specs.declared.sites.Site.{Site}
 use Rattle.type_system.specs.declared.schema.DefinitionWithArguments.{DefinitionWithArguments}
 use Rattle.type_system.specs.Definitions.{items}
-use Rattle.type_system.specs.Rows.{AddsItems, AreFieldRows, AreFields, AreRows, Rows, Tables, field_at, items_if}
+use Rattle.type_system.specs.Rows.{AddsItems, AreRows, Rows, Tables, items_if}
 use Rattle.type_system.specs.Rows.{located_row, nothing, row_at}
 use Rattle.type_system.specs.Tables.{AreFirstFields}
-use Rattle.type_system.specs.Types.{TypeNumbers, field_in, first_field, is_part_of, items_of, part_of}
-
-pub no_rows : (rows : Rows) → rows ≡ [] → AreRows (λ _. nothing) 0 rows
-no_rows rows none = record {
-  as_many = ap length none;
-  each = λ k below. absurd (omega arith);
-}
-
--- one empty row more
-pub empty_more : (n : ℕ) (old new : Rows) (row : Vec Site Global) → AreRows (λ _. nothing) n old
-    → new ≡ old ++ row ∷ [] → row.items ≡ [] → AreRows (λ _. nothing) (n + 1) new
-empty_more n old new row are is empty = record {
-  as_many = let l = ap length is in let m = length-append old (row ∷ []) in let a = are.as_many in omega arith;
-  each = λ k below.
-      ⊎_elim
-      (λ (e : k ≡ n). rw (e, last) (ap (map as_located) empty))
-      (λ (ne : k ≢ n). let less : k < n = omega arith in rw (earlier k less) (are.each k less))
-      (cases_eq k n);
-}
-  where
-    whole : map located_row new ≡ map located_row old ++ located_row row ∷ []
-    whole = ap (map located_row) is ∙ map-append located_row old (row ∷ [])
-
-    long : length (map located_row old) ≡ n
-    long = length-map old located_row ∙ are.as_many
-
-    last : row_at new n ≡ located_row row
-    last = ap (λ xs. get_or xs n nothing) whole ∙ get_or_push (map located_row old) (located_row row) nothing n long
-
-    earlier : (k : ℕ) → k < n → row_at new k ≡ row_at old k
-    earlier k less = ap (λ xs. get_or xs k nothing) whole
-        ∙ get_or_append_left (map located_row old) (located_row row ∷ []) nothing k (omega (arith, long))
+use Rattle.type_system.specs.Types.{TypeNumbers, is_part_of, items_of, part_of}
 
 -- ---- items that are added to a row
 pub read_row : (rows : Rows) (number : ℕ) (row : Vec Site Global) → number < length rows → row ≡ get_or rows number row
@@ -90,21 +58,6 @@ added numbers block d old number row part inside is = record {
 
     same : get_or (set (map located_row old) number (located_row row)) number nothing ≡ located_row row
     same = get_or-set_same (map located_row old) number (located_row row) nothing (rw length-map inside)
-
-pub not_added : (numbers : TypeNumbers) (block : SyntaxKind) (d : Located) (old : Rows)
-    → ((k : ℕ) → k < length old → is_part_of numbers k d ≡ false) → AddsItems numbers block d old old
-not_added numbers block d old none = record {
-  as_many = refl;
-  each = λ k below. no_items numbers block d (row_at old k) k (none k below);
-}
-
-pub no_part : (numbers : TypeNumbers) (d : Located) (k : ℕ) → part_of numbers d ≡ None → is_part_of numbers k d ≡ false
-no_part numbers d k none = rw none refl
-
-pub past_rows : (numbers : TypeNumbers) (d : Located) (number k count : ℕ) → part_of numbers d ≡ Some number
-    → count ≤ number → k < count → is_part_of numbers k d ≡ false
-past_rows numbers d number k count part past below =
-    let ne : k ≢ number = omega arith in rw part (other_number number k ne)
 
 -- one definition more
 pub rows_more :
@@ -152,27 +105,3 @@ table_more numbers rows n tables table long are last k t is q =
         let last_is : t ≡ table = sym (get_or_from_slice_get (tables ++ table ∷ []) k t table is)
         ∙ get_or_push tables table table k (long ∙ sym e) in
         rw (last_is, e) (last q)
-
-pub fields_of_rows : (numbers : TypeNumbers) (ds : List Located) (rows : Rows) (tables : Tables)
-    → AreRows (items_of numbers FIELDS_DEFINITION ds) (length ds) rows → AreFieldRows numbers rows tables
-    → AreFields numbers ds tables
-fields_of_rows numbers ds rows tables are_rows are_tables number name =
-    ⊎_elim inside past (cases_lt number (length ds))
-  where
-    long : length tables ≡ length ds
-    long = are_tables.as_many ∙ are_rows.as_many
-
-    inside : number < length ds → field_at tables number name ≡ field_in numbers ds number name
-    inside below =
-        ⊎_elim
-        (λ t. ⊎_elim
-        (λ d. rw (t.2, d.2) (are_tables.each number t.0 t.2 name
-        ∙ ap (λ row. first_field numbers row name) (are_rows.each number below)))
-        (λ d. absurd (omega arith))
-        (slice_get_cases ds number).1)
-        (λ t. absurd (omega arith))
-        (slice_get_cases tables number).1
-
-    past : length ds ≤ number → field_at tables number name ≡ field_in numbers ds number name
-    past le =
-        rw (slice_get_past tables number (omega (arith, long)), slice_get_past ds number le) refl

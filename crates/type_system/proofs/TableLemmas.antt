@@ -62,10 +62,6 @@ pub under_name : {W : Type 0} (d : Located) (n : Name) (before after : Name → 
     → (q : Name) → after q ≡ option_or (before q) (one_if (is_named q d) w)
 under_name d n before after w named is q = rw named (is q)
 
-pub without_name : {W : Type 0} (d : Located) (before : Name → Option W) (w : W) → name_of d.place ≡ None
-    → (q : Name) → before q ≡ option_or (before q) (one_if (is_named q d) w)
-without_name d before w none q = rw none (or_none (before q))
-
 -- one definition more in a table of the first of each name
 pub first_more : {W : Type 0} (make : Located → W) (before after : Name → Option W) (ds : List Located) (d : Located)
     → ((q : Name) → before q ≡ option_map make (first_named ds q))
