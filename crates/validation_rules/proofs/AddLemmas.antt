@@ -2,7 +2,7 @@
 use Rattle.std.proofs.Common.{◌≡◌, ℕ, zero, suc, ◌+◌, ◌-◌, ◌<◌, ◌≤◌, min, List, [], ◌∷◌, ◌++◌, length, map, take, drop}
 use Rattle.std.proofs.Common.{get_or, arith, refl, sym, ◌∙◌, ap, ⊎_elim, append_assoc, append-nil, length-append}
 use Rattle.std.proofs.Common.{length-take}
-use Rattle.std.specs.Prelude.{nat_le, true, false}
+use Rattle.std.specs.Prelude.{nat_le, true}
 use Rattle.std.specs.List.{flat_map, range_with_len}
 use Rattle.std.proofs.Math.ListN.{get_or-map}
 use Rattle.std.proofs.lemmas.Bool.Decides.{nat_tests}
@@ -12,7 +12,7 @@ use Rattle.std.proofs.lemmas.Grind.{flat_map-append}
 use Rattle.std.proofs.lemmas.List.Elements.{filter-append}
 use Rattle.std.proofs.lemmas.List.{length-map, take-append-drop, take_all, take_more}
 use Rattle.validation_rules.specs.declared.violations.Violations.{Violations}
-use Rattle.validation_rules.specs.Violations.{Adds, Breach, as_breach, found, is_selected, selected}
+use Rattle.validation_rules.specs.Violations.{Adds, Breach, found, is_selected, selected}
 
 -- ---- one list after another
 take_both : {X : Type 0} (n : ℕ) (xs ys : List X) → take n (xs ++ ys) ≡ take n xs ++ take (n - length xs) ys
@@ -70,30 +70,6 @@ adds_full xs ys old new full adds = adds_then xs ys old new new adds (record {
 
 pub is_full : (v : Violations) → true ≡ nat_le v.most (length v.list.items) → v.most ≤ length (found v)
 is_full v full = let le : v.most ≤ length v.list.items = grind (arith, nat_tests, full) in rw length-map le
-
--- one more in a list that is not full, if it is selected
-pub adds_push : (b : Breach) (old new : Violations) → new.most ≡ old.most → new.selection ≡ old.selection
-    → found new ≡ found old ++ b ∷ [] → length old.list.items < old.most → is_selected old.selection b ≡ true
-    → Adds (b ∷ []) old new
-adds_push b old new same alike is less asked = record {
-  most = same;
-  selection = alike;
-  are =
-      let long = length-map old.list.items as_breach in
-      let room : old.most - length (found old) ≡ suc (old.most - length (found old) - 1) = rw long (omega arith) in
-      let one : selected old.selection (b ∷ []) ≡ b ∷ [] = rw asked refl in
-      is ∙ rw (one, room, take_nil {X = Breach} (old.most - length (found old) - 1)) refl;
-}
-
--- one that is not selected
-pub adds_left_out : (b : Breach) (v : Violations) → is_selected v.selection b ≡ false → Adds (b ∷ []) v v
-adds_left_out b v left_out = record {
-  most = refl;
-  selection = refl;
-  are =
-      let none : selected v.selection (b ∷ []) ≡ [] = rw left_out refl in
-      rw (none, take_nil {X = Breach} (v.most - length (found v))) (sym (append-nil (found v)));
-}
 
 -- ---- what is listed for each of some things, in order
 pub adds_next :
