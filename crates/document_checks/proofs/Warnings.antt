@@ -1,5 +1,5 @@
 -- Reports that get one more finding.
-use Rattle.std.proofs.Common.{◌≡◌, ◌<◌, ℕ, Bool, true, false, List, [], ◌∷◌, ◌++◌, length, refl, sym, ap}
+use Rattle.std.proofs.Common.{◌≡◌, ◌<◌, Bool, true, false, List, [], ◌∷◌, ◌++◌, length, refl, sym, ap}
 use Rattle.std.proofs.Common.{◌∙◌, subst, arith}
 use Rattle.std.specs.Prelude.{◌≢◌, vec_len}
 use Rattle.std.proofs.lemmas.List.Elements.{All-append, All-cons, All-nil}
@@ -75,6 +75,3 @@ warning_added old new f are same warning founded = record {
 pub some_more : (fs gs : List Finding) (f : Finding) → gs ≡ fs ++ f ∷ [] → gs ≢ []
 some_more [] gs f are none = let r : ⊥ = cc in r
 some_more (g ∷ fs) gs f are none = let r : ⊥ = cc in r
-
-pub some_there : (fs : List Finding) (n : ℕ) → n ≡ length fs → 0 < n → fs ≢ []
-some_there fs n count some none = omega (arith, count, some, ap length none)
