@@ -30,7 +30,7 @@ use Rattle.document_checks.specs.Passing.{undecided_sites, validation_options, v
 use Rattle.document_checks.specs.Warnings.{AreQuietIf, has_warnings, warning_options}
 use Rattle.document_checks.specs.declared.report.Report.{Report}
 use Rattle.document_checks.proofs.Verdicts.{one_measures}
-use Rattle.document_checks.proofs.Warnings.{founded_of}
+use Rattle.document_checks.proofs.Warnings.{founded_of, not_both}
 
 -- ---- lists
 
@@ -83,9 +83,6 @@ pub one_more : {X : Type 0} (Q : ℕ → X → Type 0) (rs : List Report) (k : �
 one_more Q rs k old new front x inside was each here others = λ text r within.
     one_text Q rs k old new front x inside was each here others text r (omega (arith, within, length-set {A = Report}))
     (eqb text k) refl
-
-pub not_both : (b : Bool) → b ≡ true → b ≡ false → ⊥
-not_both b is not = let e : true ≡ false = sym is ∙ not in let r : ⊥ = cc in r
 
 pub clean_pass : (rs : List Report) → AreClean rs → AllPass rs
 clean_pass rs clean = λ k d inside. (clean k d inside).0

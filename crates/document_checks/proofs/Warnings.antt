@@ -8,7 +8,7 @@ use Rattle.document_checks.specs.Findings.{AreWarnings, BeginWithError}
 use Rattle.document_checks.specs.declared.report.Finding.{Finding}
 use Rattle.document_checks.specs.declared.report.Report.{Report}
 
-not_both : (b : Bool) → b ≡ true → b ≡ false → ⊥
+pub not_both : (b : Bool) → b ≡ true → b ≡ false → ⊥
 not_both b is not = let e : true ≡ false = sym is ∙ not in let r : ⊥ = cc in r
 
 -- one more behind the others
