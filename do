@@ -70,6 +70,7 @@ quick() {
     must "Show in the page what the file has." tests/readme --text
     must "Say in README what docs/SPEED.md has, or change the phrases of tools/speed." tools/speed
     must "Break the line, or write the sentence in other words." tools/words
+    must "Run tools/imports." tools/imports --check
     must "Mend the line." tools/lint
     return $failed
 }

@@ -1,10 +1,10 @@
 -- The nodes that can be cast, found by one test.
 use Rattle.std.proofs.Common.{◌≡◌, List, [], ◌∷◌, Bool, refl, ap, inl, inr}
 use Rattle.std.specs.List.{filter}
-use Rattle.document_grammar.specs.declared.kind.SyntaxKind.{SyntaxKind}
 use Rattle.document_grammar.proofs.Booleans.{either}
-use Rattle.apollo_tree.specs.Order.{Place, kind_at}
+use Rattle.document_grammar.specs.declared.kind.SyntaxKind.{SyntaxKind}
 use Rattle.apollo_tree.specs.Children.{is_node_place}
+use Rattle.apollo_tree.specs.Order.{Place, kind_at}
 use Rattle.apollo_tree.specs.Taken.{takes_place}
 use Rattle.apollo_cst_core.specs.Cast.{casts_at}
 use Rattle.apollo_cst_core.specs.Children.{is_typed}

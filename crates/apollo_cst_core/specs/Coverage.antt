@@ -1,8 +1,8 @@
 -- Whether the accessors of a node reach all its children.
 use Rattle.std.specs.Prelude.{ℕ, Bool, false, List, [], ◌∷◌, ◌==◌, ◌&&◌, ◌||◌}
+use Rattle.apollo_cst_core.specs.Accessors.{accessors}
 use Rattle.apollo_cst_core.specs.Cast.{in_list}
 use Rattle.apollo_cst_core.specs.ReadingBack.{Accessor, nodes, leaf}
-use Rattle.apollo_cst_core.specs.Accessors.{accessors}
 
 -- one of the accessors is of this kind of node, and looks for children of the kind k
 abbrev pub covers : List Accessor → ℕ → ℕ → Bool

@@ -1,6 +1,6 @@
 -- Places by the kinds of their elements.
-use Rattle.std.specs.Prelude.{Bool, List}
 use Rattle.std.specs.List.{list_any}
+use Rattle.std.specs.Prelude.{Bool, List}
 use Rattle.document_grammar.specs.Numbers.{is_kind}
 use Rattle.document_grammar.specs.declared.kind.SyntaxKind.{SyntaxKind}
 use Rattle.apollo_tree.specs.Order.{Place, kind_at}

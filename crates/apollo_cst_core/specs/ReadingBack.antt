@@ -1,13 +1,13 @@
 -- How many children an accessor finds at a node that keeps to the grammar.
 use Rattle.std.specs.Prelude.{◌≡◌, ℕ, true, List, [], ◌∷◌, ◌⊎◌, ⊤}
-use Rattle.document_grammar.specs.declared.kind.SyntaxKind.{SyntaxKind}
-use Rattle.document_grammar.specs.Numbers.{number}
-use Rattle.document_grammar.specs.Numbered.{tree_of}
-use Rattle.document_grammar.specs.Forests.{Forest, none, first}
 use Rattle.document_grammar.specs.Derivation.{Fits}
+use Rattle.document_grammar.specs.Forests.{Forest, none, first}
+use Rattle.document_grammar.specs.Numbered.{tree_of}
+use Rattle.document_grammar.specs.Numbers.{number}
 use Rattle.document_grammar.specs.Placed.{bare}
-use Rattle.apollo_tree.specs.Order.{Place, tree_at, kind_at}
+use Rattle.document_grammar.specs.declared.kind.SyntaxKind.{SyntaxKind}
 use Rattle.apollo_tree.specs.Children.{is_node_place}
+use Rattle.apollo_tree.specs.Order.{Place, tree_at, kind_at}
 use Rattle.apollo_cst_core.specs.Cast.{one_of, cast_children, leaves_of}
 
 -- how many children of some kinds a row allows

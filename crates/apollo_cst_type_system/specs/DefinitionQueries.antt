@@ -1,10 +1,11 @@
 -- What the calls of `Definition` give: the name, the kind in words, and which sort of definition it is.
 use Rattle.std.specs.Prelude.{ℕ, List, Bool, true, false, Option, Some, None, codes}
-use Rattle.document_grammar.specs.declared.kind.SyntaxKind.TheVariants.{NAME, FRAGMENT_NAME}
 use Rattle.document_grammar.specs.Numbers.{is_kind}
+use Rattle.document_grammar.specs.declared.kind.SyntaxKind.TheVariants.{NAME, FRAGMENT_NAME}
 use Rattle.apollo_tree.specs.Order.{Place}
 use Rattle.apollo_tree.specs.References.{node_place}
 use Rattle.apollo_cst_core.specs.Cast.{cast_children, first_of}
+use Rattle.apollo_cst_type_system.specs.Definition.{definition_node}
 use Rattle.apollo_cst_type_system.specs.declared.document.Definition.{Definition}
 use Rattle.apollo_cst_type_system.specs.declared.document.Definition.TheVariants.{OperationDefinition}
 use Rattle.apollo_cst_type_system.specs.declared.document.Definition.TheVariants.{FragmentDefinition}
@@ -20,7 +21,6 @@ use Rattle.apollo_cst_type_system.specs.declared.document.Definition.TheVariants
 use Rattle.apollo_cst_type_system.specs.declared.document.Definition.TheVariants.{InterfaceTypeExtension}
 use Rattle.apollo_cst_type_system.specs.declared.document.Definition.TheVariants.{UnionTypeExtension, EnumTypeExtension}
 use Rattle.apollo_cst_type_system.specs.declared.document.Definition.TheVariants.{InputObjectTypeExtension}
-use Rattle.apollo_cst_type_system.specs.Definition.{definition_node}
 
 -- the first child NAME of an element
 abbrev pub name_at : Place → Option Place

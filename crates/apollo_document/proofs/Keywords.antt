@@ -2,30 +2,30 @@
 -- begins.
 use Rattle.std.proofs.Common.{◌≡◌, ◌∙◌, ℕ, Bool, true, false, ◌&&◌, ◌||◌, eqb, cond, List, [], ◌∷◌, Option, Some, None}
 use Rattle.std.proofs.Common.{refl, sym, ap, subst, inl, inr}
-use Rattle.std.specs.Prelude.{codes}
-use Rattle.std.specs.Str.{bytes_eq}
 use Rattle.std.proofs.lemmas.Bool.{eqb-true, and_parts, and_right, or_left, or_right}
 use Rattle.std.proofs.lemmas.Slice.Eq.{bytes_eq-Decides}
+use Rattle.std.specs.Prelude.{codes}
+use Rattle.std.specs.Str.{bytes_eq}
 use Rattle.lexical_grammar.specs.declared.TokenKind.{TokenKind}
 use Rattle.lexical_grammar.specs.declared.TokenKind.TheVariants as token
-use Rattle.apollo_lexer.specs.declared.token.Token.{Token}
-use Rattle.document_grammar.specs.declared.kind.SyntaxKind.{SyntaxKind}
-use Rattle.document_grammar.specs.declared.kind.SyntaxKind.TheVariants as kind
+use Rattle.document_grammar.proofs.Booleans.{either}
 use Rattle.document_grammar.specs.Choices.{is_keyword, keyword_word}
 use Rattle.document_grammar.specs.Kinds.{words}
 use Rattle.document_grammar.specs.Numbers.{number}
-use Rattle.document_grammar.proofs.Booleans.{either}
-use Rattle.parser_rules.specs.declared.message.Message.TheVariants as message
-use Rattle.parser_rules.specs.State.{State, Text, Lexeme, same_kind, is_word, is_at, second}
+use Rattle.document_grammar.specs.declared.kind.SyntaxKind.{SyntaxKind}
+use Rattle.document_grammar.specs.declared.kind.SyntaxKind.TheVariants as kind
+use Rattle.parser_rules.proofs.runs.Running.{sequence}
 use Rattle.parser_rules.specs.Nodes as rule
 use Rattle.parser_rules.specs.Nodes.{Definition, DescribedDefinition, Extensions}
 use Rattle.parser_rules.specs.RuleLanguage.{TokenTest, Kind, Keyword, Test, Here, At, Word, Next, fits, holds, Rule}
 use Rattle.parser_rules.specs.RuleLanguage.{When, Child, Call, refuse}
 use Rattle.parser_rules.specs.Rules.{operation_type, no_definition, no_described, body}
 use Rattle.parser_rules.specs.Runs.{Runs, yes, no, call}
-use Rattle.parser_rules.proofs.runs.Running.{sequence}
-use Rattle.parser_state.specs.View.{current_of, lexeme_of}
+use Rattle.parser_rules.specs.State.{State, Text, Lexeme, same_kind, is_word, is_at, second}
+use Rattle.parser_rules.specs.declared.message.Message.TheVariants as message
+use Rattle.apollo_lexer.specs.declared.token.Token.{Token}
 use Rattle.parser_state.proofs.Keywords.{name-is-word}
+use Rattle.parser_state.specs.View.{current_of, lexeme_of}
 use Rattle.apollo_document.specs.Keywords.{kind_of, IsKeyword, definition_of, extension_of}
 use Rattle.apollo_document.specs.declared.grammar.keyword.DefinitionKeyword.{DefinitionKeyword}
 use Rattle.apollo_document.specs.declared.grammar.keyword.DefinitionKeyword.TheVariants.{Query, Mutation, Subscription}

@@ -2,11 +2,11 @@
 use Rattle.std.specs.Prelude.{◌≡◌, true, false, Option, Some, None}
 use Rattle.document_grammar.specs.declared.kind.SyntaxKind.{SyntaxKind}
 use Rattle.document_grammar.specs.declared.kind.SyntaxKind.TheVariants as kind
-use Rattle.parser_rules.specs.declared.message.Message.TheVariants as message
-use Rattle.parser_rules.specs.State.{Lexeme, is_word}
 use Rattle.parser_rules.specs.Nodes as rule
 use Rattle.parser_rules.specs.Nodes.{Node}
 use Rattle.parser_rules.specs.RuleLanguage.{Rule, Child, refuse}
+use Rattle.parser_rules.specs.State.{Lexeme, is_word}
+use Rattle.parser_rules.specs.declared.message.Message.TheVariants as message
 use Rattle.apollo_document.specs.declared.grammar.keyword.DefinitionKeyword.{DefinitionKeyword}
 use Rattle.apollo_document.specs.declared.grammar.keyword.DefinitionKeyword.TheVariants.{Query, Mutation, Subscription}
 use Rattle.apollo_document.specs.declared.grammar.keyword.DefinitionKeyword.TheVariants.{Fragment, Schema, Directive}

@@ -2,27 +2,27 @@
 -- run.
 use Rattle.std.proofs.Common.{◌≡◌, ℕ, ◌+◌, ◌<◌, ◌≤◌, Bool, true, false, cond, ◌||◌, List, [], ◌∷◌, Option, Some, None}
 use Rattle.std.proofs.Common.{is_some, length, get_or, drop, refl, sym, ◌∙◌, ap, subst, inl, inr, arith}
-use Rattle.std.specs.List.{find, list_all}
-use Rattle.std.specs.Option.{option_or}
+use Rattle.std.proofs.lemmas.Bool.{cond-true, cond-false}
+use Rattle.std.proofs.lemmas.List.{at_drop_more, at_drop_all}
 use Rattle.std.proofs.lemmas.List.Folds.{find-append}
 use Rattle.std.proofs.lemmas.List.Recursion.{and_at}
-use Rattle.std.proofs.lemmas.List.{at_drop_more, at_drop_all}
-use Rattle.std.proofs.lemmas.Bool.{cond-true, cond-false}
-use Rattle.document_grammar.specs.declared.kind.SyntaxKind.{SyntaxKind}
-use Rattle.document_grammar.specs.declared.kind.SyntaxKind.TheVariants as kind
+use Rattle.std.specs.List.{find, list_all}
+use Rattle.std.specs.Option.{option_or}
+use Rattle.lexical_grammar.specs.declared.TokenKind.TheVariants as token
+use Rattle.document_grammar.proofs.Booleans.{either}
 use Rattle.document_grammar.specs.Choices.{is_keyword}
 use Rattle.document_grammar.specs.Numbers.{number}
-use Rattle.document_grammar.proofs.Booleans.{either}
-use Rattle.parser_rules.specs.declared.message.Message.TheVariants as message
-use Rattle.lexical_grammar.specs.declared.TokenKind.TheVariants as token
+use Rattle.document_grammar.specs.declared.kind.SyntaxKind.{SyntaxKind}
+use Rattle.document_grammar.specs.declared.kind.SyntaxKind.TheVariants as kind
+use Rattle.parser_rules.proofs.runs.Frame.{is-open, still-open}
+use Rattle.parser_rules.proofs.runs.Running.{sequence}
 use Rattle.parser_rules.specs.Nodes.{DirectiveLocation, Location}
-use Rattle.parser_rules.specs.State.{State, Lexeme, is_word, flush, opened, closed}
 use Rattle.parser_rules.specs.RuleLanguage.{Here, At, fits, holds, Bump, Note, Rule, Do, When, Child, Call}
 use Rattle.parser_rules.specs.Rules.{any_word, one_of, location, word_of, executable_locations, type_system_locations}
 use Rattle.parser_rules.specs.Rules.{inside, body}
 use Rattle.parser_rules.specs.Runs.{Runs, yes, no, child, call}
-use Rattle.parser_rules.proofs.runs.Frame.{is-open, still-open}
-use Rattle.parser_rules.proofs.runs.Running.{sequence}
+use Rattle.parser_rules.specs.State.{State, Lexeme, is_word, flush, opened, closed}
+use Rattle.parser_rules.specs.declared.message.Message.TheVariants as message
 use Rattle.apollo_grammar.specs.Locations.{locations, location_word}
 
 -- ---- the search, from place to place

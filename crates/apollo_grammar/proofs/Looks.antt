@@ -2,11 +2,11 @@
 use Rattle.std.proofs.Common.{◌≡◌, Bool, true, false, Option, Some, None, is_some, not, ◌&&◌, ◌||◌, refl}
 use Rattle.lexical_grammar.specs.declared.TokenKind.{TokenKind}
 use Rattle.lexical_grammar.specs.declared.TokenKind.TheVariants as token
-use Rattle.apollo_lexer.specs.declared.token.Token.{Token}
-use Rattle.parser_rules.specs.State.{State, is_at, is_over, is_deep}
+use Rattle.parser_rules.proofs.runs.Running.{nesting}
 use Rattle.parser_rules.specs.RuleLanguage.{Kind, Or, Here, At, Ready, holds}
 use Rattle.parser_rules.specs.Rules.{has_item}
-use Rattle.parser_rules.proofs.runs.Running.{nesting}
+use Rattle.parser_rules.specs.State.{State, is_at, is_over, is_deep}
+use Rattle.apollo_lexer.specs.declared.token.Token.{Token}
 use Rattle.parser_state.specs.View.{current_of}
 
 -- a token that a look finds is the next one

@@ -1,21 +1,21 @@
 -- The search for the last fault of a bad string meets the definition byte after byte.
 use Rattle.std.proofs.Common.{◌≡◌, ℕ, zero, suc, ◌+◌, ◌-◌, ◌<◌, ◌≤◌, true, false, cond, List, [], ◌∷◌, length, drop}
 use Rattle.std.proofs.Common.{take, Option, refl, sym, ap, ◌∙◌, arith, eqb, eqb-true, subst, inl, inr, length-drop}
-use Rattle.std.specs.Prelude.{slice_index}
 use Rattle.std.proofs.lemmas.Bool.{false_from_ne_true, ne_eqb, or_parts, cases_Bool, lt-ltb, le-ltb}
 use Rattle.std.proofs.lemmas.List.{drop-drop}
+use Rattle.std.specs.Prelude.{slice_index}
 use Rattle.memchr.specs.Find.{is_byte2, Nowhere, Passes}
 use Rattle.lexical_grammar.specs.Characters.{is_line_terminator}
 use Rattle.lexical_grammar.specs.NumberStates.{live_len}
-use Rattle.lexical_grammar.specs.declared.NumberState.TheVariants.{Begin}
 use Rattle.lexical_grammar.specs.Reads.{bad_escape_len, string_character_len}
+use Rattle.lexical_grammar.specs.declared.NumberState.TheVariants.{Begin}
+use Rattle.apollo_lexer.proofs.Searches.{FirstAt, slash-of, byte-at, slice-rest}
 use Rattle.apollo_lexer.specs.BadText.{after_character, after_escape, bad_text_message, escape_fault, fault_behind}
 use Rattle.apollo_lexer.specs.BadText.{last_fault}
 use Rattle.apollo_lexer.specs.Faults.{fault_message}
 use Rattle.apollo_lexer.specs.Parts.{after_characters, or_last}
 use Rattle.apollo_lexer.specs.declared.faults.LexFault.{LexFault}
 use Rattle.apollo_lexer.specs.declared.faults.LexFault.TheVariants.{LineTerminator, UnterminatedString}
-use Rattle.apollo_lexer.proofs.Searches.{FirstAt, slash-of, byte-at, slice-rest}
 
 -- ---- line terminators
 

@@ -1,16 +1,16 @@
 -- The item at the front of a text: it has some bytes, and the text may be cut after it.
 use Rattle.std.proofs.Common.{◌≡◌, ℕ, ◌<◌, List, [], ◌∷◌, length, take, drop, Some, None, refl, sym, ap, ◌∙◌, subst}
 use Rattle.std.proofs.Common.{arith, length-take-le, IsUtf8, IsCharBoundary}
-use Rattle.std.specs.Prelude.{slice_index}
 use Rattle.std.proofs.lemmas.List.{take-append-drop}
 use Rattle.std.proofs.lemmas.Str.{IsCharBoundary-at_seam, IsCharBoundary-from_take, IsUtf8-from_ascii}
 use Rattle.std.proofs.lemmas.Str.Ascii.{IsAscii-cons, IsAscii-nil}
-use Rattle.lexical_grammar.specs.NumberStates.{live_len}
-use Rattle.lexical_grammar.specs.declared.NumberState.TheVariants.{Begin}
-use Rattle.lexical_grammar.specs.declared.TokenKind.{TokenKind}
-use Rattle.lexical_grammar.specs.Reads.{token_at, bad_len, item_of_token, first_item}
+use Rattle.std.specs.Prelude.{slice_index}
 use Rattle.lexical_grammar.proofs.NumberStates.{live-is, live-within, live-ascii}
 use Rattle.lexical_grammar.proofs.TheCut.{FirstItem, first-is-item}
+use Rattle.lexical_grammar.specs.NumberStates.{live_len}
+use Rattle.lexical_grammar.specs.Reads.{token_at, bad_len, item_of_token, first_item}
+use Rattle.lexical_grammar.specs.declared.NumberState.TheVariants.{Begin}
+use Rattle.lexical_grammar.specs.declared.TokenKind.{TokenKind}
 
 pub front : (source : List ℕ) → 0 < length source → IsUtf8 source
     → FirstItem source (first_item source).0 (first_item source).1

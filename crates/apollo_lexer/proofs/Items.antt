@@ -1,19 +1,19 @@
 -- The items of a text are its first item and those of the text after it.
 use Rattle.std.proofs.Common.{◌≡◌, ℕ, zero, suc, ◌+◌, ◌-◌, ◌<◌, ◌≤◌, List, [], ◌∷◌, length, take, drop, Some, None}
 use Rattle.std.proofs.Common.{refl, sym, ap, ◌∙◌, arith}
-use Rattle.lexical_grammar.specs.Cut.{Item, end_at}
-use Rattle.lexical_grammar.specs.declared.TokenKind.{TokenKind}
-use Rattle.lexical_grammar.specs.declared.TokenKind.TheVariants.{Eof}
-use Rattle.lexical_grammar.specs.Tokens.{Tok}
 use Rattle.std.proofs.Common.{Option, subst, cond, eqb, false}
 use Rattle.std.proofs.Common.{length-take-le}
-use Rattle.lexical_grammar.proofs.Sound.{sound}
-use Rattle.std.specs.Prelude.{max}
 use Rattle.std.proofs.lemmas.Bool.Decides.{nat_tests}
-use Rattle.lexical_grammar.specs.Reads.{token_at, item_of_token, first_item, items_from}
+use Rattle.std.specs.Prelude.{max}
 use Rattle.lexical_grammar.proofs.Limited.{limited-end}
+use Rattle.lexical_grammar.proofs.Sound.{sound}
 use Rattle.lexical_grammar.proofs.TheCut
 use Rattle.lexical_grammar.specs.Answers.{Answer, gives, limit_at, limit_index, limit_index_at, limited}
+use Rattle.lexical_grammar.specs.Cut.{Item, end_at}
+use Rattle.lexical_grammar.specs.Reads.{token_at, item_of_token, first_item, items_from}
+use Rattle.lexical_grammar.specs.Tokens.{Tok}
+use Rattle.lexical_grammar.specs.declared.TokenKind.{TokenKind}
+use Rattle.lexical_grammar.specs.declared.TokenKind.TheVariants.{Eof}
 
 max-next : (n : ℕ) → max n (n + 1) ≡ n + 1
 max-next n = grind (arith, nat_tests)

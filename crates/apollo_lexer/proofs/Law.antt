@@ -1,17 +1,17 @@
 -- The law of answers, and how many there are.
 use Rattle.std.proofs.Common.{◌≡◌, ℕ, zero, suc, ◌+◌, ◌-◌, ◌<◌, ◌≤◌, ◌^◌, Bool, true, false, List, [], ◌∷◌, length}
 use Rattle.std.proofs.Common.{take, Option, Some, None, refl, sym, arith}
-use Rattle.std.specs.Prelude.{min, if◌then◌else◌}
 use Rattle.std.proofs.lemmas.Bool.Decides.{nat_tests}
-use Rattle.lexical_grammar.specs.declared.TokenKind.{TokenKind}
-use Rattle.lexical_grammar.specs.Cut.{Item}
-use Rattle.lexical_grammar.specs.Reads.{token_at, item_of_token, first_item, items_from}
+use Rattle.std.specs.Prelude.{min, if◌then◌else◌}
 use Rattle.lexical_grammar.proofs.Limited.{token_text, not-last}
-use Rattle.apollo_lexer.specs.Answers.{answers_left, items_left}
+use Rattle.lexical_grammar.proofs.Sound.{sound}
 use Rattle.lexical_grammar.specs.Answers.{Answer, limited}
 use Rattle.lexical_grammar.specs.Answers.{IsItemText, IsLast, AreAnswers}
+use Rattle.lexical_grammar.specs.Cut.{Item}
+use Rattle.lexical_grammar.specs.Reads.{token_at, item_of_token, first_item, items_from}
+use Rattle.lexical_grammar.specs.declared.TokenKind.{TokenKind}
+use Rattle.apollo_lexer.specs.Answers.{answers_left, items_left}
 use Rattle.apollo_lexer.specs.declared.lexer.Lexer.{Lexer}
-use Rattle.lexical_grammar.proofs.Sound.{sound}
 
 item-text : (source : List ℕ) (found : Option (TokenKind × ℕ)) → token_at source ≡ found
     → IsItemText (item_of_token source found).0 (take (item_of_token source found).1 source)

@@ -2,9 +2,9 @@
 use Rattle.std.proofs.Common.{◌≡◌, ℕ, Bool, true, false, List, [], ◌∷◌, ◌++◌, refl, sym, subst}
 use Rattle.std.specs.Prelude.{filter, not}
 use Rattle.lexical_grammar.specs.Answers.{Answer, is_token}
-use Rattle.apollo_lexer.specs.Diagnostics.{Diagnostic}
 use Rattle.apollo_lexer.specs.Answers.{error_answer}
 use Rattle.apollo_lexer.specs.BadText.{bad_text_message}
+use Rattle.apollo_lexer.specs.Diagnostics.{Diagnostic}
 use Rattle.apollo_lexer.specs.LexErrors.{lex_subject, limit_message, IsLexMessage, IsLexError, AreLexErrors}
 
 -- an error's answer is no token

@@ -1,21 +1,21 @@
 -- Messages for bad text are ASCII where the text is, and none is a limit's.
 use Rattle.std.proofs.Common.{◌≡◌, ℕ, Bool, true, false, ◌||◌, eqb, List, [], ◌∷◌, ◌++◌, drop, refl, sym, ap, ◌∙◌}
 use Rattle.std.proofs.Common.{subst, true≢false}
-use Rattle.std.specs.Prelude.{codes}
-use Rattle.std.specs.List.{list_all}
-use Rattle.std.specs.Str.{IsAscii}
-use Rattle.std.specs.Char.{is_ascii}
 use Rattle.std.proofs.lemmas.Bool.{ltb-true}
 use Rattle.std.proofs.lemmas.Str.{IsAscii-append, IsAscii-drop}
+use Rattle.std.specs.Char.{is_ascii}
+use Rattle.std.specs.List.{list_all}
+use Rattle.std.specs.Prelude.{codes}
+use Rattle.std.specs.Str.{IsAscii}
 use Rattle.lexical_grammar.proofs.Sound.{ascii-run}
-use Rattle.apollo_lexer.specs.declared.faults.LexFault.{LexFault}
-use Rattle.apollo_lexer.specs.declared.faults.LexFault.TheVariants.{UnexpectedCharacter, NumberSuffix, IntegerSuffix}
-use Rattle.apollo_lexer.specs.declared.faults.LexFault.TheVariants.{FractionalDigit, FloatSuffix, ExponentDigitOrSign}
-use Rattle.apollo_lexer.specs.declared.faults.LexFault.TheVariants.{ExponentDigit}
 use Rattle.lexical_grammar.specs.NumberStates.{live_len}
 use Rattle.lexical_grammar.specs.declared.NumberState.TheVariants.{Begin}
 use Rattle.apollo_lexer.specs.BadText.{bad_text_message, fault_behind}
 use Rattle.apollo_lexer.specs.Faults.{words, fault_message, IsFaultMessage}
+use Rattle.apollo_lexer.specs.declared.faults.LexFault.{LexFault}
+use Rattle.apollo_lexer.specs.declared.faults.LexFault.TheVariants.{UnexpectedCharacter, NumberSuffix, IntegerSuffix}
+use Rattle.apollo_lexer.specs.declared.faults.LexFault.TheVariants.{FractionalDigit, FloatSuffix, ExponentDigitOrSign}
+use Rattle.apollo_lexer.specs.declared.faults.LexFault.TheVariants.{ExponentDigit}
 
 -- what computes to ASCII is ASCII
 pub ascii-text : (xs : List ℕ) → list_all is_ascii xs ≡ true → IsAscii xs

@@ -2,18 +2,18 @@
 use Rattle.std.proofs.Common.{◌≡◌, ℕ, zero, suc, ◌+◌, ◌-◌, ◌<◌, ◌≤◌, Bool, true, false, cond, List, [], ◌∷◌, length}
 use Rattle.std.proofs.Common.{drop, take, Option, Some, None, refl, sym, ap, ◌∙◌, arith, eqb, eqb-true, inl, inr}
 use Rattle.std.proofs.Common.{length-append, length-drop, subst}
-use Rattle.std.specs.Prelude.{option_map, slice_index}
-use Rattle.std.specs.List.{prefix_len}
-use Rattle.std.proofs.lemmas.Bool.Decides.{nat_tests}
-use Rattle.lexical_grammar.specs.Characters.{is_plain_string_character, is_comment_character}
 use Rattle.std.proofs.lemmas.Bool.{false_from_ne_true, ne_eqb, or_parts, eqb-false, or_cases, both_ways, cases_Bool}
+use Rattle.std.proofs.lemmas.Bool.Decides.{nat_tests}
 use Rattle.std.proofs.lemmas.List.{drop-drop, drop_all, take_rest, get_or-drop}
 use Rattle.std.proofs.lemmas.List.Sums.{prefix_len_stops}
+use Rattle.std.specs.List.{prefix_len}
+use Rattle.std.specs.Prelude.{option_map, slice_index}
 use Rattle.memchr.specs.Find.{is_byte2, Nowhere, NoneBefore, Passes}
-use Rattle.lexical_grammar.specs.Strings.{begins, triple_quote, escaped_triple_quote}
-use Rattle.lexical_grammar.specs.Reads.{block_len, quoted_len, string_character_len, bad_escape_len, bad_string_len}
-use Rattle.apollo_lexer.specs.StringParts.{read_bad}
 use Rattle.lexical_grammar.proofs.StringSound.{begins-is}
+use Rattle.lexical_grammar.specs.Characters.{is_plain_string_character, is_comment_character}
+use Rattle.lexical_grammar.specs.Reads.{block_len, quoted_len, string_character_len, bad_escape_len, bad_string_len}
+use Rattle.lexical_grammar.specs.Strings.{begins, triple_quote, escaped_triple_quote}
+use Rattle.apollo_lexer.specs.StringParts.{read_bad}
 
 -- a length, longer by a number of bytes
 abbrev pub longer : ℕ → Option ℕ → Option ℕ

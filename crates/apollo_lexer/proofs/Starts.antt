@@ -4,19 +4,19 @@ use Rattle.std.proofs.Common.{option_map, is_some, true, false, cond, eqb, refl,
 use Rattle.std.proofs.lemmas.Bool.{cases_Bool, or_parts, both_ways}
 use Rattle.std.proofs.lemmas.Bool.Decides.{Decides-eqb}
 use Rattle.std.proofs.lemmas.Slice.Eq.{starts_is}
-use Rattle.std.specs.List.{prefix_len}
-use Rattle.std.specs.Int.{is_in_range}
 use Rattle.std.specs.Char.{is_ascii_alphanumeric}
-use Rattle.lexical_grammar.specs.declared.TokenKind.{TokenKind}
-use Rattle.lexical_grammar.specs.declared.TokenKind.TheVariants as token
+use Rattle.std.specs.Int.{is_in_range}
+use Rattle.std.specs.List.{prefix_len}
 use Rattle.lexical_grammar.specs.Characters.{is_name_start, is_name_continue, is_comment_character, is_digit}
 use Rattle.lexical_grammar.specs.Characters.{is_white_space, is_line_terminator}
-use Rattle.lexical_grammar.specs.Strings.{begins}
 use Rattle.lexical_grammar.specs.Reads.{blank_len, blanks_len, punctuator, number_at, string_at, token_at}
+use Rattle.lexical_grammar.specs.Strings.{begins}
+use Rattle.lexical_grammar.specs.declared.TokenKind.{TokenKind}
+use Rattle.lexical_grammar.specs.declared.TokenKind.TheVariants as token
+use Rattle.apollo_lexer.specs.Starts.{start_of, other_start}
 use Rattle.apollo_lexer.specs.declared.bytes.Start.{Start}
 use Rattle.apollo_lexer.specs.declared.bytes.Start.TheVariants.{Name, Number, Quote, NumberSign, Dot, Blank, Punctuator}
 use Rattle.apollo_lexer.specs.declared.bytes.Start.TheVariants.{Other}
-use Rattle.apollo_lexer.specs.Starts.{start_of, other_start}
 
 -- the token at the front
 abbrev pub token_from : Start → ℕ → List ℕ → Option (TokenKind × ℕ)

@@ -1,13 +1,13 @@
 -- What a lexer answers, one call of `next` after another.
+use Rattle.std.specs.Iterator.{YieldsFirstBy}
 use Rattle.std.specs.Prelude.{◌≡◌, ℕ, ◌+◌, ◌-◌, Bool, true, false, if◌then◌else◌, List, [], length, drop, Option, Some}
 use Rattle.std.specs.Prelude.{None, Result, Ok, Err}
-use Rattle.std.specs.Iterator.{YieldsFirstBy}
-use Rattle.lexical_grammar.specs.Cut.{Item}
 use Rattle.lexical_grammar.specs.Answers.{Answer, gives, limit_at, limited, is_given}
+use Rattle.lexical_grammar.specs.Cut.{Item}
 use Rattle.lexical_grammar.specs.Reads.{items_from}
-use Rattle.apollo_lexer.specs.declared.token.Token.{Token}
 use Rattle.apollo_lexer.specs.declared.lex_error.LexError.{LexError}
 use Rattle.apollo_lexer.specs.declared.lexer.Lexer.{Lexer}
+use Rattle.apollo_lexer.specs.declared.token.Token.{Token}
 
 abbrev pub error_answer : Bool → List ℕ → ℕ → Answer
 error_answer true text index = limit_at index

@@ -1,9 +1,9 @@
 -- Which fault the message for bad text names. The standard says nothing of messages: the original's are the measure.
 -- Where a bad string has several faults and an end, the last of them is named.
+use Rattle.std.specs.Char.Utf16.{is_high_surrogate}
+use Rattle.std.specs.List.{prefix_len}
 use Rattle.std.specs.Prelude.{Bool, ℕ, zero, suc, ◌+◌, ◌-◌, ◌==◌, ◌&&◌, ◌||◌, nat_le, nat_lt, if◌then◌else◌, List, []}
 use Rattle.std.specs.Prelude.{◌∷◌, take, drop, Option, Some, None}
-use Rattle.std.specs.List.{prefix_len}
-use Rattle.std.specs.Char.Utf16.{is_high_surrogate}
 use Rattle.lexical_grammar.specs.Characters.{is_digit, is_hex_digit, is_line_terminator}
 use Rattle.lexical_grammar.specs.NumberStates.{run, live_len}
 use Rattle.lexical_grammar.specs.Reads.{bad_escape_len, begins_fixed_escape, braced_digits_len, fixed_value}

@@ -1,8 +1,8 @@
 -- When two errors are equal, and what is hashed of one.
-use Rattle.std.specs.Prelude.{ℕ, List, ◌++◌, Bool, nat_eq}
-use Rattle.std.specs.Ordering.{on, eq_of_both}
 use Rattle.std.specs.Cmp.Lexicographic.{pointwise}
 use Rattle.std.specs.Hash as fed
+use Rattle.std.specs.Ordering.{on, eq_of_both}
+use Rattle.std.specs.Prelude.{ℕ, List, ◌++◌, Bool, nat_eq}
 use Rattle.apollo_lexer.specs.Diagnostics.{Subject, of_text, of_end, of_limit, Diagnostic, subject_text}
 
 -- a text, an end and a limit are three different things

@@ -1,8 +1,8 @@
 -- The errors that are made of a lexer's answers.
 use Rattle.std.specs.Prelude.{◌≡◌, ℕ, Bool, true, false, List, [], ◌∷◌, ⊤, codes}
 use Rattle.lexical_grammar.specs.Answers.{Answer, gives, limit_at}
-use Rattle.apollo_lexer.specs.Diagnostics.{Subject, of_text, of_limit, Diagnostic}
 use Rattle.apollo_lexer.specs.BadText.{bad_text_message}
+use Rattle.apollo_lexer.specs.Diagnostics.{Subject, of_text, of_limit, Diagnostic}
 
 abbrev pub limit_message : List ℕ
 limit_message = codes "token limit reached, aborting lexing"

@@ -1,6 +1,6 @@
 -- The printed forms of tokens, errors and trackers. Those with a text in them are stated where the text is ASCII.
-use Rattle.std.specs.Prelude.{ℕ, ◌+◌, List, ◌++◌, length, codes, decimal, Option, Some}
 use Rattle.std.specs.Fmt.{◌++?◌, debug_str}
+use Rattle.std.specs.Prelude.{ℕ, ◌+◌, List, ◌++◌, length, codes, decimal, Option, Some}
 use Rattle.lexical_grammar.specs.declared.TokenKind.{TokenKind}
 use Rattle.lexical_grammar.specs.declared.TokenKind.TheVariants.{Whitespace, Comment, Bang, Dollar, Amp, Spread, Comma}
 use Rattle.lexical_grammar.specs.declared.TokenKind.TheVariants.{Colon, Eq, At, LParen, RParen, LBracket, RBracket}

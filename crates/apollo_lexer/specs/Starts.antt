@@ -1,8 +1,8 @@
 -- What the first byte of an item says about it.
 use Rattle.std.specs.Prelude.{ℕ, Bool, ◌==◌, ◌||◌, if◌then◌else◌, Option, Some, None}
 use Rattle.lexical_grammar.specs.Characters.{is_name_start, is_digit, is_white_space, is_line_terminator}
-use Rattle.lexical_grammar.specs.declared.TokenKind.{TokenKind}
 use Rattle.lexical_grammar.specs.Reads.{punctuator}
+use Rattle.lexical_grammar.specs.declared.TokenKind.{TokenKind}
 use Rattle.apollo_lexer.specs.declared.bytes.Start.{Start}
 use Rattle.apollo_lexer.specs.declared.bytes.Start.TheVariants.{Name, Number, Quote, NumberSign, Dot, Blank, Punctuator}
 use Rattle.apollo_lexer.specs.declared.bytes.Start.TheVariants.{Other}

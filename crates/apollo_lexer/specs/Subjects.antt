@@ -2,11 +2,11 @@
 use Rattle.std.specs.Prelude.{◌≡◌, ℕ, ◌-◌, ◌≤◌, List, ◌++◌, take, drop, ⊤, string_bytes}
 use Rattle.std.specs.Str.{IsCharBoundary}
 use Rattle.apollo_lexer.specs.Diagnostics.{Subject, of_text, of_end, of_limit}
-use Rattle.apollo_lexer.specs.declared.error_data.MessageText.{MessageText}
-use Rattle.apollo_lexer.specs.declared.error_data.MessageText.TheVariants.{Static, Owned}
 use Rattle.apollo_lexer.specs.declared.error_data.ErrorData.{ErrorData}
 use Rattle.apollo_lexer.specs.declared.error_data.ErrorData.TheVariants.{Short, Long, Quoting, QuotingLong, Pair, Text}
 use Rattle.apollo_lexer.specs.declared.error_data.ErrorData.TheVariants.{Eof, LimitExceeded}
+use Rattle.apollo_lexer.specs.declared.error_data.MessageText.{MessageText}
+use Rattle.apollo_lexer.specs.declared.error_data.MessageText.TheVariants.{Static, Owned}
 
 abbrev pub words_text : {A : Type 0} → MessageText A → List ℕ
 words_text (Static text) = text.now

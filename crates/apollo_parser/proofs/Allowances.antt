@@ -2,17 +2,17 @@
 use Rattle.std.proofs.Common.{◌≡◌, ◌∙◌, ℕ, ◌+◌, ◌*◌, ◌≤◌, min, length, List, [], sym, ap, subst, arith}
 use Rattle.lexical_grammar.specs.Answers.{Answer, limited}
 use Rattle.lexical_grammar.specs.Reads.{items_of}
-use Rattle.apollo_lexer.proofs.Law.{limited-length}
+use Rattle.document_grammar.specs.Builds.{built_count}
 use Rattle.document_grammar.specs.declared.kind.SyntaxKind.{SyntaxKind}
 use Rattle.document_grammar.specs.declared.kind.SyntaxKind.TheVariants as kind
-use Rattle.document_grammar.specs.Builds.{built_count}
-use Rattle.parser_rules.specs.State.{State, fresh, begun, read_on, flush, closed, wrapped_from}
-use Rattle.parser_rules.specs.RuleLanguage.{Rule, holds}
-use Rattle.parser_rules.specs.Runs.{Runs}
+use Rattle.parser_rules.proofs.fragments.TypeRoots.{unopened-none}
+use Rattle.parser_rules.proofs.runs.Budget.{allowing, reads, allowed}
 use Rattle.parser_rules.specs.Fragments.{started, unopened, ClosesType, nullable, non_null, RunsTypeRoot, makes_list}
 use Rattle.parser_rules.specs.Fragments.{makes_name, makes_none}
-use Rattle.parser_rules.proofs.runs.Budget.{allowing, reads, allowed}
-use Rattle.parser_rules.proofs.fragments.TypeRoots.{unopened-none}
+use Rattle.parser_rules.specs.RuleLanguage.{Rule, holds}
+use Rattle.parser_rules.specs.Runs.{Runs}
+use Rattle.parser_rules.specs.State.{State, fresh, begun, read_on, flush, closed, wrapped_from}
+use Rattle.apollo_lexer.proofs.Law.{limited-length}
 use Rattle.parser_state.specs.Reading.{unread, rooted}
 
 -- the same state, where none may be cut

@@ -2,37 +2,37 @@
 use Rattle.std.proofs.Common.{◌≡◌, ℕ, zero, suc, Bool, true, false, ◌&&◌, ◌||◌, if◌then◌else◌, eqb, List, [], ◌∷◌, ◌++◌}
 use Rattle.std.proofs.Common.{length, map, arith, Option, Some, None, refl, sym, ◌∙◌, ap, ap₂, subst, inl, inr}
 use Rattle.std.proofs.Common.{true≢false}
-use Rattle.std.specs.Prelude.{codes, is_some, IsAscii, ⊤}
-use Rattle.std.specs.List.{AllZip, Any, All, list_all, list_any}
-use Rattle.std.specs.Char.{is_ascii}
-use Rattle.std.proofs.lemmas.Str.{IsAscii-append, IsAscii-take, IsAscii-drop}
-use Rattle.std.proofs.lemmas.List.Elements.{All-nil, All-cons}
 use Rattle.std.proofs.Math.Seq.{take-append_seam, drop-append_seam}
+use Rattle.std.proofs.lemmas.Bool.{eqb-true, or_left, or_right}
+use Rattle.std.proofs.lemmas.List.Elements.{All-nil, All-cons}
+use Rattle.std.proofs.lemmas.Str.{IsAscii-append, IsAscii-take, IsAscii-drop}
+use Rattle.std.specs.Char.{is_ascii}
+use Rattle.std.specs.List.{AllZip, Any, All, list_all, list_any}
+use Rattle.std.specs.Prelude.{codes, is_some, IsAscii, ⊤}
+use Rattle.lexical_grammar.proofs.Limited.{limited-end}
 use Rattle.lexical_grammar.specs.Answers.{Answer, gives, limit_at, limited, is_end}
 use Rattle.lexical_grammar.specs.Cut.{Item, texts}
-use Rattle.lexical_grammar.proofs.Limited.{limited-end}
-use Rattle.document_grammar.specs.Booleans.{◌and◌}
 use Rattle.document_grammar.proofs.Booleans.{either}
-use Rattle.std.proofs.lemmas.Bool.{eqb-true, or_left, or_right}
-use Rattle.apollo_lexer.specs.Diagnostics.{Subject, Diagnostic, of_text, of_end, of_limit}
-use Rattle.apollo_lexer.specs.LexErrors.{limit_message}
-use Rattle.apollo_lexer.proofs.Messages.{ascii-text, fault-ascii, begins_fault, is-fault-message, no-fault-message}
+use Rattle.document_grammar.specs.Booleans.{◌and◌}
 use Rattle.grammar_machine.specs.Machine.{text_eq}
-use Rattle.parser_rules.specs.declared.message.Message.{Message}
-use Rattle.parser_rules.specs.declared.message.Message.TheVariants as message
-use Rattle.parser_rules.specs.Messages.{Text, Found, at_text, at_end, at_limit, is_limit, description, names_found}
-use Rattle.parser_rules.specs.Messages.{found_text, message_text, recursion_limit_message}
-use Rattle.parser_rules.specs.State.{Report, Lexeme, bad_report, token_limit_report, recursion_limit_report}
-use Rattle.parser_rules.specs.State.{fault_report, found_at, lexeme}
-use Rattle.parser_rules.specs.Reports.{Reported, no_more, bad_text, token_limit, fault, recursion_limit, passed}
-use Rattle.parser_rules.specs.Reports.{is_recursion_limit}
 use Rattle.parser_rules.proofs.reports.AtTheLimit.{found-other}
 use Rattle.parser_rules.proofs.runs.TreesWithSources.{Has, Limited}
-use Rattle.apollo_parser.specs.Parsed.{IsLimit, IsTokenLimit, IsRecursionLimit, IsLimitMessage, IsLimitWorded}
-use Rattle.apollo_parser.specs.Parsed.{ErrorsAlong}
-use Rattle.apollo_parser.specs.Parsed as parsed
+use Rattle.parser_rules.specs.Messages.{Text, Found, at_text, at_end, at_limit, is_limit, description, names_found}
+use Rattle.parser_rules.specs.Messages.{found_text, message_text, recursion_limit_message}
+use Rattle.parser_rules.specs.Reports.{Reported, no_more, bad_text, token_limit, fault, recursion_limit, passed}
+use Rattle.parser_rules.specs.Reports.{is_recursion_limit}
+use Rattle.parser_rules.specs.State.{Report, Lexeme, bad_report, token_limit_report, recursion_limit_report}
+use Rattle.parser_rules.specs.State.{fault_report, found_at, lexeme}
+use Rattle.parser_rules.specs.declared.message.Message.{Message}
+use Rattle.parser_rules.specs.declared.message.Message.TheVariants as message
+use Rattle.apollo_lexer.proofs.Messages.{ascii-text, fault-ascii, begins_fault, is-fault-message, no-fault-message}
+use Rattle.apollo_lexer.specs.Diagnostics.{Subject, Diagnostic, of_text, of_end, of_limit}
+use Rattle.apollo_lexer.specs.LexErrors.{limit_message}
 use Rattle.parser_state.specs.Errors.{IsWorded, IsErrorOf}
 use Rattle.parser_state.specs.Found.{found_of}
+use Rattle.apollo_parser.specs.Parsed as parsed
+use Rattle.apollo_parser.specs.Parsed.{IsLimit, IsTokenLimit, IsRecursionLimit, IsLimitMessage, IsLimitWorded}
+use Rattle.apollo_parser.specs.Parsed.{ErrorsAlong}
 
 pub same-indices : (rs : List Report) (ds : List Diagnostic) → AllZip IsErrorOf rs ds
     → map (λ (d : Diagnostic). d.index) ds ≡ map (λ (r : Report). r.index) rs

@@ -8,16 +8,16 @@ use Rattle.document_grammar.specs.FirstError.{NotLate, NotEarly, NotEarlyLimit, 
 use Rattle.document_grammar.specs.Forests.{Forest}
 use Rattle.document_grammar.specs.Leaves.{Leaf, leaves, OneLeafAnItem}
 use Rattle.document_grammar.specs.Numbered.{tree_of}
-use Rattle.apollo_lexer.specs.Diagnostics.{Diagnostic, of_limit}
-use Rattle.parser_rules.specs.State.{Report}
 use Rattle.parser_rules.proofs.soundness.EndedNodes.{ended-nodes}
 use Rattle.parser_rules.proofs.soundness.FirstErrors.{not-late as report-not-late, not-early as report-not-early}
 use Rattle.parser_rules.proofs.soundness.FirstErrors.{not-early-limit as report-not-early-limit}
 use Rattle.parser_rules.proofs.soundness.OverTexts.{RightFirst}
+use Rattle.parser_rules.specs.State.{Report}
+use Rattle.apollo_lexer.specs.Diagnostics.{Diagnostic, of_limit}
 use Rattle.parser_state.specs.Errors.{IsErrorOf}
 use Rattle.parser_state.specs.Found.{found_of}
-use Rattle.apollo_parser.specs.Parsed.{IsRecursionLimit, IsTokenLimit, OfFirst}
 use Rattle.apollo_parser.proofs.Errors.{no-recursion, subject-limit, token-limit-error}
+use Rattle.apollo_parser.specs.Parsed.{IsRecursionLimit, IsTokenLimit, OfFirst}
 
 module _ (sort : Sort) {source : List ℕ} {items : List Item} (max_depth max_items : ℕ) (f : Forest)
     (cut : Cut source items) (rs : List Report)

@@ -1,10 +1,10 @@
 -- A parse is a function of the text and of both limits: what the rules make of them, they make alone.
 use Rattle.std.proofs.Common.{◌≡◌, ℕ, Option, Some, None, List, [], ◌∷◌, refl, sym, ap, ap₂, ◌∙◌, subst}
 use Rattle.std.specs.List.{AllZip}
-use Rattle.apollo_lexer.specs.Diagnostics.{Subject, Diagnostic, of_text, of_end, of_limit}
+use Rattle.parser_rules.proofs.runs.OneResult.{one-result}
 use Rattle.parser_rules.specs.Messages.{Text, Found, at_text, at_end, at_limit}
 use Rattle.parser_rules.specs.State.{State, Report, finished}
-use Rattle.parser_rules.proofs.runs.OneResult.{one-result}
+use Rattle.apollo_lexer.specs.Diagnostics.{Subject, Diagnostic, of_text, of_end, of_limit}
 use Rattle.parser_state.specs.Errors.{IsWorded, IsErrorOf}
 use Rattle.parser_state.specs.Found.{found_of}
 use Rattle.apollo_parser.specs.ByRules.{ByRules}

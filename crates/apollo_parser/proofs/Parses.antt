@@ -1,70 +1,70 @@
 -- What follows from a run of the document's rule over the items of a text, and so what a parse promises.
-use Rattle.std.specs.Str.{IsAscii}
-use Rattle.std.specs.List.{Any, All, list_all}
-use Rattle.document_grammar.specs.Tree.{Tree}
-use Rattle.document_grammar.specs.Placed.{Placed, bare}
-use Rattle.parser_rules.specs.Open.{IsRoot}
-use Rattle.parser_rules.proofs.reports.NoReport.{EndsWell, current_tokens, kind_tokens, end-kind}
-use Rattle.parser_rules.proofs.soundness.OverTexts.{RightFirst, accepts-text, accepts-tree, first-report-right}
-use Rattle.parser_rules.proofs.recovery.Popped.{document-recovers}
-use Rattle.parser_rules.proofs.recovery.RowSymbols.{document-rowed}
-use Rattle.parser_rules.proofs.recovery.LeftOver.{all-rowed, left-over as run-left-over}
-use Rattle.parser_rules.proofs.recovery.LaterChildren.{goes-on as run-goes-on}
-use Rattle.parser_rules.proofs.recovery.IgnoredPlaces.{placed as run-placed}
 use Rattle.std.proofs.Common.{inl, inr, ◌≡◌, ◌≢◌, ℕ, Bool, ◌+◌, ◌^◌, ◌*◌, ◌<◌, ◌≤◌, append-nil, arith, min, true, false}
 use Rattle.std.proofs.Common.{List, [], length, map, take, drop, ◌++◌, Option, Some, None, refl, sym, ap, ◌∙◌, subst}
 use Rattle.std.proofs.Common.{◌∷◌}
+use Rattle.std.proofs.Math.Seq.{take-append_seam}
+use Rattle.std.proofs.lemmas.List.{take-append-drop}
+use Rattle.std.specs.List.{Any, All, list_all}
 use Rattle.std.specs.List.Sorted.{IsNonDecreasing}
+use Rattle.std.specs.Str.{IsAscii}
+use Rattle.lexical_grammar.proofs.Cuts.{texts-append}
+use Rattle.lexical_grammar.proofs.Limited.{limited-text, limited-answers, given-within}
+use Rattle.lexical_grammar.specs.Answers.{Answer, limited, usize_max, is_given, is_end}
 use Rattle.lexical_grammar.specs.Cut.{Cut, texts, Item}
 use Rattle.lexical_grammar.specs.Reads.{items_of}
-use Rattle.lexical_grammar.specs.Answers.{Answer, limited, usize_max, is_given, is_end}
-use Rattle.lexical_grammar.proofs.Limited.{limited-text, limited-answers, given-within}
-use Rattle.lexical_grammar.proofs.Cuts.{texts-append}
-use Rattle.std.proofs.lemmas.List.{take-append-drop}
-use Rattle.std.proofs.Math.Seq.{take-append_seam}
-use Rattle.document_grammar.specs.declared.kind.SyntaxKind.TheVariants as kind
-use Rattle.document_grammar.specs.Kinds.{DOCUMENT}
-use Rattle.document_grammar.specs.Recovery.{Rowed, children_of, LeftOver, GoesOn, NoneBeyond}
-use Rattle.document_grammar.specs.Derivation.{document, nest, Yield}
-use Rattle.document_grammar.specs.Forests.{Forest, none, node, text}
-use Rattle.document_grammar.specs.Numbered.{tree_of}
-use Rattle.document_grammar.specs.Sentence.{Sentence, FirstSentence, Within, tokens_of, OnlyDerivation}
-use Rattle.document_grammar.specs.FirstError.{NotLate, NotEarly, NotEarlyLimit, EndedNodesFit}
 use Rattle.document_grammar.proofs.Texts.{one-cut, first-sentence}
+use Rattle.document_grammar.specs.Derivation.{document, nest, Yield}
+use Rattle.document_grammar.specs.FirstError.{NotLate, NotEarly, NotEarlyLimit, EndedNodesFit}
+use Rattle.document_grammar.specs.Forests as built
+use Rattle.document_grammar.specs.Forests.{Forest, none, node, text}
+use Rattle.document_grammar.specs.Kinds.{DOCUMENT}
+use Rattle.document_grammar.specs.Leaves.{leaves, OneLeafAnItem}
+use Rattle.document_grammar.specs.Numbered.{tree_of}
+use Rattle.document_grammar.specs.Placed.{Placed, bare}
+use Rattle.document_grammar.specs.Recovery.{Rowed, children_of, LeftOver, GoesOn, NoneBeyond}
+use Rattle.document_grammar.specs.Sentence.{Sentence, FirstSentence, Within, tokens_of, OnlyDerivation}
+use Rattle.document_grammar.specs.Tree.{Tree}
+use Rattle.document_grammar.specs.declared.kind.SyntaxKind.TheVariants as kind
 use Rattle.grammar_machine.proofs.SentenceTheorems.{one-derivation}
+use Rattle.parser_rules.proofs.leaves.OneLeaf.{document-leaves, document-over, document-read, leaves-text}
+use Rattle.parser_rules.proofs.nesting.LevelTokens.{levels-within}
+use Rattle.parser_rules.proofs.nesting.Nesting.{nesting as run-nesting}
+use Rattle.parser_rules.proofs.recovery.IgnoredPlaces.{placed as run-placed}
+use Rattle.parser_rules.proofs.recovery.LaterChildren.{goes-on as run-goes-on}
+use Rattle.parser_rules.proofs.recovery.LeftOver.{all-rowed, left-over as run-left-over}
+use Rattle.parser_rules.proofs.recovery.Popped.{document-recovers}
+use Rattle.parser_rules.proofs.recovery.RowSymbols.{document-rowed}
+use Rattle.parser_rules.proofs.reports.AlongItems.{reported}
+use Rattle.parser_rules.proofs.reports.AtTheLimit.{asked-past}
+use Rattle.parser_rules.proofs.reports.Endings.{ends-well}
+use Rattle.parser_rules.proofs.reports.InOrder.{in-order as run-in-order}
+use Rattle.parser_rules.proofs.reports.NoReport.{EndsWell, current_tokens, kind_tokens, end-kind}
+use Rattle.parser_rules.proofs.reports.PastTheLimit.{limit-reported}
+use Rattle.parser_rules.proofs.runs.Frame.{root-kept, root-stays, begun-nesting, begun-asked}
+use Rattle.parser_rules.proofs.runs.Steps.{along}
+use Rattle.parser_rules.proofs.runs.TreesWithSources.{reports-along, Has, Limited, limited-later, taken-or-limited}
+use Rattle.parser_rules.proofs.sizes.Sizes.{Sized, document-sized, finished-count}
+use Rattle.parser_rules.proofs.soundness.OverTexts.{RightFirst, accepts-text, accepts-tree, first-report-right}
+use Rattle.parser_rules.proofs.soundness.Soundness.{sound as run-sound, clean}
+use Rattle.parser_rules.specs.Nodes.{Document}
+use Rattle.parser_rules.specs.Open.{IsRoot}
+use Rattle.parser_rules.specs.Reports.{Reported, no_more, bad_text, token_limit, fault, recursion_limit, passed}
+use Rattle.parser_rules.specs.RuleLanguage.{Call}
+use Rattle.parser_rules.specs.Runs.{Runs}
+use Rattle.parser_rules.specs.State.{State, Lexeme, Report, fault_report, is_over, begun, finished, add_all}
+use Rattle.parser_rules.specs.declared.message.Message.{Message}
 use Rattle.apollo_lexer.proofs.Law.{limited-length, few-from}
-use Rattle.apollo_parser.specs.ByRules.{ByRules}
-use Rattle.apollo_parser.specs.Promise.{Promise}
-use Rattle.apollo_parser.specs.Parsed.{Parsed, ErrorsOf, IsRecursionLimit, IsLimitWorded, IsTokenLimit, OfFirst}
-use Rattle.apollo_parser.specs.Parsed.{HasError, IsAbout, Recovers, root_children, IsLimit}
 use Rattle.apollo_lexer.specs.Diagnostics.{Diagnostic, of_text, of_limit}
+use Rattle.apollo_tree.proofs.Places.{length-order}
+use Rattle.apollo_tree.specs.Order.{order}
 use Rattle.apollo_parser.proofs.Errors.{same-indices, same-length, no-reports, no-errors, any-recursion, ascii-messages}
 use Rattle.apollo_parser.proofs.Errors.{limited-ascii, limit-worded, any-limit, any-said, fault-text, errors-along}
 use Rattle.apollo_parser.proofs.FirstOnes as first
 use Rattle.apollo_parser.proofs.Roots.{finished-node}
-use Rattle.parser_rules.specs.State.{State, Lexeme, Report, fault_report, is_over, begun, finished, add_all}
-use Rattle.parser_rules.specs.Nodes.{Document}
-use Rattle.parser_rules.specs.RuleLanguage.{Call}
-use Rattle.parser_rules.specs.Runs.{Runs}
-use Rattle.document_grammar.specs.Leaves.{leaves, OneLeafAnItem}
-use Rattle.parser_rules.specs.Reports.{Reported, no_more, bad_text, token_limit, fault, recursion_limit, passed}
-use Rattle.parser_rules.proofs.reports.AtTheLimit.{asked-past}
-use Rattle.parser_rules.proofs.reports.PastTheLimit.{limit-reported}
-use Rattle.parser_rules.proofs.reports.Endings.{ends-well}
-use Rattle.parser_rules.proofs.runs.Frame.{root-kept, root-stays, begun-nesting, begun-asked}
-use Rattle.parser_rules.proofs.leaves.OneLeaf.{document-leaves, document-over, document-read, leaves-text}
-use Rattle.parser_rules.proofs.reports.InOrder.{in-order as run-in-order}
-use Rattle.parser_rules.proofs.nesting.Nesting.{nesting as run-nesting}
-use Rattle.parser_rules.proofs.nesting.LevelTokens.{levels-within}
-use Rattle.parser_rules.proofs.sizes.Sizes.{Sized, document-sized, finished-count}
-use Rattle.apollo_tree.specs.Order.{order}
-use Rattle.apollo_tree.proofs.Places.{length-order}
-use Rattle.parser_rules.proofs.soundness.Soundness.{sound as run-sound, clean}
-use Rattle.parser_rules.proofs.reports.AlongItems.{reported}
-use Rattle.document_grammar.specs.Forests as built
-use Rattle.parser_rules.proofs.runs.TreesWithSources.{reports-along, Has, Limited, limited-later, taken-or-limited}
-use Rattle.parser_rules.proofs.runs.Steps.{along}
-use Rattle.parser_rules.specs.declared.message.Message.{Message}
+use Rattle.apollo_parser.specs.ByRules.{ByRules}
+use Rattle.apollo_parser.specs.Parsed.{Parsed, ErrorsOf, IsRecursionLimit, IsLimitWorded, IsTokenLimit, OfFirst}
+use Rattle.apollo_parser.specs.Parsed.{HasError, IsAbout, Recovers, root_children, IsLimit}
+use Rattle.apollo_parser.specs.Promise.{Promise}
 
 -- the answers to a parser of the text, where k items are allowed
 abbrev pub answers : ℕ → List ℕ → List Answer

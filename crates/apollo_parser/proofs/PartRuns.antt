@@ -4,22 +4,22 @@ use Rattle.std.specs.List.{AllZip}
 use Rattle.std.specs.Str.{IsUtf8}
 use Rattle.lexical_grammar.specs.Cut.{Cut}
 use Rattle.lexical_grammar.specs.Reads.{items_of}
-use Rattle.document_grammar.specs.declared.kind.SyntaxKind.{SyntaxKind}
 use Rattle.document_grammar.specs.Forests.{Forest, text, count}
-use Rattle.parser_state.specs.Errors.{IsErrorOf}
-use Rattle.parser_rules.specs.State.{State, finished}
-use Rattle.parser_rules.specs.Open.{is_free, IsRoot}
-use Rattle.parser_rules.specs.Fragments.{started, left_out}
-use Rattle.parser_rules.specs.RuleLanguage.{Rule}
-use Rattle.parser_rules.specs.Runs.{Runs}
+use Rattle.document_grammar.specs.declared.kind.SyntaxKind.{SyntaxKind}
 use Rattle.parser_rules.proofs.fragments.RootChecks.{RootRule}
 use Rattle.parser_rules.proofs.fragments.RootRuns.{is-root}
+use Rattle.parser_rules.specs.Fragments.{started, left_out}
+use Rattle.parser_rules.specs.Open.{is_free, IsRoot}
+use Rattle.parser_rules.specs.RuleLanguage.{Rule}
+use Rattle.parser_rules.specs.Runs.{Runs}
+use Rattle.parser_rules.specs.State.{State, finished}
+use Rattle.parser_state.specs.Errors.{IsErrorOf}
+use Rattle.apollo_parser.proofs.Allowances.{none}
+use Rattle.apollo_parser.proofs.Parses.{answers}
+use Rattle.apollo_parser.proofs.RootParses.{root-is, root-begins}
 use Rattle.apollo_parser.specs.ByRules.{ByRootRule}
 use Rattle.apollo_parser.specs.Parsed.{Parsed}
 use Rattle.apollo_parser.specs.Roots.{root_kind}
-use Rattle.apollo_parser.proofs.RootParses.{root-is, root-begins}
-use Rattle.apollo_parser.proofs.Parses.{answers}
-use Rattle.apollo_parser.proofs.Allowances.{none}
 
 module _ (j : SyntaxKind) {q : Rule} (k r : ℕ) (source : List ℕ) {last end : State}
     (run : Runs q (started (answers k source) r j) (none last)) (left : end ≡ left_out last) where

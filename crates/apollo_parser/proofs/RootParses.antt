@@ -2,60 +2,60 @@
 -- promises.
 use Rattle.std.proofs.Common.{◌≡◌, ◌≢◌, ℕ, ◌+◌, ◌*◌, ◌^◌, ◌<◌, ◌≤◌, arith, min, None, List, [], ◌∷◌, ◌++◌, length, map}
 use Rattle.std.proofs.Common.{take, drop, refl, sym, ap, ◌∙◌, subst, append_assoc, append-nil}
-use Rattle.std.specs.Str.{IsAscii, IsUtf8}
+use Rattle.std.proofs.Math.Seq.{take-append_seam}
+use Rattle.std.proofs.lemmas.List.{take-append-drop}
 use Rattle.std.specs.List.{Any, All}
 use Rattle.std.specs.List.Sorted.{IsNonDecreasing}
-use Rattle.std.proofs.lemmas.List.{take-append-drop}
-use Rattle.std.proofs.Math.Seq.{take-append_seam}
+use Rattle.std.specs.Str.{IsAscii, IsUtf8}
+use Rattle.lexical_grammar.proofs.Cuts.{texts-append}
+use Rattle.lexical_grammar.proofs.Limited.{limited-text}
+use Rattle.lexical_grammar.specs.Answers.{Answer, gives, limit_at, answer_text, answers_text}
 use Rattle.lexical_grammar.specs.Cut.{Cut, texts}
 use Rattle.lexical_grammar.specs.Reads.{items_of}
-use Rattle.lexical_grammar.specs.Answers.{Answer, gives, limit_at, answer_text, answers_text}
-use Rattle.lexical_grammar.proofs.Limited.{limited-text}
-use Rattle.lexical_grammar.proofs.Cuts.{texts-append}
-use Rattle.document_grammar.specs.declared.kind.SyntaxKind.{SyntaxKind}
 use Rattle.document_grammar.specs.Derivation.{Sort, nest}
 use Rattle.document_grammar.specs.FirstError.{NotLate, NotEarly, NotEarlyLimit, EndedNodesFit}
+use Rattle.document_grammar.specs.Forests.{Forest, none, node, text, count}
+use Rattle.document_grammar.specs.Leaves.{Leaf, leaves, OneLeafAnItem}
+use Rattle.document_grammar.specs.Numbered.{tree_of}
 use Rattle.document_grammar.specs.Numbers.{number}
-use Rattle.document_grammar.specs.Recovery.{Rowed}
 use Rattle.document_grammar.specs.Placed.{bare}
+use Rattle.document_grammar.specs.Recovery.{Rowed}
 use Rattle.document_grammar.specs.Sentence.{Sentence, Within}
 use Rattle.document_grammar.specs.Tree.{Tree}
-use Rattle.document_grammar.specs.Forests.{Forest, none, node, text, count}
-use Rattle.document_grammar.specs.Numbered.{tree_of}
-use Rattle.document_grammar.specs.Leaves.{Leaf, leaves, OneLeafAnItem}
-use Rattle.apollo_lexer.specs.Diagnostics.{of_limit}
-use Rattle.apollo_lexer.specs.declared.limit.LimitTracker.{LimitTracker}
-use Rattle.apollo_lexer.proofs.Law.{limited-length}
-use Rattle.parser_rules.specs.State.{State, Report, finished}
-use Rattle.parser_rules.specs.Fragments.{started, left_out}
-use Rattle.parser_rules.specs.RuleLanguage.{Rule}
-use Rattle.parser_rules.specs.Runs.{Runs}
-use Rattle.parser_rules.proofs.reports.Endings.{ends-well}
-use Rattle.parser_rules.proofs.reports.PastTheLimit.{root-limited}
+use Rattle.document_grammar.specs.declared.kind.SyntaxKind.{SyntaxKind}
+use Rattle.parser_rules.proofs.fragments.OneFront.{OneFront, one-front as run-front}
+use Rattle.parser_rules.proofs.fragments.PartTexts.{IsSoundPart}
+use Rattle.parser_rules.proofs.fragments.RootChecks.{RootRule}
+use Rattle.parser_rules.proofs.fragments.RootRuns.{root-above, levels-left, all-asked, limit-passed, ordered-front}
+use Rattle.parser_rules.proofs.leaves.AllAnswers.{leaves-go-on}
 use Rattle.parser_rules.proofs.leaves.OneLeaf as run_leaves
 use Rattle.parser_rules.proofs.leaves.OneLeaf.{root-leaves, joined, text-leaves}
-use Rattle.parser_rules.proofs.leaves.AllAnswers.{leaves-go-on}
+use Rattle.parser_rules.proofs.nesting.LevelTokens.{root-levels-within}
 use Rattle.parser_rules.proofs.nesting.Nesting.{root-nesting}
 use Rattle.parser_rules.proofs.recovery.LeftOver.{all-rowed}
 use Rattle.parser_rules.proofs.recovery.RowSymbols.{root-rowed}
-use Rattle.parser_rules.proofs.soundness.OverTexts.{RightFirst}
-use Rattle.parser_rules.proofs.nesting.LevelTokens.{root-levels-within}
-use Rattle.parser_rules.proofs.fragments.RootChecks.{RootRule}
-use Rattle.parser_rules.proofs.fragments.PartTexts.{IsSoundPart}
-use Rattle.parser_rules.proofs.fragments.RootRuns.{root-above, levels-left, all-asked, limit-passed, ordered-front}
-use Rattle.parser_rules.proofs.fragments.OneFront.{OneFront, one-front as run-front}
+use Rattle.parser_rules.proofs.reports.Endings.{ends-well}
+use Rattle.parser_rules.proofs.reports.PastTheLimit.{root-limited}
 use Rattle.parser_rules.proofs.sizes.Sizes.{Sized, finished-count}
-use Rattle.apollo_tree.specs.Order.{order}
+use Rattle.parser_rules.proofs.soundness.OverTexts.{RightFirst}
+use Rattle.parser_rules.specs.Fragments.{started, left_out}
+use Rattle.parser_rules.specs.RuleLanguage.{Rule}
+use Rattle.parser_rules.specs.Runs.{Runs}
+use Rattle.parser_rules.specs.State.{State, Report, finished}
+use Rattle.apollo_lexer.proofs.Law.{limited-length}
+use Rattle.apollo_lexer.specs.Diagnostics.{of_limit}
+use Rattle.apollo_lexer.specs.declared.limit.LimitTracker.{LimitTracker}
 use Rattle.apollo_tree.proofs.Places.{length-order}
-use Rattle.apollo_parser.specs.ByRules.{ByRootRule}
-use Rattle.apollo_parser.specs.Promise.{PartPromise}
-use Rattle.apollo_parser.specs.Parsed.{Parsed, IsLimit, IsTokenLimit, IsRecursionLimit, IsLimitWorded, OfFirst}
-use Rattle.apollo_parser.specs.Parts.{FirstItems}
+use Rattle.apollo_tree.specs.Order.{order}
 use Rattle.apollo_parser.proofs.Errors.{AllTexts, no-reports, no-errors, same-indices, same-length, any-recursion}
 use Rattle.apollo_parser.proofs.Errors.{ascii-messages, limited-ascii, limit-worded, any-limit, errors-along}
 use Rattle.apollo_parser.proofs.FirstOnes as first
-use Rattle.apollo_parser.proofs.Roots.{finished-node}
 use Rattle.apollo_parser.proofs.Parses.{answers, below-cap, few-answers}
+use Rattle.apollo_parser.proofs.Roots.{finished-node}
+use Rattle.apollo_parser.specs.ByRules.{ByRootRule}
+use Rattle.apollo_parser.specs.Parsed.{Parsed, IsLimit, IsTokenLimit, IsRecursionLimit, IsLimitWorded, OfFirst}
+use Rattle.apollo_parser.specs.Parts.{FirstItems}
+use Rattle.apollo_parser.specs.Promise.{PartPromise}
 
 text-append : (xs ys : List Answer) → answers_text (xs ++ ys) ≡ answers_text xs ++ answers_text ys
 text-append [] ys = refl

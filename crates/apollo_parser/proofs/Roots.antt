@@ -1,12 +1,12 @@
 -- The root of the finished tree.
 use Rattle.std.proofs.Common.{◌≡◌, ◌∙◌, sym, ap, [], ◌∷◌, Bool, true, Option, Some, None, refl}
 use Rattle.std.specs.Option.{IsSome}
-use Rattle.apollo_cst_core.specs.Cast.{CastsTo}
-use Rattle.document_grammar.specs.declared.kind.SyntaxKind.{SyntaxKind}
-use Rattle.document_grammar.specs.Forests.{none, node}
 use Rattle.document_grammar.specs.Builds.{close}
-use Rattle.parser_rules.specs.State.{State, add_all, finished}
+use Rattle.document_grammar.specs.Forests.{none, node}
+use Rattle.document_grammar.specs.declared.kind.SyntaxKind.{SyntaxKind}
 use Rattle.parser_rules.proofs.runs.Frame.{add_all-above}
+use Rattle.parser_rules.specs.State.{State, add_all, finished}
+use Rattle.apollo_cst_core.specs.Cast.{CastsTo}
 
 -- the finished tree is one node, of the kind of the node that was open first
 pub finished-node : (s : State) (k : SyntaxKind) → s.tree.above ≡ record { before = none; kind = k } ∷ []

@@ -1,25 +1,25 @@
 -- The root of a type that is parsed by itself, by the first token of the text.
 use Rattle.std.proofs.Common.{◌≡◌, ℕ, true, ◌||◌, List, Option, Some, None, refl, sym, ap, ◌∙◌, subst, true≢false}
+use Rattle.lexical_grammar.specs.Answers.{Answer}
 use Rattle.lexical_grammar.specs.declared.TokenKind.{TokenKind}
 use Rattle.lexical_grammar.specs.declared.TokenKind.TheVariants as token
-use Rattle.lexical_grammar.specs.Answers.{Answer}
-use Rattle.document_grammar.specs.declared.kind.SyntaxKind.{SyntaxKind}
-use Rattle.document_grammar.specs.declared.kind.SyntaxKind.TheVariants as kind
 use Rattle.document_grammar.specs.Builds.{nothing}
 use Rattle.document_grammar.specs.Choices.{Types}
 use Rattle.document_grammar.specs.Numbers.{is_kind}
-use Rattle.apollo_cst_core.specs.Cast.{one_of}
-use Rattle.parser_rules.specs.State.{State, Lexeme, same_kind, is_at, flush, fresh}
+use Rattle.document_grammar.specs.declared.kind.SyntaxKind.{SyntaxKind}
+use Rattle.document_grammar.specs.declared.kind.SyntaxKind.TheVariants as kind
+use Rattle.parser_rules.proofs.runs.Reading.{Reading, stops, cuts, bad_text, waits, shows, reading}
+use Rattle.parser_rules.specs.Fragments.{unopened, IsTypeRoot, a_list, a_name, not_null, no_type}
 use Rattle.parser_rules.specs.RuleLanguage.{Rule, fits, holds}
 use Rattle.parser_rules.specs.Rules.{type_start}
-use Rattle.parser_rules.specs.Fragments.{unopened, IsTypeRoot, a_list, a_name, not_null, no_type}
-use Rattle.parser_rules.proofs.runs.Reading.{Reading, stops, cuts, bad_text, waits, shows, reading}
+use Rattle.parser_rules.specs.State.{State, Lexeme, same_kind, is_at, flush, fresh}
+use Rattle.apollo_cst_core.specs.Cast.{one_of}
+use Rattle.apollo_parser.proofs.Parses.{answers}
+use Rattle.apollo_parser.proofs.RootParses.{one-root}
 use Rattle.apollo_parser.specs.ByRules.{ByTypeRule}
 use Rattle.apollo_parser.specs.Parsed.{Parsed}
 use Rattle.apollo_parser.specs.Parts.{first_kind, starts_type, IsTypeKind, of_name, of_bracket, with_bang, no_start}
 use Rattle.apollo_parser.specs.Parts.{OneType}
-use Rattle.apollo_parser.proofs.RootParses.{one-root}
-use Rattle.apollo_parser.proofs.Parses.{answers}
 
 -- ---- the first token
 

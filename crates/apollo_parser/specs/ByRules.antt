@@ -1,21 +1,21 @@
 -- What the tree of a parse comes from: the parser's own rules. The promises are theorems on such runs; only the law
 -- `one_parse` needs to know that there is one.
-use Rattle.std.specs.Prelude.{◌≡◌, ◌≤◌, ◌<◌, ◌^◌, ℕ, List, length}
 use Rattle.std.specs.List.{AllZip}
+use Rattle.std.specs.Prelude.{◌≡◌, ◌≤◌, ◌<◌, ◌^◌, ℕ, List, length}
 use Rattle.std.specs.Str.{IsUtf8}
 use Rattle.lexical_grammar.specs.Answers.{limited}
 use Rattle.lexical_grammar.specs.Cut.{Cut}
 use Rattle.lexical_grammar.specs.Reads.{items_of}
+use Rattle.document_grammar.specs.Forests.{count}
 use Rattle.document_grammar.specs.declared.kind.SyntaxKind.{SyntaxKind}
 use Rattle.document_grammar.specs.declared.kind.SyntaxKind.TheVariants as kind
-use Rattle.document_grammar.specs.Forests.{count}
-use Rattle.parser_rules.specs.State.{State, begun, finished}
+use Rattle.parser_rules.specs.Fragments.{started, unopened, left_out, IsTypeRoot, RunsTypeRoot}
 use Rattle.parser_rules.specs.Nodes.{Document}
 use Rattle.parser_rules.specs.RuleLanguage.{Rule, Call}
 use Rattle.parser_rules.specs.Runs.{Runs}
-use Rattle.parser_rules.specs.Fragments.{started, unopened, left_out, IsTypeRoot, RunsTypeRoot}
-use Rattle.apollo_parser.specs.Parsed.{Parsed}
+use Rattle.parser_rules.specs.State.{State, begun, finished}
 use Rattle.parser_state.specs.Errors.{IsErrorOf}
+use Rattle.apollo_parser.specs.Parsed.{Parsed}
 
 -- the document's rule ran over the items of the text, of which k are allowed, with the recursion limit r
 pub record ByRules (source : List ℕ) (r k : ℕ) (t : Parsed) : Type 0 where

@@ -1,19 +1,19 @@
 -- What a parse gives, what its errors are, and what is so after an error: the words of `Promise` that are not in the
 -- specs of `lexical_grammar` and `document_grammar`. The standard says nothing of errors, so these are this project's
 -- own promises.
-use Rattle.std.specs.Prelude.{◌≡◌, ◌⊎◌, ℕ, Bool, true, false, if◌then◌else◌, List, [], ◌∷◌, Some, None, map, ⊤}
 use Rattle.std.specs.List.{Any}
-use Rattle.lexical_grammar.specs.declared.TokenKind.{TokenKind}
-use Rattle.lexical_grammar.specs.Cut.{Item}
+use Rattle.std.specs.Prelude.{◌≡◌, ◌⊎◌, ℕ, Bool, true, false, if◌then◌else◌, List, [], ◌∷◌, Some, None, map, ⊤}
 use Rattle.lexical_grammar.specs.Answers.{Answer, gives, limit_at, is_end}
+use Rattle.lexical_grammar.specs.Cut.{Item}
+use Rattle.lexical_grammar.specs.declared.TokenKind.{TokenKind}
 use Rattle.document_grammar.specs.Forests.{Forest, none, leaf, node}
+use Rattle.document_grammar.specs.Leaves.{ignored}
 use Rattle.document_grammar.specs.Numbered.{tree_of}
 use Rattle.document_grammar.specs.Recovery.{children_of, LeftOver, Rowed, GoesOn}
-use Rattle.document_grammar.specs.Leaves.{ignored}
-use Rattle.apollo_lexer.specs.declared.limit.LimitTracker.{LimitTracker}
+use Rattle.parser_rules.specs.Messages.{Text, recursion_limit_message}
 use Rattle.apollo_lexer.specs.Diagnostics.{of_text, of_end, of_limit, Subject, Diagnostic}
 use Rattle.apollo_lexer.specs.LexErrors.{limit_message}
-use Rattle.parser_rules.specs.Messages.{Text, recursion_limit_message}
+use Rattle.apollo_lexer.specs.declared.limit.LimitTracker.{LimitTracker}
 
 -- ---- what a parse gives
 

@@ -1,12 +1,12 @@
 -- What is promised where a part of a document is parsed by itself, and the text after it is left.
 use Rattle.std.specs.Prelude.{◌≡◌, ◌≤◌, length, filter, Bool, true, false, Option, Some, None, List, [], ◌∷◌, ◌++◌}
+use Rattle.lexical_grammar.specs.Answers.{Answer, gives, limit_at}
 use Rattle.lexical_grammar.specs.declared.TokenKind.{TokenKind}
 use Rattle.lexical_grammar.specs.declared.TokenKind.TheVariants as token
-use Rattle.lexical_grammar.specs.Answers.{Answer, gives, limit_at}
-use Rattle.document_grammar.specs.declared.kind.SyntaxKind.{SyntaxKind}
-use Rattle.document_grammar.specs.declared.kind.SyntaxKind.TheVariants as kind
 use Rattle.document_grammar.specs.Forests.{Forest, none, node}
 use Rattle.document_grammar.specs.Leaves.{Leaf, OneLeafAnItem, ignored, shows}
+use Rattle.document_grammar.specs.declared.kind.SyntaxKind.{SyntaxKind}
+use Rattle.document_grammar.specs.declared.kind.SyntaxKind.TheVariants as kind
 use Rattle.apollo_lexer.specs.Diagnostics.{Diagnostic}
 use Rattle.apollo_parser.specs.Parsed.{ErrorsOf}
 

@@ -4,14 +4,13 @@
 -- `items_of source` are the items that the lexer cuts the source into; `cut` says that they are one of its cuts. Of
 -- them `max_items` are allowed, the token limit, and `limited` has what the lexer answers then. `max_depth` is the
 -- recursion limit.
-use Rattle.std.specs.Prelude.{◌≡◌, ◌≤◌, ◌<◌, ◌+◌, ◌*◌, ℕ, [], length, min, take, map}
-use Rattle.std.specs.Str.{IsAscii}
 use Rattle.std.specs.List.{Any, All}
 use Rattle.std.specs.List.Sorted.{IsNonDecreasing}
+use Rattle.std.specs.Prelude.{◌≡◌, ◌≤◌, ◌<◌, ◌+◌, ◌*◌, ℕ, [], length, min, take, map}
+use Rattle.std.specs.Str.{IsAscii}
 use Rattle.lexical_grammar.specs.Answers.{limited}
 use Rattle.lexical_grammar.specs.Cut.{Cut, texts}
 use Rattle.lexical_grammar.specs.Reads.{items_of}
-use Rattle.document_grammar.specs.declared.kind.SyntaxKind.TheVariants as kind
 use Rattle.document_grammar.specs.Derivation.{Sort, document, nest}
 use Rattle.document_grammar.specs.FirstError.{NotLate, NotEarly, NotEarlyLimit, EndedNodesFit}
 use Rattle.document_grammar.specs.Forests.{Forest, none, node, text}
@@ -21,8 +20,9 @@ use Rattle.document_grammar.specs.Placed.{bare, Placed}
 use Rattle.document_grammar.specs.Recovery.{Rowed}
 use Rattle.document_grammar.specs.Sentence.{Sentence, FirstSentence, Within, OnlyDerivation}
 use Rattle.document_grammar.specs.Tree.{Tree}
-use Rattle.apollo_tree.specs.Order.{order}
+use Rattle.document_grammar.specs.declared.kind.SyntaxKind.TheVariants as kind
 use Rattle.parser_rules.specs.Messages.{Text}
+use Rattle.apollo_tree.specs.Order.{order}
 use Rattle.apollo_parser.specs.ByRules.{ByRules}
 use Rattle.apollo_parser.specs.Parsed.{Parsed, IsLimit, IsTokenLimit, IsRecursionLimit, IsLimitWorded, ErrorsOf}
 use Rattle.apollo_parser.specs.Parsed.{OfFirst, Recovers}

@@ -1,6 +1,6 @@
 -- The root of a tree.
-use Rattle.document_grammar.specs.declared.kind.SyntaxKind.{SyntaxKind}
 use Rattle.document_grammar.specs.Forests.{Forest}
+use Rattle.document_grammar.specs.declared.kind.SyntaxKind.{SyntaxKind}
 use Rattle.apollo_tree.specs.Order.{kind_at}
 pub use Rattle.apollo_tree.specs.Open.{one_node}
 

@@ -1,13 +1,13 @@
 -- An element has no more parents, one above the other, than places before it.
 use Rattle.std.proofs.Common.{◌≡◌, ℕ, zero, suc, ◌<◌, ◌∷◌, refl, sym, ap, ◌∙◌, subst, arith, Option, Some, None}
-use Rattle.std.specs.Prelude.{option_map}
 use Rattle.std.proofs.lemmas.Option.{none-some, same_Some}
-use Rattle.apollo_tree.specs.declared.node.SyntaxNode.{SyntaxNode}
-use Rattle.apollo_tree.specs.Order.{Place, parent_place}
+use Rattle.std.specs.Prelude.{option_map}
+use Rattle.apollo_tree.proofs.Parents.{parent-before}
 use Rattle.apollo_tree.specs.Above.{IsChainOfParents, first_parents, at_or_above}
+use Rattle.apollo_tree.specs.Order.{Place, parent_place}
 use Rattle.apollo_tree.specs.References.{node_place}
 use Rattle.apollo_tree.specs.Yields.{up_from}
-use Rattle.apollo_tree.proofs.Parents.{parent-before}
+use Rattle.apollo_tree.specs.declared.node.SyntaxNode.{SyntaxNode}
 
 -- this number of steps is enough for a chain from a place
 pub record IsEnough (n : ℕ) (p : Option Place) : Type 0 where

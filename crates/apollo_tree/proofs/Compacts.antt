@@ -1,25 +1,25 @@
 -- The elements of a tree in twelve bytes.
 use Rattle.std.proofs.Common.{◌≡◌, ◌∙◌, ◌+◌, ◌-◌, ◌++◌, ℕ, zero, suc, ◌<◌, ◌≤◌, ◌^◌, List}
 use Rattle.std.proofs.Common.{[], ◌∷◌, length, map, min, take, drop, set, get_or, ap, subst, refl, sym, ⊎_elim, arith}
-use Rattle.std.specs.Prelude.{unwrap_or}
 use Rattle.std.proofs.lemmas.Bool.{cases_lt}
 use Rattle.std.proofs.lemmas.List.{drop-map, get_or-map, length-append, length-map, same_lists, take-map, take_rest}
 use Rattle.std.proofs.lemmas.List.Elements.{All-from_get_or, All-get_or}
 use Rattle.std.specs.List.{All}
-use Rattle.apollo_tree.specs.declared.record.Record.{Record}
+use Rattle.std.specs.Prelude.{unwrap_or}
+use Rattle.apollo_tree.proofs.Filling.{filled-by-one-more, filled-in-two}
+use Rattle.apollo_tree.proofs.Parents.{no-index, some-parent}
+use Rattle.apollo_tree.proofs.Places.{cut-of, kind-is, length-table, node_is, size-is, start-is}
+use Rattle.apollo_tree.proofs.Spans.{children-span}
+use Rattle.apollo_tree.proofs.Widening.{packed-there}
 use Rattle.apollo_tree.specs.Blank.{none_there}
 use Rattle.apollo_tree.specs.Compact.{compact, compact_elements, compact_from, compact_record, to_parent}
-use Rattle.apollo_tree.specs.declared.compact.CompactElement.{CompactElement}
 use Rattle.apollo_tree.specs.Filled.{filled}
 use Rattle.apollo_tree.specs.Order.{Element, element, nowhere, order, tree_text}
 use Rattle.apollo_tree.specs.Records.{forest}
 use Rattle.apollo_tree.specs.Table.{IsTable}
 use Rattle.apollo_tree.specs.Widened.{IsSmall}
-use Rattle.apollo_tree.proofs.Parents.{no-index, some-parent}
-use Rattle.apollo_tree.proofs.Places.{cut-of, kind-is, length-table, node_is, size-is, start-is}
-use Rattle.apollo_tree.proofs.Spans.{children-span}
-use Rattle.apollo_tree.proofs.Widening.{packed-there}
-use Rattle.apollo_tree.proofs.Filling.{filled-by-one-more, filled-in-two}
+use Rattle.apollo_tree.specs.declared.compact.CompactElement.{CompactElement}
+use Rattle.apollo_tree.specs.declared.record.Record.{Record}
 
 -- a record's distance to its parent
 record Distance (i up : ℕ) (e : Element) : Type 0 where

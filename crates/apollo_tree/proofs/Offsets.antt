@@ -1,22 +1,22 @@
 -- Where records of a table begin, in order, and which leaves are at an offset for it.
 use Rattle.std.proofs.Common.{◌≡◌, ℕ, zero, suc, ◌+◌, ◌-◌, ◌<◌, ◌≤◌, List, [], ◌∷◌, ◌++◌, length, drop, get_or, sym, ap}
 use Rattle.std.proofs.Common.{◌∙◌, subst, refl, arith, cond, Bool, true, false}
-use Rattle.std.specs.Prelude.{nat_le, nat_lt}
-use Rattle.std.specs.List.{filter}
 use Rattle.std.proofs.Math.Seq.{drop-cons}
-use Rattle.std.proofs.lemmas.List.Elements.{filter-append}
 use Rattle.std.proofs.lemmas.Bool.{false_from_ne_true, and_parts, leb-true, ltb-true, not-true}
+use Rattle.std.proofs.lemmas.List.Elements.{filter-append}
+use Rattle.std.specs.List.{filter}
+use Rattle.std.specs.Prelude.{nat_le, nat_lt}
 use Rattle.document_grammar.specs.Forests.{Forest, Tree, Leaf, Node, count}
-use Rattle.apollo_tree.specs.declared.record.Record.{Record}
-use Rattle.apollo_tree.specs.Records.{forest, start_from}
-use Rattle.apollo_tree.specs.Order.{Place, tree_at, tree_kids, is_node, range_at}
-use Rattle.apollo_tree.specs.Children.{is_node_place}
-use Rattle.apollo_tree.specs.Below.{places_from, is_leaf_place}
-use Rattle.apollo_tree.specs.AtOffset.{is_at_offset}
-use Rattle.apollo_tree.specs.Blank.{none_there}
-use Rattle.apollo_tree.specs.Table.{IsTable}
 use Rattle.apollo_tree.proofs.Parts.{spot, within}
 use Rattle.apollo_tree.proofs.Places.{size-is, start-is, end-is}
+use Rattle.apollo_tree.specs.AtOffset.{is_at_offset}
+use Rattle.apollo_tree.specs.Below.{places_from, is_leaf_place}
+use Rattle.apollo_tree.specs.Blank.{none_there}
+use Rattle.apollo_tree.specs.Children.{is_node_place}
+use Rattle.apollo_tree.specs.Order.{Place, tree_at, tree_kids, is_node, range_at}
+use Rattle.apollo_tree.specs.Records.{forest, start_from}
+use Rattle.apollo_tree.specs.Table.{IsTable}
+use Rattle.apollo_tree.specs.declared.record.Record.{Record}
 
 -- ---- the starts of records never fall
 module _ (rs : List Record) (s : List ℕ) (t : IsTable rs s) where

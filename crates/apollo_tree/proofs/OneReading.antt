@@ -1,9 +1,9 @@
 -- Brackets are those of at most one list of trees.
 use Rattle.std.proofs.Common.{◌≡◌, ℕ, List, [], ◌∷◌, ◌++◌, refl, sym, ◌∙◌, subst}
-use Rattle.std.specs.Prelude.{⊤}
 use Rattle.std.proofs.lemmas.List.{append-nil, append_assoc}
-use Rattle.document_grammar.specs.declared.kind.SyntaxKind.{SyntaxKind}
+use Rattle.std.specs.Prelude.{⊤}
 use Rattle.document_grammar.specs.Forests.{Forest, none, leaf, node}
+use Rattle.document_grammar.specs.declared.kind.SyntaxKind.{SyntaxKind}
 use Rattle.apollo_tree.specs.Brackets.{Bracket, Opening, Single, Closing, brackets}
 
 -- no tree begins here

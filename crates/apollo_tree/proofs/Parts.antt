@@ -1,18 +1,18 @@
 -- An element's subtree is one part of the document order, and its children's ranges fill its own.
 use Rattle.std.proofs.Common.{◌≡◌, ℕ, zero, suc, ◌+◌, ◌-◌, ◌<◌, ◌≤◌, List, [], ◌∷◌, ◌++◌, length, get_or, map, refl}
 use Rattle.std.proofs.Common.{sym, ap, ◌∙◌, subst, ⊎_elim, arith, true, Option, Some, None}
-use Rattle.std.proofs.lemmas.List.{append-nil, append_assoc, length-append, get_or_append_left, get_or-append-add}
 use Rattle.std.proofs.lemmas.Bool.{cases_lt}
+use Rattle.std.proofs.lemmas.List.{append-nil, append_assoc, length-append, get_or_append_left, get_or-append-add}
 use Rattle.document_grammar.specs.Forests.{Forest, none, leaf, node, Tree, Leaf, Node, text, count}
-use Rattle.apollo_tree.specs.declared.record.Record.{Record}
-use Rattle.apollo_tree.specs.Records.{forest}
+use Rattle.apollo_tree.proofs.Places.{length-order, Cut, cut}
+use Rattle.apollo_tree.specs.Children.{child_places}
 use Rattle.apollo_tree.specs.Order.{Element, Place, element, order_from, order, nowhere, places, tree_at, tree_text}
 use Rattle.apollo_tree.specs.Order.{tree_kids, is_node, range_at}
-use Rattle.apollo_tree.specs.Children.{child_places}
+use Rattle.apollo_tree.specs.ReadBack.{length-records}
+use Rattle.apollo_tree.specs.Records.{forest}
 use Rattle.apollo_tree.specs.Table.{IsTable}
 use Rattle.apollo_tree.specs.Tiled.{AreTiles}
-use Rattle.apollo_tree.specs.ReadBack.{length-records}
-use Rattle.apollo_tree.proofs.Places.{length-order, Cut, cut}
+use Rattle.apollo_tree.specs.declared.record.Record.{Record}
 
 -- the order of trees of which the first has the place i, cut at the element with the number n
 pub record Part (at i : ℕ) (p : Option ℕ) (f : Forest) (n : ℕ) (e : Element) : Type 0 where

@@ -1,25 +1,25 @@
 -- A search along a span for the first tree that a test takes.
 use Rattle.std.proofs.Common.{◌≡◌, ℕ, ◌+◌, ◌-◌, ◌<◌, ◌≤◌, List, [], ◌∷◌, length, take, drop, get_or, map, refl, sym, ap}
 use Rattle.std.proofs.Common.{◌∙◌, cond, Bool, true, false, arith}
-use Rattle.std.specs.List.{filter}
 use Rattle.std.proofs.lemmas.List.{length-map}
+use Rattle.std.specs.List.{filter}
 use Rattle.document_grammar.specs.declared.kind.SyntaxKind.{SyntaxKind}
-use Rattle.apollo_tree.specs.declared.record.Record.{Record}
-use Rattle.apollo_tree.specs.declared.node.Table.{Table}
-use Rattle.apollo_tree.specs.declared.search.Found.{Found}
-use Rattle.apollo_tree.specs.Blank.{none_there}
-use Rattle.apollo_tree.specs.Forms.{readable}
-use Rattle.apollo_tree.specs.Records.{forest}
-use Rattle.apollo_tree.specs.References.{table_place}
-use Rattle.apollo_tree.specs.Order.{Place, kind_at}
-use Rattle.apollo_tree.specs.Children.{heads, tiled, span_heads, IsSpan}
-use Rattle.apollo_tree.specs.Table.{IsTable}
-use Rattle.apollo_tree.specs.Taken.{takes_place}
-use Rattle.apollo_tree.specs.Searches.{takes_record, taken_places, PassesOver, IsFirst}
 use Rattle.apollo_tree.proofs.Parts.{spot}
 use Rattle.apollo_tree.proofs.Places.{node_is, kind-is}
 use Rattle.apollo_tree.proofs.Spans.{IsStep, step}
 use Rattle.apollo_tree.proofs.Widening.{packed-there}
+use Rattle.apollo_tree.specs.Blank.{none_there}
+use Rattle.apollo_tree.specs.Children.{heads, tiled, span_heads, IsSpan}
+use Rattle.apollo_tree.specs.Forms.{readable}
+use Rattle.apollo_tree.specs.Order.{Place, kind_at}
+use Rattle.apollo_tree.specs.Records.{forest}
+use Rattle.apollo_tree.specs.References.{table_place}
+use Rattle.apollo_tree.specs.Searches.{takes_record, taken_places, PassesOver, IsFirst}
+use Rattle.apollo_tree.specs.Table.{IsTable}
+use Rattle.apollo_tree.specs.Taken.{takes_place}
+use Rattle.apollo_tree.specs.declared.node.Table.{Table}
+use Rattle.apollo_tree.specs.declared.record.Record.{Record}
+use Rattle.apollo_tree.specs.declared.search.Found.{Found}
 
 -- a record passes the test as its element does
 element-test : (takes : Bool → SyntaxKind → Bool) (rs : List Record) (s : List ℕ) → IsTable rs s

@@ -1,11 +1,11 @@
 -- Whole trees that follow one another in a table.
 use Rattle.std.proofs.Common.{◌≡◌, ℕ, zero, suc, pred, ◌+◌, ◌<◌, ◌≤◌, List, [], ◌∷◌, ◌++◌, length, drop, refl, sym, ap}
 use Rattle.std.proofs.Common.{◌∙◌, arith, true, false}
-use Rattle.apollo_tree.specs.declared.record.Record.{Record}
 use Rattle.document_grammar.specs.Forests.{Forest, none, leaf, node, text, count}
-use Rattle.apollo_tree.specs.Records.{records, further}
 use Rattle.apollo_tree.specs.Children.{tiled}
 use Rattle.apollo_tree.specs.ReadBack.{length-records}
+use Rattle.apollo_tree.specs.Records.{records, further}
+use Rattle.apollo_tree.specs.declared.record.Record.{Record}
 
 pub size-parts : (n : ℕ) (rs : List Record) → elim n [ zero ↦ false | suc m ↦ tiled m rs ] ≡ true
     → (0 < n) × (tiled (pred n) rs ≡ true)

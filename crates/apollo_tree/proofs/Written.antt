@@ -1,13 +1,13 @@
 -- What a call of the builder does to the brackets that were written.
 use Rattle.std.proofs.Common.{◌≡◌, ℕ, zero, suc, ◌+◌, ◌-◌, List, [], ◌∷◌, ◌++◌, refl, sym, ap, ◌∙◌, arith}
 use Rattle.std.proofs.lemmas.List.{append-nil, append_assoc}
-use Rattle.document_grammar.specs.declared.kind.SyntaxKind.{SyntaxKind}
-use Rattle.document_grammar.specs.Forests.{Forest, none, leaf, node, count, join}
+use Rattle.document_grammar.proofs.Built.{join-front_back}
 use Rattle.document_grammar.specs.Builds.{Open, Building, start, add_leaf, finish, close, wrap, front, back, open_count}
 use Rattle.document_grammar.specs.Builds.{CanOpenAt}
+use Rattle.document_grammar.specs.Forests.{Forest, none, leaf, node, count, join}
+use Rattle.document_grammar.specs.declared.kind.SyntaxKind.{SyntaxKind}
 use Rattle.apollo_tree.specs.Brackets.{Bracket, Opening, Single, Closing, brackets, open_brackets, written, open_at}
 use Rattle.apollo_tree.specs.Sound.{CanFinish, FitsInnermost}
-use Rattle.document_grammar.proofs.Built.{join-front_back}
 
 brackets-join : (f g : Forest) → brackets (join f g) ≡ brackets f ++ brackets g
 brackets-join none g = refl

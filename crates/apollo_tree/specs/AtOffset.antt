@@ -1,11 +1,11 @@
 -- The leaves at a byte offset.
-use Rattle.std.specs.Prelude.{ℕ, List, [], ◌∷◌, Bool, ◌&&◌, nat_le, nat_lt}
 use Rattle.std.specs.List.{filter}
+use Rattle.std.specs.Prelude.{ℕ, List, [], ◌∷◌, Bool, ◌&&◌, nat_le, nat_lt}
+use Rattle.apollo_tree.specs.Below.{below, is_leaf_place}
+use Rattle.apollo_tree.specs.Order.{Place, range_at}
+use Rattle.apollo_tree.specs.References.{token_place}
 use Rattle.apollo_tree.specs.declared.at_offset.TokenAtOffset.{TokenAtOffset}
 use Rattle.apollo_tree.specs.declared.at_offset.TokenAtOffset.TheVariants as answer
-use Rattle.apollo_tree.specs.Order.{Place, range_at}
-use Rattle.apollo_tree.specs.Below.{below, is_leaf_place}
-use Rattle.apollo_tree.specs.References.{token_place}
 
 -- a range has the byte at an offset, or the byte before it
 abbrev pub meets : ℕ → ℕ × ℕ → Bool

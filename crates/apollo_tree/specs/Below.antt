@@ -1,10 +1,10 @@
 -- The elements below an element, and what is looked for among them.
 use Rattle.std.specs.Prelude.{ℕ, zero, suc, List, [], ◌∷◌, Bool, not, ◌&&◌, ◌==◌}
-use Rattle.document_grammar.specs.declared.kind.SyntaxKind.{SyntaxKind}
-use Rattle.document_grammar.specs.Numbers.{is_kind}
 use Rattle.document_grammar.specs.Forests.{Forest, count}
-use Rattle.apollo_tree.specs.Order.{Place, tree_at, tree_kids, kind_at, range_at}
+use Rattle.document_grammar.specs.Numbers.{is_kind}
+use Rattle.document_grammar.specs.declared.kind.SyntaxKind.{SyntaxKind}
 use Rattle.apollo_tree.specs.Children.{is_node_place}
+use Rattle.apollo_tree.specs.Order.{Place, tree_at, tree_kids, kind_at, range_at}
 
 -- a number of places of a tree's order, from the place i on
 abbrev pub places_from : Forest → ℕ → ℕ → List Place

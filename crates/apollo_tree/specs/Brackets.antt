@@ -1,8 +1,8 @@
 -- The builder's calls as brackets: start opens, finish closes, and wrap opens at an earlier index.
 use Rattle.std.specs.Prelude.{ℕ, zero, suc, List, [], ◌∷◌, ◌++◌}
-use Rattle.document_grammar.specs.declared.kind.SyntaxKind.{SyntaxKind}
-use Rattle.document_grammar.specs.Forests.{Forest, none, leaf, node}
 use Rattle.document_grammar.specs.Builds.{Open, Building}
+use Rattle.document_grammar.specs.Forests.{Forest, none, leaf, node}
+use Rattle.document_grammar.specs.declared.kind.SyntaxKind.{SyntaxKind}
 
 pub data Bracket : Type 0 where
   Opening : SyntaxKind → Bracket

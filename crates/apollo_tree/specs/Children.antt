@@ -1,9 +1,9 @@
 -- The places of the trees that follow one another in a table.
+use Rattle.std.specs.List.{filter}
 use Rattle.std.specs.Prelude.{◌≡◌, ℕ, zero, suc, pred, ◌-◌, ◌≤◌, List, [], ◌∷◌, length, take, drop, map, Bool, true}
 use Rattle.std.specs.Prelude.{false}
-use Rattle.std.specs.List.{filter}
-use Rattle.apollo_tree.specs.declared.record.Record.{Record}
 use Rattle.apollo_tree.specs.Order.{Place, element, tree_at, is_node}
+use Rattle.apollo_tree.specs.declared.record.Record.{Record}
 
 -- from the record with the number i on, after the first n
 abbrev pub heads : ℕ → ℕ → List Record → List ℕ

@@ -1,11 +1,11 @@
 -- Elements in twelve bytes.
-use Rattle.std.specs.Prelude.{ℕ, suc, ◌+◌, ◌-◌, ◌*◌, ◌/◌, ◌%◌, ◌^◌, List, [], ◌∷◌, unwrap_or}
 use Rattle.std.specs.Int.{from_bool}
+use Rattle.std.specs.Prelude.{ℕ, suc, ◌+◌, ◌-◌, ◌*◌, ◌/◌, ◌%◌, ◌^◌, List, [], ◌∷◌, unwrap_or}
 use Rattle.document_grammar.specs.Forests.{Forest, count}
 use Rattle.document_grammar.specs.Numbers.{number}
+use Rattle.apollo_tree.specs.Order.{Element, is_node, order, tree_kids, tree_kind}
 use Rattle.apollo_tree.specs.declared.compact.CompactElement.{CompactElement}
 use Rattle.apollo_tree.specs.declared.record.Record.{Record}
-use Rattle.apollo_tree.specs.Order.{Element, is_node, order, tree_kids, tree_kind}
 
 -- The four numbers of a record, and its kind.
 abbrev pub compact_record : Record → CompactElement

@@ -1,8 +1,8 @@
 -- An element as plain numbers.
 use Rattle.std.specs.Prelude.{ℕ, suc, ◌+◌, nat_lt, length, if◌then◌else◌, Option, Some, None}
 use Rattle.document_grammar.specs.Forests.{Forest, count}
-use Rattle.apollo_tree.specs.declared.indexed.IndexedElement.{IndexedElement}
 use Rattle.apollo_tree.specs.Order.{Place, order, element, tree_at, tree_kids, kind_at, range_at, is_node}
+use Rattle.apollo_tree.specs.declared.indexed.IndexedElement.{IndexedElement}
 
 abbrev pub indexed : Place → IndexedElement
 indexed p = record {

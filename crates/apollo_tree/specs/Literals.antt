@@ -1,14 +1,14 @@
 -- What every tree keeps, said of the text of a name, an Int, a String and a Boolean.
 use Rattle.std.proofs.Common.{◌≡◌, ℕ, List, sym, ap, ◌∙◌, subst, true}
 use Rattle.std.proofs.lemmas.List.{append-nil}
+use Rattle.lexical_grammar.specs.Numbers.{IsIntegerPart}
+use Rattle.lexical_grammar.specs.Tokens.{IsName, IsString}
+use Rattle.document_grammar.specs.Forests.{Forest, Tree, Leaf, Node, text}
+use Rattle.document_grammar.specs.Numbers.{is_kind}
 use Rattle.document_grammar.specs.declared.kind.SyntaxKind.{SyntaxKind}
 use Rattle.document_grammar.specs.declared.kind.SyntaxKind.TheVariants.{NAME, INT_VALUE, STRING_VALUE}
-use Rattle.document_grammar.specs.Forests.{Forest, Tree, Leaf, Node, text}
 use Rattle.apollo_tree.specs.Order.{tree_kind, tree_text, is_node}
-use Rattle.document_grammar.specs.Numbers.{is_kind}
 use Rattle.apollo_tree.specs.Sound.{Fits, IsOneLeaf, IsNameLeaf, IsIntLeaf, IsStringLeaf, IsSoundTree}
-use Rattle.lexical_grammar.specs.Tokens.{IsName, IsString}
-use Rattle.lexical_grammar.specs.Numbers.{IsIntegerPart}
 
 name_fits : (k : SyntaxKind) (kids : Forest) → is_kind NAME k ≡ true → Fits k kids → IsOneLeaf IsNameLeaf kids
 name_fits NAME kids e f = f

@@ -1,16 +1,16 @@
 -- What a search through the trees that follow one another in a table finds.
-use Rattle.std.specs.Prelude.{◌≡◌, ◌<◌, ℕ, List, map, get_or, Bool, true, Option, MatchOption}
 use Rattle.std.specs.List.{filter}
-use Rattle.document_grammar.specs.declared.kind.SyntaxKind.{SyntaxKind}
+use Rattle.std.specs.Prelude.{◌≡◌, ◌<◌, ℕ, List, map, get_or, Bool, true, Option, MatchOption}
 use Rattle.document_grammar.specs.Forests.{Forest}
-use Rattle.apollo_tree.specs.declared.record.Record.{Record}
-use Rattle.apollo_tree.specs.declared.search.Found.{Found}
+use Rattle.document_grammar.specs.declared.kind.SyntaxKind.{SyntaxKind}
 use Rattle.apollo_tree.specs.Blank.{none_there}
-use Rattle.apollo_tree.specs.Records.{forest}
-use Rattle.apollo_tree.specs.Order.{Place}
 use Rattle.apollo_tree.specs.Children.{span_heads, IsSpan}
+use Rattle.apollo_tree.specs.Order.{Place}
+use Rattle.apollo_tree.specs.Records.{forest}
 use Rattle.apollo_tree.specs.Table.{IsTable}
 use Rattle.apollo_tree.specs.Taken.{takes_place}
+use Rattle.apollo_tree.specs.declared.record.Record.{Record}
+use Rattle.apollo_tree.specs.declared.search.Found.{Found}
 
 abbrev pub takes_record : (Bool → SyntaxKind → Bool) → Record → Bool
 takes_record takes r = takes r.is_node r.kind

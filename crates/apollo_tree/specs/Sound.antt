@@ -1,13 +1,13 @@
 -- What every tree keeps: each leaf is text, and a name or a literal is one leaf with the text of its token.
 use Rattle.std.specs.Prelude.{◌≡◌, ℕ, List, [], ◌∷◌, ◌⊎◌, ⊤, codes}
 use Rattle.std.specs.Str.{IsUtf8}
+use Rattle.lexical_grammar.specs.Numbers.{IsIntegerPart}
+use Rattle.lexical_grammar.specs.Tokens.{IsName, IsString}
+use Rattle.document_grammar.specs.Builds.{Open, Building}
+use Rattle.document_grammar.specs.Forests.{Forest, none, leaf, node, Tree, Leaf, Node}
 use Rattle.document_grammar.specs.declared.kind.SyntaxKind.{SyntaxKind}
 use Rattle.document_grammar.specs.declared.kind.SyntaxKind.TheVariants.{IDENT, INT, STRING, true_KW, false_KW, NAME}
 use Rattle.document_grammar.specs.declared.kind.SyntaxKind.TheVariants.{INT_VALUE, STRING_VALUE, BOOLEAN_VALUE}
-use Rattle.document_grammar.specs.Forests.{Forest, none, leaf, node, Tree, Leaf, Node}
-use Rattle.document_grammar.specs.Builds.{Open, Building}
-use Rattle.lexical_grammar.specs.Tokens.{IsName, IsString}
-use Rattle.lexical_grammar.specs.Numbers.{IsIntegerPart}
 
 -- the leaves that a name or a literal may be
 abbrev pub IsNameLeaf : SyntaxKind → List ℕ → Type 0

@@ -2,11 +2,11 @@
 use Rattle.std.proofs.Common.{◌≡◌, ℕ, List, subst, ◌∙◌}
 use Rattle.std.specs.Prelude.{Err}
 use Rattle.std.specs.Str.{IsUtf8}
+use Rattle.byte_streams.specs.Devices.{Account, moved, stopped}
+use Rattle.byte_streams.specs.Runs.{IsWritten, Reads, Writes}
+use Rattle.byte_streams.specs.Writing.{EndsWriting}
 use Rattle.byte_streams.specs.declared.fault.Fault.{Fault}
 use Rattle.byte_streams.specs.declared.fault.Fault.TheVariants.{Read, Utf8, Memory, Write}
-use Rattle.byte_streams.specs.Devices.{Account, moved, stopped}
-use Rattle.byte_streams.specs.Writing.{EndsWriting}
-use Rattle.byte_streams.specs.Runs.{IsWritten, Reads, Writes}
 
 module _ {T : Type 0} (IsOutput : List ℕ → T → List ℕ → Type 0) where
   cut_off : (fault : Fault) (input : List ℕ) (outcome : T) (output : List ℕ) (r r' w w' : Account)

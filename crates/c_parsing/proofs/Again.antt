@@ -1,27 +1,27 @@
 -- A second call, with the room that the first one counted.
 use Rattle.std.proofs.Common.{◌≡◌, ◌∙◌, ◌⊎◌, ℕ, suc, List, [], ◌∷◌, length, refl, sym, ap, subst, ⊎_elim, arith}
-use Rattle.std.specs.Prelude.{filter, map, not}
 use Rattle.std.proofs.Math.Logic.{∥∥₁_elim}
 use Rattle.std.proofs.Props.{props}
+use Rattle.std.specs.Prelude.{filter, map, not}
+use Rattle.lexical_grammar.proofs.StringValues.{quoted-one, block-one, one-form}
 use Rattle.lexical_grammar.specs.Strings.{Quoted}
 use Rattle.lexical_grammar.specs.Values.{Block}
-use Rattle.lexical_grammar.proofs.StringValues.{quoted-one, block-one, one-form}
+use Rattle.apollo_parser.proofs.OneParse.{one-parse}
 use Rattle.apollo_parser.specs.Answers.{Answer, gives, limit_at, is_token}
+use Rattle.apollo_parser.specs.Compact.{compact_elements, compact_from}
 use Rattle.apollo_parser.specs.Diagnostics.{Diagnostic, Subject}
+use Rattle.apollo_parser.specs.Filled.{filled}
 use Rattle.apollo_parser.specs.LexErrors.{AreLexErrors, IsLexError}
-use Rattle.apollo_parser.specs.StringValues.{IsStringValue}
-use Rattle.c_parsing.specs.declared.rows.ByteCount.{ByteCount}
-use Rattle.c_parsing.specs.declared.rows.Counts.{Counts}
 use Rattle.apollo_parser.specs.Order.{Element, order}
 use Rattle.apollo_parser.specs.Parsed.{Parsed}
-use Rattle.apollo_parser.proofs.OneParse.{one-parse}
-use Rattle.apollo_parser.specs.Compact.{compact_elements, compact_from}
-use Rattle.apollo_parser.specs.Filled.{filled}
-use Rattle.c_parsing.specs.Rows.{error_rows, messages}
+use Rattle.apollo_parser.specs.StringValues.{IsStringValue}
+use Rattle.c_parsing.proofs.Messages.{length-error_rows}
 use Rattle.c_parsing.specs.Again.{HasItemRoom, HasRoom, HoldItems, HoldParse}
 use Rattle.c_parsing.specs.Items.{ItemBuffers, ItemsOutcome, item_counts, item_row}
-use Rattle.c_parsing.proofs.Messages.{length-error_rows}
 use Rattle.c_parsing.specs.Outcomes.{Buffers, Outcome, counts_of, OK, StringOutcome}
+use Rattle.c_parsing.specs.Rows.{error_rows, messages}
+use Rattle.c_parsing.specs.declared.rows.ByteCount.{ByteCount}
+use Rattle.c_parsing.specs.declared.rows.Counts.{Counts}
 
 -- a buffer of just the length is filled with the items
 pub filled-whole : {A : Type 0} (buffer items : List A) → length buffer ≡ length items → filled buffer items ≡ items

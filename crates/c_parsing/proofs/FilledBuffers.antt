@@ -2,8 +2,8 @@
 use Rattle.std.proofs.Common.{◌≡◌, ◌∙◌, ◌≤◌, ◌<◌, ◌-◌, ap, sym, ℕ, zero, suc, min, List, [], ◌∷◌, ◌++◌, length, take}
 use Rattle.std.proofs.Common.{drop, set, refl, arith}
 use borrow.Rule.Slice.PartMut.{put_mid}
-use Rattle.apollo_parser.specs.Filled.{filled}
 use Rattle.apollo_tree.proofs.Filling.{filled-by-none, no-room}
+use Rattle.apollo_parser.specs.Filled.{filled}
 
 pub length-filled : {A : Type 0} (buffer items : List A) → length (filled buffer items) ≡ length buffer
 length-filled [] [] = refl

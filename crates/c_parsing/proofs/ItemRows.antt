@@ -1,24 +1,24 @@
 -- The rows of a text's items: they are written one by one, and 32 bits can say their numbers.
 use Rattle.std.proofs.Common.{◌≡◌, ◌∙◌, ◌≤◌, ◌<◌, ◌+◌, ◌-◌, ◌^◌, ap, sym, refl, ℕ, zero, suc, List, [], ◌∷◌, ◌++◌}
 use Rattle.std.proofs.Common.{length, Option, Some, None, arith}
-use Rattle.std.specs.Prelude.{map, filter, not, true, false, Bool}
-use Rattle.std.specs.List.{AllByRecursion}
 use Rattle.std.proofs.lemmas.List.{append-nil, append_assoc, length-append, length-take, map-append}
 use Rattle.std.proofs.lemmas.List.Elements.{filter-append}
+use Rattle.std.specs.List.{AllByRecursion}
+use Rattle.std.specs.Prelude.{map, filter, not, true, false, Bool}
 use Rattle.lexical_grammar.specs.declared.TokenKind.{TokenKind}
 use Rattle.lexical_grammar.specs.declared.TokenKind.TheVariants as token
-use Rattle.apollo_parser.specs.Answers.{Answer, limit_index_at, limited, is_token}
 use Rattle.apollo_lexer.specs.Answers.{error_answer}
+use Rattle.apollo_tree.proofs.Filling.{filled-by-none}
+use Rattle.apollo_parser.specs.Answers.{Answer, limit_index_at, limited, is_token}
 use Rattle.apollo_parser.specs.Diagnostics.{Diagnostic}
+use Rattle.apollo_parser.specs.Filled.{filled}
 use Rattle.apollo_parser.specs.LexErrors.{AreLexErrors, IsLexError}
 use Rattle.apollo_parser.specs.Reads.{first_item, items_from}
-use Rattle.c_parsing.specs.declared.rows.ErrorRow.{ErrorRow}
-use Rattle.c_parsing.specs.declared.rows.ItemRow.{ItemRow}
 use Rattle.c_parsing.specs.Items.{IsLexed, ItemBuffers, ItemsOutcome, item_row}
 use Rattle.c_parsing.specs.Outcomes.{OK}
-use Rattle.apollo_parser.specs.Filled.{filled}
 use Rattle.c_parsing.specs.Rows.{error_rows, messages}
-use Rattle.apollo_tree.proofs.Filling.{filled-by-none}
+use Rattle.c_parsing.specs.declared.rows.ErrorRow.{ErrorRow}
+use Rattle.c_parsing.specs.declared.rows.ItemRow.{ItemRow}
 
 -- ---- where items end
 

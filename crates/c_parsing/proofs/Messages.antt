@@ -1,18 +1,18 @@
 -- The messages of the first errors, and their rows.
 use Rattle.std.proofs.Common.{◌≡◌, ◌∙◌, ◌≤◌, ◌<◌, ◌+◌, ap, sym, refl, ℕ, zero, suc, List, [], ◌∷◌, ◌++◌, length, take}
 use Rattle.std.proofs.Common.{set, get_or, arith}
-use Rattle.std.specs.List.{flat_map}
 use Rattle.std.proofs.lemmas.List.{append-nil, append_assoc, length-append}
+use Rattle.std.specs.List.{flat_map}
+use Rattle.apollo_tree.proofs.Filling.{filled-by-one-more}
 use Rattle.apollo_parser.specs.Cut.{Item, texts}
 use Rattle.apollo_parser.specs.Diagnostics.{Diagnostic}
+use Rattle.apollo_parser.specs.Filled.{filled}
 use Rattle.apollo_parser.specs.Forests.{text}
 use Rattle.apollo_parser.specs.Parsed.{Parsed}
 use Rattle.apollo_parser.specs.Promise.{Promise}
 use Rattle.apollo_parser.specs.Reads.{items_of}
-use Rattle.c_parsing.specs.declared.rows.ErrorRow.{ErrorRow}
-use Rattle.apollo_parser.specs.Filled.{filled}
 use Rattle.c_parsing.specs.Rows.{error_row, error_rows, messages}
-use Rattle.apollo_tree.proofs.Filling.{filled-by-one-more}
+use Rattle.c_parsing.specs.declared.rows.ErrorRow.{ErrorRow}
 
 first-of : {X : Type 0} (f : X → List ℕ) (n : ℕ) (xs : List X)
     → length (flat_map f (take n xs)) ≤ length (flat_map f xs)

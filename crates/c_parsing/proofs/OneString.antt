@@ -3,14 +3,14 @@ use Rattle.std.proofs.Common.{◌≡◌, ◌∙◌, ◌<◌, ℕ, suc, List, [],
 use Rattle.std.proofs.Common.{refl, sym, subst, arith, Option, Some, None}
 use Rattle.std.proofs.lemmas.List.{append-nil, length-append, take_at, take_all}
 use Rattle.std.specs.Prelude.{⊤, bytes_eq, take}
-use Rattle.lexical_grammar.specs.declared.TokenKind.{TokenKind}
-use Rattle.lexical_grammar.specs.declared.TokenKind.TheVariants.{StringValue}
-use Rattle.lexical_grammar.specs.Tokens.{IsString}
-use Rattle.lexical_grammar.specs.Cut.{Item, Cut, IsItem, Stands, texts, end_at}
-use Rattle.lexical_grammar.specs.Answers.{Answer, gives, limit_at, limited, answer_text}
-use Rattle.apollo_parser.specs.LexerAnswers.{error_answer}
 use Rattle.lexical_grammar.proofs.Cuts.{tok-some}
 use Rattle.lexical_grammar.proofs.Standing.{one_token}
+use Rattle.lexical_grammar.specs.Answers.{Answer, gives, limit_at, limited, answer_text}
+use Rattle.lexical_grammar.specs.Cut.{Item, Cut, IsItem, Stands, texts, end_at}
+use Rattle.lexical_grammar.specs.Tokens.{IsString}
+use Rattle.lexical_grammar.specs.declared.TokenKind.{TokenKind}
+use Rattle.lexical_grammar.specs.declared.TokenKind.TheVariants.{StringValue}
+use Rattle.apollo_parser.specs.LexerAnswers.{error_answer}
 
 front : List Answer → Item
 front [] = end_at 0

@@ -2,24 +2,24 @@
 use Rattle.std.proofs.Common.{◌≡◌, sym, subst, ◌<◌, ℕ, List, [], ◌∷◌, length, refl, arith, inl, inr, ⊎_elim}
 use Rattle.std.specs.List.{Contains}
 use Rattle.std.specs.Str.{IsUtf8}
+use Rattle.apollo_tree.specs.declared.compact.CompactElement.{CompactElement}
+use Rattle.apollo_parser.specs.Compact.{compact_elements}
 use Rattle.apollo_parser.specs.Diagnostics.{Diagnostic}
+use Rattle.apollo_parser.specs.Filled.{filled}
 use Rattle.apollo_parser.specs.Forests.{text}
 use Rattle.apollo_parser.specs.Order.{order}
 use Rattle.apollo_parser.specs.Parsed.{Parsed}
 use Rattle.apollo_parser.specs.StringValues.{IsStringValue}
 use Rattle.apollo_parser.specs.Tokens.{IsString}
 use Rattle.formatter.specs.Formatted.{IsNoDocument, MayExceed}
-use Rattle.c_parsing.specs.declared.rows.ByteCount.{ByteCount}
-use Rattle.apollo_tree.specs.declared.compact.CompactElement.{CompactElement}
-use Rattle.c_parsing.specs.declared.rows.ErrorRow.{ErrorRow}
-use Rattle.apollo_parser.specs.Compact.{compact_elements}
-use Rattle.apollo_parser.specs.Filled.{filled}
-use Rattle.c_parsing.specs.Rows.{error_rows, messages}
-use Rattle.c_parsing.specs.declared.rows.Counts.{Counts}
+use Rattle.c_parsing.proofs.ValueLengths.{no_longer}
 use Rattle.c_parsing.specs.Outcomes.{Buffers, IsTooLong, ParseOutcome, counts_of, FormatOutcome, StringOutcome}
 use Rattle.c_parsing.specs.Outcomes.{no_counts, written, OK, NOT_UTF8, TOO_LONG, NO_MEMORY, NOT_A_STRING}
 use Rattle.c_parsing.specs.Outcomes.{NOT_A_DOCUMENT, NO_ROOM}
-use Rattle.c_parsing.proofs.ValueLengths.{no_longer}
+use Rattle.c_parsing.specs.Rows.{error_rows, messages}
+use Rattle.c_parsing.specs.declared.rows.ByteCount.{ByteCount}
+use Rattle.c_parsing.specs.declared.rows.Counts.{Counts}
+use Rattle.c_parsing.specs.declared.rows.ErrorRow.{ErrorRow}
 
 -- ---- a parse of which P holds
 

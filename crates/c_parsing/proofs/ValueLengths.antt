@@ -1,19 +1,19 @@
 -- The value of a string has no more bytes than the string.
 use Rattle.std.proofs.Common.{◌≡◌, ◌+◌, ◌-◌, ◌≤◌, ◌⊎◌, ℕ, zero, suc, List, [], ◌∷◌, length, take, drop, ap, ⊎_elim, inl}
 use Rattle.std.proofs.Common.{inr, arith, length-append, length-drop}
-use Rattle.std.specs.Prelude.{◌&&◌, ◌==◌, map}
-use Rattle.std.specs.List.{prefix_len, suffix_len}
-use Rattle.std.specs.Char.Utf16.{surrogate_pair_char}
 use Rattle.std.proofs.Math.Logic.{∥∥₁_elim}
 use Rattle.std.proofs.Props.{props}
 use Rattle.std.proofs.lemmas.Bool.{cases_Bool}
 use Rattle.std.proofs.lemmas.Str.{length-encode, len_utf8_bounds}
+use Rattle.std.specs.Char.Utf16.{surrogate_pair_char}
+use Rattle.std.specs.List.{prefix_len, suffix_len}
+use Rattle.std.specs.Prelude.{◌&&◌, ◌==◌, map}
 use Rattle.lexical_grammar.specs.Characters.{is_line_terminator}
 use Rattle.lexical_grammar.specs.Strings.{StringCharacter, StringCharacters, BlockCharacters, Quoted, hex_value, plain}
 use Rattle.lexical_grammar.specs.Strings.{escaped, fixed, braced, pair, none, one_more, closing}
-use Rattle.apollo_parser.specs.StringValues.{IsStringValue}
 use Rattle.lexical_grammar.specs.Values.{Block, Lines, onto_first, common_indent, dedented, without_blank_ends}
 use Rattle.lexical_grammar.specs.Values.{is_blank_line, joined_by_lf, block_string_value}
+use Rattle.apollo_parser.specs.StringValues.{IsStringValue}
 
 -- ---- quoted strings
 

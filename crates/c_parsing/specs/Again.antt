@@ -1,13 +1,13 @@
 -- A second call, with the room that the first call counted.
 use Rattle.std.specs.Prelude.{◌≡◌, ℕ, List, length, map}
 use Rattle.apollo_parser.specs.Answers.{Answer}
+use Rattle.apollo_parser.specs.Compact.{compact_elements}
 use Rattle.apollo_parser.specs.Diagnostics.{Diagnostic}
 use Rattle.apollo_parser.specs.Parsed.{Parsed}
-use Rattle.c_parsing.specs.declared.rows.Counts.{Counts}
 use Rattle.c_parsing.specs.Items.{IsLexed, ItemBuffers, item_row}
 use Rattle.c_parsing.specs.Outcomes.{Buffers, IsParse}
-use Rattle.apollo_parser.specs.Compact.{compact_elements}
 use Rattle.c_parsing.specs.Rows.{error_rows, messages}
+use Rattle.c_parsing.specs.declared.rows.Counts.{Counts}
 
 -- The buffers have room for just what was counted.
 pub record HasRoom (buffers : Buffers) (counts : Counts) : Type 0 where

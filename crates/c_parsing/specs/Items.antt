@@ -1,23 +1,23 @@
 -- What cutting a text into its items gives.
-use Rattle.std.specs.Prelude.{◌≡◌, ◌≢◌, ◌≤◌, ◌+◌, ◌^◌, ℕ, not, is_none, List, [], ◌∷◌, length, map, filter, Option}
-use Rattle.std.specs.Prelude.{Some, None}
 use Rattle.std.specs.Int.{from_bool}
 use Rattle.std.specs.List.{Contains}
+use Rattle.std.specs.Prelude.{◌≡◌, ◌≢◌, ◌≤◌, ◌+◌, ◌^◌, ℕ, not, is_none, List, [], ◌∷◌, length, map, filter, Option}
+use Rattle.std.specs.Prelude.{Some, None}
 use Rattle.std.specs.Str.{IsUtf8}
 use Rattle.lexical_grammar.specs.declared.TokenKind.{TokenKind}
 use Rattle.apollo_parser.specs.Answers.{Answer, gives, limit_at, is_token, limited}
 use Rattle.apollo_parser.specs.Cut.{Cut}
 use Rattle.apollo_parser.specs.Diagnostics.{Diagnostic}
+use Rattle.apollo_parser.specs.Filled.{filled}
 use Rattle.apollo_parser.specs.Kinds.{ERROR}
 use Rattle.apollo_parser.specs.LexErrors.{AreLexErrors}
 use Rattle.apollo_parser.specs.Reads.{items_of}
 use Rattle.apollo_parser.specs.Sentence.{leaf_number}
+use Rattle.c_parsing.specs.Outcomes.{no_counts, OK, NOT_UTF8, TOO_LONG, NO_MEMORY}
+use Rattle.c_parsing.specs.Rows.{error_rows, messages}
 use Rattle.c_parsing.specs.declared.rows.Counts.{Counts}
 use Rattle.c_parsing.specs.declared.rows.ErrorRow.{ErrorRow}
 use Rattle.c_parsing.specs.declared.rows.ItemRow.{ItemRow}
-use Rattle.c_parsing.specs.Outcomes.{no_counts, OK, NOT_UTF8, TOO_LONG, NO_MEMORY}
-use Rattle.apollo_parser.specs.Filled.{filled}
-use Rattle.c_parsing.specs.Rows.{error_rows, messages}
 
 -- ---- rows
 

@@ -1,11 +1,14 @@
 -- What each call gives: for the status OK what it wrote, and for each other status why, and that it wrote nothing.
 -- `known` has all statuses that a call may end with; that memory was refused, `NO_MEMORY`, has no further reason.
-use Rattle.std.specs.Prelude.{◌≡◌, ◌≢◌, ◌<◌, ◌≤◌, ◌^◌, ◌⊎◌, ℕ, List, [], ◌∷◌, length}
 use Rattle.std.specs.List.{Contains}
+use Rattle.std.specs.Prelude.{◌≡◌, ◌≢◌, ◌<◌, ◌≤◌, ◌^◌, ◌⊎◌, ℕ, List, [], ◌∷◌, length}
 use Rattle.std.specs.Str.{IsUtf8}
 use Rattle.document_grammar.specs.declared.kind.SyntaxKind.TheVariants as kind
+use Rattle.apollo_tree.specs.declared.compact.CompactElement.{CompactElement}
 use Rattle.apollo_parser.specs.Answers.{limited}
+use Rattle.apollo_parser.specs.Compact.{compact_elements}
 use Rattle.apollo_parser.specs.Derivation.{selections, type}
+use Rattle.apollo_parser.specs.Filled.{filled}
 use Rattle.apollo_parser.specs.Forests.{Forest, none, node, text}
 use Rattle.apollo_parser.specs.Order.{order}
 use Rattle.apollo_parser.specs.Parsed.{Parsed}
@@ -14,14 +17,11 @@ use Rattle.apollo_parser.specs.Promise.{Promise, PartPromise}
 use Rattle.apollo_parser.specs.Reads.{items_of}
 use Rattle.apollo_parser.specs.StringValues.{IsStringValue}
 use Rattle.apollo_parser.specs.Tokens.{IsString}
+use Rattle.formatter.specs.Formatted.{IsFormatted, IsNoDocument, MayExceed}
+use Rattle.c_parsing.specs.Rows.{error_rows, messages}
 use Rattle.c_parsing.specs.declared.rows.ByteCount.{ByteCount}
 use Rattle.c_parsing.specs.declared.rows.Counts.{Counts}
-use Rattle.apollo_tree.specs.declared.compact.CompactElement.{CompactElement}
 use Rattle.c_parsing.specs.declared.rows.ErrorRow.{ErrorRow}
-use Rattle.formatter.specs.Formatted.{IsFormatted, IsNoDocument, MayExceed}
-use Rattle.apollo_parser.specs.Compact.{compact_elements}
-use Rattle.apollo_parser.specs.Filled.{filled}
-use Rattle.c_parsing.specs.Rows.{error_rows, messages}
 
 -- ---- statuses
 

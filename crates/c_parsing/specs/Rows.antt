@@ -1,7 +1,7 @@
 -- The rows that say the errors of a parse.
-use Rattle.std.specs.Prelude.{ℕ, ◌+◌, ◌<◌, ◌^◌, List, [], ◌∷◌, length}
 use Rattle.std.specs.Int.{from_bool}
 use Rattle.std.specs.List.{flat_map}
+use Rattle.std.specs.Prelude.{ℕ, ◌+◌, ◌<◌, ◌^◌, List, [], ◌∷◌, length}
 use Rattle.apollo_parser.specs.Diagnostics.{Diagnostic, diagnostic_end, is_end_subject, is_limit_subject}
 use Rattle.c_parsing.specs.declared.rows.ErrorRow.{ErrorRow}
 

@@ -1,15 +1,15 @@
 -- A second call, with the room that the first one counted.
 use Rattle.std.proofs.Common.{◌≡◌, ◌∙◌, ℕ, suc, List, [], ◌∷◌, length, map, refl, sym, ap, arith}
 use Rattle.std.specs.Prelude.{filter}
+use Rattle.apollo_parser.proofs.OneParse.{one-parse}
 use Rattle.apollo_parser.specs.Filled.{filled}
 use Rattle.apollo_parser.specs.Parsed.{Parsed}
-use Rattle.apollo_parser.proofs.OneParse.{one-parse}
 use Rattle.validation_names.specs.Definitions.{defined}
 use Rattle.cost_limits.specs.Measures.{AreMeasures, Measure, everything, is_operation}
 use Rattle.cost_limits.specs.declared.measures.MeasureError.{MeasureError}
 use Rattle.cost_limits.specs.declared.measures.MeasureError.TheVariants as error
-use Rattle.c_parsing.specs.Outcomes.{OK}
 use Rattle.c_parsing.proofs.Again.{filled-whole}
+use Rattle.c_parsing.specs.Outcomes.{OK}
 use Rattle.c_validation.specs.Again.{HoldMeasures}
 use Rattle.c_validation.specs.Outcomes.{IsDocumentParse, IsRefusal, MeasureOutcome, fault_counts, measure_counts, root}
 use Rattle.c_validation.specs.Outcomes.{measured, not_measurable, not_measured, no_memory, not_a_document, not_utf8}

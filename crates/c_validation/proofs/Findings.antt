@@ -1,26 +1,26 @@
 -- What is found of one document where all rules are selected.
 use Rattle.std.proofs.Common.{◌≡◌, ◌∙◌, ◌<◌, ap, sym, refl, subst, true, ℕ, [], ◌∷◌, length, map, arith}
 use Rattle.std.proofs.Common.{Option, None, Some, option_map}
-use Rattle.std.specs.Prelude.{◌↔◌}
 use Rattle.std.proofs.lemmas.List.{length-map}
+use Rattle.std.specs.Prelude.{◌↔◌}
 use Rattle.apollo_tree.specs.Order.{Place}
 use Rattle.apollo_tree.specs.References.{node_place}
 use Rattle.validation_names.specs.Sites.{Located, as_located}
 use Rattle.validation_names.specs.declared.sites.Site.{Site}
-use Rattle.validation_rules.specs.declared.violations.Rule.{Rule}
 use Rattle.validation_rules.specs.Parts.{operations, parts_in}
 use Rattle.validation_rules.specs.Selection.{is_selected_at}
 use Rattle.validation_rules.specs.Violations.{as_breach}
+use Rattle.validation_rules.specs.declared.violations.Rule.{Rule}
 use Rattle.variable_rules.proofs.WalkLemmas.{ends_once, ends_somewhere}
+use Rattle.document_validation.proofs.FoundLemmas.{all_selected}
 use Rattle.document_validation.specs.Breaches as validation
 use Rattle.document_validation.specs.Breaches.{AreValid, breaches, breaches_before}
 use Rattle.document_validation.specs.Validation.{AreDecided, AreValidIn, IsValidation}
 use Rattle.document_validation.specs.Validation.{operation_site}
 use Rattle.document_validation.specs.declared.validation.Validation.{Validation}
 use Rattle.document_validation.specs.declared.validation.ValidationOptions.{ValidationOptions}
-use Rattle.document_validation.proofs.FoundLemmas.{all_selected}
-use Rattle.c_validation.specs.Outcomes.{Found, IsFound, operation}
 use Rattle.c_validation.proofs.Reports.{no-violations}
+use Rattle.c_validation.specs.Outcomes.{Found, IsFound, operation}
 
 -- the node of the operation, and its place
 abbrev pub node_of : Option Site → Option Place

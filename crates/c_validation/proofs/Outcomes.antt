@@ -1,24 +1,24 @@
 -- What a call gives, by its status.
 use Rattle.std.proofs.Common.{◌≡◌, ◌∙◌, ℕ, List, length, map, ap, [], ◌∷◌, option_map}
 use Rattle.std.proofs.lemmas.List.{length-map}
+use Rattle.apollo_tree.specs.References.{node_place}
 use Rattle.apollo_parser.specs.Filled.{filled}
 use Rattle.apollo_parser.specs.Parsed.{Parsed}
-use Rattle.apollo_tree.specs.References.{node_place}
 use Rattle.validation_names.specs.Definitions.{defined}
 use Rattle.cost_limits.specs.Measures.{AreMeasures, IsMeasureError, Measure, everything}
 use Rattle.cost_limits.specs.declared.measures.MeasureError.{MeasureError}
 use Rattle.c_parsing.specs.Outcomes.{OK}
+use Rattle.c_validation.proofs.Reports.{length-rows}
+use Rattle.c_validation.specs.Outcomes.{IsDocumentParse, IsRefusal, IsReport, MeasureOutcome, ValidationOutcome}
+use Rattle.c_validation.specs.Outcomes.{ViolationBuffers, counts_of, fault_counts, limit_of, no_measures}
+use Rattle.c_validation.specs.Outcomes.{no_violations, root, violation_counts, measured}
+use Rattle.c_validation.specs.Outcomes.{not_measurable, not_measured, not_validated, validated}
+use Rattle.c_validation.specs.Rows.{messages, operation_row, violation_rows}
 use Rattle.c_validation.specs.declared.rows.MeasureCounts.{MeasureCounts}
 use Rattle.c_validation.specs.declared.rows.OperationRow.{OperationRow}
 use Rattle.c_validation.specs.declared.rows.ViolationCounts.{ViolationCounts}
 use Rattle.c_validation.specs.declared.rows.ViolationRow.{ViolationRow}
 use Rattle.c_validation.specs.declared.violation_rows.Report.{Report}
-use Rattle.c_validation.specs.Rows.{messages, operation_row, violation_rows}
-use Rattle.c_validation.specs.Outcomes.{IsDocumentParse, IsRefusal, IsReport, MeasureOutcome, ValidationOutcome}
-use Rattle.c_validation.specs.Outcomes.{ViolationBuffers, counts_of, fault_counts, limit_of, no_measures}
-use Rattle.c_validation.specs.Outcomes.{no_violations, root, violation_counts, measured}
-use Rattle.c_validation.specs.Outcomes.{not_measurable, not_measured, not_validated, validated}
-use Rattle.c_validation.proofs.Reports.{length-rows}
 
 pub no-validation : (source : List ℕ) (r k most steps status : ℕ) (before : ViolationBuffers)
     (counts : ViolationCounts)

@@ -1,13 +1,13 @@
 -- The rows of violations and their messages, one after another.
 use Rattle.std.proofs.Common.{◌≡◌, ◌∙◌, ◌<◌, ◌+◌, ap, sym, suc, ℕ, List, [], ◌∷◌, ◌++◌, length, map, take, get_or, refl}
 use Rattle.std.proofs.Common.{arith}
-use Rattle.std.proofs.lemmas.List.{append-nil, length-append, map_more}
 use Rattle.std.proofs.lemmas.Grind.{flat_map-append}
-use Rattle.validation_rules.specs.declared.violations.Violation.{Violation}
+use Rattle.std.proofs.lemmas.List.{append-nil, length-append, map_more}
 use Rattle.validation_rules.specs.Violations.{Breach, as_breach}
-use Rattle.c_validation.specs.declared.rows.ViolationRow.{ViolationRow}
+use Rattle.validation_rules.specs.declared.violations.Violation.{Violation}
 use Rattle.document_validation.specs.Messages.{message_of}
 use Rattle.c_validation.specs.Rows.{messages, violation_row, violation_rows}
+use Rattle.c_validation.specs.declared.rows.ViolationRow.{ViolationRow}
 
 rows-end : (offset : ℕ) (bs : List Breach) (b : Breach)
     → violation_rows offset (bs ++ b ∷ []) ≡ violation_rows offset bs

@@ -1,18 +1,18 @@
 -- A text is found to be valid exactly if it is.
 use Rattle.std.proofs.Common.{◌≡◌, ◌≢◌, ◌<◌, ap, arith, subst, refl, ℕ, List, [], ◌∷◌, length, Option, None, Some}
-use Rattle.std.specs.Prelude.{◌↔◌}
 use Rattle.std.proofs.lemmas.List.{nil_from_length}
-use Rattle.apollo_parser.specs.Parsed.{Parsed}
-use Rattle.apollo_parser.proofs.OneParse.{one-parse}
+use Rattle.std.specs.Prelude.{◌↔◌}
 use Rattle.apollo_tree.specs.Order.{Place}
+use Rattle.apollo_parser.proofs.OneParse.{one-parse}
+use Rattle.apollo_parser.specs.Parsed.{Parsed}
 use Rattle.document_validation.specs.Breaches.{AreValid}
 use Rattle.document_validation.specs.Validation.{AreDecided}
 use Rattle.c_parsing.specs.Outcomes.{NO_MEMORY, OK}
+use Rattle.c_validation.proofs.Again.{no-refusal}
 use Rattle.c_validation.specs.Outcomes.{IsDocumentParse, IsRefusal, ValidationOutcome, ViolationBuffers, end_status}
 use Rattle.c_validation.specs.Outcomes.{limit_of, no_memory, not_a_document, not_utf8, not_validated, root, validated}
 use Rattle.c_validation.specs.ValidTexts.{IsValidText}
 use Rattle.c_validation.specs.declared.rows.ViolationCounts.{ViolationCounts}
-use Rattle.c_validation.proofs.Again.{no-refusal}
 
 no-operation : (undecided : Option Place) → end_status undecided ≡ OK → undecided ≡ None
 no-operation None is = refl

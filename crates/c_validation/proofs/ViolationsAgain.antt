@@ -2,15 +2,17 @@
 use Rattle.std.proofs.Common.{◌≡◌, ◌∙◌, ◌<◌, ◌≤◌, ⊎_elim, [], ◌∷◌, ap, arith, sym, ℕ, List, length, refl, subst, take}
 use Rattle.std.proofs.Common.{Option, option_map}
 use Rattle.std.proofs.lemmas.Bool.{cases_lt}
-use Rattle.apollo_parser.specs.Parsed.{Parsed}
-use Rattle.apollo_parser.proofs.OneParse.{one-parse}
 use Rattle.apollo_tree.specs.Order.{Place}
-use Rattle.validation_rules.specs.Parts.{operations, parts_in}
+use Rattle.apollo_parser.proofs.OneParse.{one-parse}
+use Rattle.apollo_parser.specs.Parsed.{Parsed}
 use Rattle.validation_rules.proofs.TextOrderLemmas.{one_order}
+use Rattle.validation_rules.specs.Parts.{operations, parts_in}
 use Rattle.variable_rules.proofs.WalkLemmas.{ends_once}
 use Rattle.document_validation.specs.Breaches as validation
 use Rattle.document_validation.specs.Breaches.{breaches_before}
 use Rattle.c_parsing.proofs.Again.{filled-whole}
+use Rattle.c_validation.proofs.Again.{no-refusal}
+use Rattle.c_validation.proofs.Reports.{length-rows}
 use Rattle.c_validation.specs.Again.{HoldViolations}
 use Rattle.c_validation.specs.Outcomes.{Found, IsDocumentParse, IsFound, IsRefusal, IsValidated, UNDECIDED}
 use Rattle.c_validation.specs.Outcomes.{ValidationOutcome, ViolationBuffers, in_part, limit_of, no_memory}
@@ -18,8 +20,6 @@ use Rattle.c_validation.specs.Outcomes.{not_a_document, not_utf8, not_validated,
 use Rattle.c_validation.specs.Outcomes.{violation_counts, violations_written, whole}
 use Rattle.c_validation.specs.Rows.{messages, violation_rows}
 use Rattle.c_validation.specs.declared.rows.ViolationCounts.{ViolationCounts}
-use Rattle.c_validation.proofs.Again.{no-refusal}
-use Rattle.c_validation.proofs.Reports.{length-rows}
 
 -- ---- what is found is one
 module _ (most : ℕ) (limit : Option ℕ) (document : Place) (one other : Found)

@@ -3,9 +3,9 @@ use Rattle.std.specs.Prelude.{◌≡◌, ℕ, List, [], ◌∷◌, map}
 use Rattle.apollo_parser.specs.Parsed.{Parsed}
 use Rattle.validation_names.specs.Definitions.{defined}
 use Rattle.cost_limits.specs.Measures.{AreMeasures, Measure, everything}
-use Rattle.c_validation.specs.declared.rows.OperationRow.{OperationRow}
 use Rattle.c_validation.specs.Outcomes.{Found, IsDocumentParse, IsFound, ViolationBuffers, limit_of, root}
 use Rattle.c_validation.specs.Rows.{messages, operation_row, violation_rows}
+use Rattle.c_validation.specs.declared.rows.OperationRow.{OperationRow}
 
 -- The buffer holds all figures of the text's operations.
 pub record HoldMeasures (source : List ℕ) (max_depth max_items : ℕ) (buffer : List OperationRow) : Type 0 where

@@ -4,10 +4,10 @@
 use Rattle.std.specs.Prelude.{◌≡◌, ◌<◌, ◌≤◌, ◌-◌, ◌^◌, ◌==◌, ◌↔◌, ℕ, List, [], ◌∷◌, length, map, if◌then◌else◌}
 use Rattle.std.specs.Prelude.{Option, Some, None, option_map}
 use Rattle.std.specs.Str.{IsUtf8}
-use Rattle.apollo_parser.specs.Filled.{filled}
-use Rattle.apollo_parser.specs.Parsed.{Parsed}
 use Rattle.apollo_tree.specs.Order.{Place, range_at}
 use Rattle.apollo_tree.specs.References.{node_place}
+use Rattle.apollo_parser.specs.Filled.{filled}
+use Rattle.apollo_parser.specs.Parsed.{Parsed}
 use Rattle.formatter.specs.Formatted.{IsDocument}
 use Rattle.validation_names.specs.Definitions.{as_defined, defined}
 use Rattle.validation_rules.specs.Violations.{Breach}
@@ -18,12 +18,12 @@ use Rattle.cost_limits.specs.Measures.{AreMeasures, IsMeasureError, Measure, eve
 use Rattle.cost_limits.specs.declared.measures.MeasureError.{MeasureError}
 use Rattle.cost_limits.specs.declared.measures.MeasureError.TheVariants as error
 use Rattle.c_parsing.specs.Outcomes.{IsParse, OK, NOT_UTF8, NO_MEMORY, NOT_A_DOCUMENT}
+use Rattle.c_validation.specs.Rows.{messages, operation_row, range_of, violation_rows}
 use Rattle.c_validation.specs.declared.rows.MeasureCounts.{MeasureCounts}
 use Rattle.c_validation.specs.declared.rows.OperationRow.{OperationRow}
 use Rattle.c_validation.specs.declared.rows.ViolationCounts.{ViolationCounts}
 use Rattle.c_validation.specs.declared.rows.ViolationRow.{ViolationRow}
 use Rattle.c_validation.specs.declared.violation_rows.Report.{Report}
-use Rattle.c_validation.specs.Rows.{messages, operation_row, range_of, violation_rows}
 
 -- ---- statuses, beside those of `c_parsing`
 

@@ -1,9 +1,9 @@
 -- The rows that say the violations of a document, and the figures of its operations.
-use Rattle.std.specs.Prelude.{ℕ, ◌+◌, List, [], ◌∷◌, length, is_some, Option, Some, None, option_map}
 use Rattle.std.specs.Int.{from_bool}
 use Rattle.std.specs.List.{flat_map}
-use Rattle.document_grammar.specs.declared.kind.SyntaxKind.TheVariants.{NAME}
+use Rattle.std.specs.Prelude.{ℕ, ◌+◌, List, [], ◌∷◌, length, is_some, Option, Some, None, option_map}
 use Rattle.document_grammar.specs.Numbers.{is_kind}
+use Rattle.document_grammar.specs.declared.kind.SyntaxKind.TheVariants.{NAME}
 use Rattle.apollo_tree.specs.Order.{Place, range_at}
 use Rattle.apollo_cst_core.specs.Cast.{cast_children, first_of}
 use Rattle.validation_names.specs.Sites.{Located}

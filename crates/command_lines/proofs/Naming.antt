@@ -1,10 +1,10 @@
 -- Which word is wrong.
 use Rattle.std.proofs.Common.{◌≡◌, ℕ, suc, ◌-◌, ◌≤◌, List, [], ◌∷◌, length, take, drop, Bor, inl, subst, arith, Err}
 use Rattle.std.proofs.lemmas.List.{take_all}
-use Rattle.std.specs.Prelude.{◌⊎◌}
 use Rattle.std.specs.List.{Contains}
-use Rattle.command_lines.specs.Words.{texts}
+use Rattle.std.specs.Prelude.{◌⊎◌}
 use Rattle.command_lines.specs.Misuse.{IsAbout}
+use Rattle.command_lines.specs.Words.{texts}
 use Rattle.command_lines.specs.declared.misuse.WordsError.{WordsError}
 use Rattle.command_lines.specs.declared.misuse.WordsError.TheVariants.{Usage, Memory}
 

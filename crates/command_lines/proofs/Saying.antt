@@ -1,10 +1,10 @@
 -- A text that is said in two parts.
 use Rattle.std.proofs.Common.{◌≡◌, ℕ, inl, inr, List, ◌++◌, length-append, append_assoc, sym, ap, ◌∙◌, subst, arith}
+use Rattle.byte_streams.proofs.Accounts.{moved_moved}
 use Rattle.byte_streams.specs.Devices.{Account, moved, stopped, failed}
 use Rattle.byte_streams.specs.Writing.{IsBroken, EndsWriting}
 use Rattle.byte_streams.specs.declared.fault.Fault.{Fault}
 use Rattle.byte_streams.specs.declared.fault.Fault.TheVariants.{Read, Utf8, Memory, Write}
-use Rattle.byte_streams.proofs.Accounts.{moved_moved}
 use Rattle.command_lines.specs.Streams.{IsSaid}
 
 -- whatever the fault is called, the writer broke off

@@ -1,9 +1,9 @@
 -- What a program says of a text that it could not read, or not write about.
 use Rattle.std.specs.Prelude.{◌≡◌, ◌⊎◌, ℕ, List, [], ◌∷◌, ◌++◌, codes}
+use Rattle.marked_lines.specs.Escaping.{shown}
 use Rattle.byte_streams.specs.Devices.{Account}
 use Rattle.byte_streams.specs.declared.fault.Fault.{Fault}
 use Rattle.byte_streams.specs.declared.fault.Fault.TheVariants.{Read, Utf8, Memory, Write}
-use Rattle.marked_lines.specs.Escaping.{shown}
 use Rattle.command_lines.specs.Streams.{IsSaid, no_memory}
 use Rattle.command_lines.specs.declared.complaints.FileFault.{FileFault}
 use Rattle.command_lines.specs.declared.complaints.FileFault.TheVariants.{NotRead, NotReplaced, Device}

@@ -1,11 +1,11 @@
 -- The words of `gqlfmt`: options and files in any order, each option at most once; or a page of the program.
 use Rattle.std.specs.Prelude.{ℕ, List, codes, bytes_eq, map, if◌then◌else◌, Option, unwrap_or}
-use Rattle.command_lines.specs.declared.gqlfmt.Mode.{Mode}
-use Rattle.command_lines.specs.declared.gqlfmt.Mode.TheVariants.{Write, Check, Diff, Print}
 use Rattle.command_lines.specs.FilePrograms as files
 use Rattle.command_lines.specs.Options.{Given, number, text}
 use Rattle.command_lines.specs.declared.gqlfmt.LineEndings.{LineEndings}
 use Rattle.command_lines.specs.declared.gqlfmt.LineEndings.TheVariants.{Lf, Crlf, Keep}
+use Rattle.command_lines.specs.declared.gqlfmt.Mode.{Mode}
+use Rattle.command_lines.specs.declared.gqlfmt.Mode.TheVariants.{Write, Check, Diff, Print}
 use Rattle.command_lines.specs.declared.gqlfmt.TheConstants.{INPUT, OPTIONS}
 use Rattle.command_lines.specs.declared.information.Request.{Request}
 

@@ -1,6 +1,6 @@
 -- What is said of a word that is wrong.
-use Rattle.std.specs.Prelude.{◌≡◌, ◌⊎◌, ℕ, List, [], ◌++◌, codes, Result, Ok, Err}
 use Rattle.std.specs.List.{Contains}
+use Rattle.std.specs.Prelude.{◌≡◌, ◌⊎◌, ℕ, List, [], ◌++◌, codes, Result, Ok, Err}
 use Rattle.marked_lines.specs.Escaping.{shown}
 use Rattle.command_lines.specs.declared.misuse.Mistake.{Mistake}
 use Rattle.command_lines.specs.declared.misuse.Mistake.TheVariants.{Unknown, NoOption, UnknownMode, NoMode, NoValue}

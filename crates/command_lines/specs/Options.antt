@@ -1,8 +1,8 @@
 -- The words of a command line: options, each at most once, and files or standard input where a program takes some. A
 -- program's options are a table.
+use Rattle.std.specs.List.{find}
 use Rattle.std.specs.Prelude.{ℕ, Bool, false, true, ◌==◌, ◌&&◌, ◌||◌, not, List, [], ◌∷◌, ◌++◌, codes, bytes_eq}
 use Rattle.std.specs.Prelude.{if◌then◌else◌, Option, Some, None, option_and_then, option_map, unwrap_or, is_some}
-use Rattle.std.specs.List.{find}
 use Rattle.apollo_lexer.specs.Limits.{default_limits}
 use Rattle.apollo_lexer.specs.declared.limits.Limits.{Limits}
 use Rattle.command_lines.specs.Numbers.{number_of}

@@ -1,6 +1,6 @@
 -- An option and its value in one word: `--name=value`.
-use Rattle.std.specs.Prelude.{ℕ, Bool, ◌==◌, not, List, length}
 use Rattle.std.specs.List.{after_first, before_first, position_or_len}
+use Rattle.std.specs.Prelude.{ℕ, Bool, ◌==◌, not, List, length}
 
 abbrev pub is_equals : ℕ → Bool
 is_equals b = b == 61

@@ -1,18 +1,18 @@
 -- What has an expansion has one only, leads into no cycle, and leads to no fragment that is not there.
 use Rattle.std.proofs.Common.{◌≡◌, ℕ, zero, suc, ◌<◌, List, [], ◌∷◌, ◌++◌, length, get_or, refl, sym, ap, subst, ◌∙◌}
 use Rattle.std.proofs.Common.{arith, append_assoc, false}
-use Rattle.std.specs.Prelude.{All, Contains}
 use Rattle.std.proofs.lemmas.List.Elements.{Contains-get_or, All-get_or}
+use Rattle.std.specs.Prelude.{All, Contains}
 use Rattle.cost_figures.specs.Expansion.{Expands, nothing, other, spread, is_spread, definition, within, Spreads, Leads}
 use Rattle.cost_figures.specs.Expansion.{here, onward, Reaches}
 use Rattle.cost_figures.specs.Outcome.{IsMeasured, AreMeasured, none, next, Explains, ExplainsAny}
 use Rattle.cost_figures.specs.Walks.{Measured}
+use Rattle.cost_figures.specs.declared.figures.Figures.{Figures}
+use Rattle.cost_figures.specs.declared.items.Item.{Item}
+use Rattle.cost_figures.specs.declared.items.Item.TheVariants.{Field, ResponseName, Alias, Directive, Spread}
+use Rattle.cost_figures.specs.declared.items.Span.{Span}
 use Rattle.cost_figures.specs.declared.walk.Fault.{Fault}
 use Rattle.cost_figures.specs.declared.walk.Fault.TheVariants.{Cycle, Undefined, Memory}
-use Rattle.cost_figures.specs.declared.items.Item.{Item}
-use Rattle.cost_figures.specs.declared.items.Span.{Span}
-use Rattle.cost_figures.specs.declared.items.Item.TheVariants.{Field, ResponseName, Alias, Directive, Spread}
-use Rattle.cost_figures.specs.declared.figures.Figures.{Figures}
 
 pub Expands-append : {d : List (List Item)} {xs ys us vs : List Item} → Expands d xs ys → Expands d us vs
     → Expands d (xs ++ us) (ys ++ vs)

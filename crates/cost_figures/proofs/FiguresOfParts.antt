@@ -5,9 +5,9 @@ use Rattle.std.proofs.lemmas.List.Sums.{sum_by-append, sum_by-cons}
 use Rattle.cost_figures.specs.Counts.{is_field, is_root_field, is_response_name, is_root_response_name, is_alias}
 use Rattle.cost_figures.specs.Counts.{is_directive, depth, root_part, lowered, capped, figures_of}
 use Rattle.cost_figures.specs.Expansion.{below, within}
+use Rattle.cost_figures.specs.declared.figures.Figures.{Figures}
 use Rattle.cost_figures.specs.declared.items.Item.{Item}
 use Rattle.cost_figures.specs.declared.items.Item.TheVariants.{Field, ResponseName, Alias, Directive, Spread}
-use Rattle.cost_figures.specs.declared.figures.Figures.{Figures}
 
 -- ---- joined lists
 

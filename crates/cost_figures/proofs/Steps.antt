@@ -4,21 +4,21 @@ use Rattle.std.proofs.Common.{set, get_or, refl, sym, ap, subst, ◌∙◌, arit
 use Rattle.std.proofs.lemmas.Bool.{cases_lt}
 use Rattle.std.proofs.lemmas.List.{get_or-set_same, get_or-set_other, take_more, take_all, length-set, append-nil}
 use Rattle.std.proofs.lemmas.List.{get_or_read, get_or_past, get_or-replicate, length-replicate}
+use Rattle.cost_figures.proofs.Expansions.{Expands-append}
 use Rattle.cost_figures.specs.Counts.{figures_of}
 use Rattle.cost_figures.specs.Expansion.{Expands, nothing, other, spread, is_spread, definition, within, Spreads, Leads}
 use Rattle.cost_figures.specs.Expansion.{here, onward}
 use Rattle.cost_figures.specs.Outcome.{IsCycle, IsUndefined}
 use Rattle.cost_figures.specs.Walks.{Measured, IsAt, IsFrame, IsPast, WaitsAt, Path, start, deeper, first, root, Among}
 use Rattle.cost_figures.specs.Walks.{mark, Noted, Sound, Idle, Finished, untouched, left_in, left_in_all, Goes}
-use Rattle.cost_figures.specs.declared.items.Item.{Item}
-use Rattle.cost_figures.specs.declared.items.Span.{Span}
-use Rattle.cost_figures.specs.declared.items.Item.TheVariants.{Spread}
 use Rattle.cost_figures.specs.declared.figures.Figures.{Figures}
+use Rattle.cost_figures.specs.declared.items.Item.{Item}
+use Rattle.cost_figures.specs.declared.items.Item.TheVariants.{Spread}
+use Rattle.cost_figures.specs.declared.items.Span.{Span}
 use Rattle.cost_figures.specs.declared.walk.Frame.{Frame}
-use Rattle.cost_figures.specs.declared.walk.OpenDefinitions.{OpenDefinitions}
 use Rattle.cost_figures.specs.declared.walk.Mark.{Mark}
 use Rattle.cost_figures.specs.declared.walk.Mark.TheVariants.{Untouched, Open, Done}
-use Rattle.cost_figures.proofs.Expansions.{Expands-append}
+use Rattle.cost_figures.specs.declared.walk.OpenDefinitions.{OpenDefinitions}
 
 same_or_not : (m n : ℕ) → (m ≡ n) ⊎ (m ≢ n)
 same_or_not m n = elim (cases_lt m n) [

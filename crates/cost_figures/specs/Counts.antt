@@ -1,8 +1,8 @@
 -- The figures of a list of items.
 use Rattle.std.specs.Prelude.{ℕ, zero, suc, ◌+◌, ◌-◌, ◌^◌, max, min, Bool, true, false, List, [], ◌∷◌, count_by}
+use Rattle.cost_figures.specs.declared.figures.Figures.{Figures}
 use Rattle.cost_figures.specs.declared.items.Item.{Item}
 use Rattle.cost_figures.specs.declared.items.Item.TheVariants.{Field, ResponseName, Alias, Directive}
-use Rattle.cost_figures.specs.declared.figures.Figures.{Figures}
 
 abbrev pub is_field : Item → Bool
 is_field (Field e) = true

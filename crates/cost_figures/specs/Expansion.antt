@@ -5,8 +5,8 @@
 use Rattle.std.specs.Prelude.{ℕ, ◌+◌, ◌<◌, ◌≡◌, Bool, true, false, List, [], ◌∷◌, ◌++◌, length, map, slice_index_or}
 use Rattle.std.specs.Prelude.{Contains}
 use Rattle.cost_figures.specs.declared.items.Item.{Item}
-use Rattle.cost_figures.specs.declared.items.Span.{Span}
 use Rattle.cost_figures.specs.declared.items.Item.TheVariants.{Field, ResponseName, Alias, Directive, Spread}
+use Rattle.cost_figures.specs.declared.items.Span.{Span}
 
 -- the definition with a number
 abbrev pub definition : List (List Item) → ℕ → List Item

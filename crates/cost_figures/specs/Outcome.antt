@@ -1,13 +1,13 @@
 -- What the figures of a definition are, and why there are none.
 use Rattle.std.specs.Prelude.{ℕ, ◌<◌, ◌≤◌, ◌≡◌, List, [], ◌∷◌, length, Contains}
-use Rattle.cost_figures.specs.declared.items.Item.{Item}
-use Rattle.cost_figures.specs.declared.items.Span.{Span}
-use Rattle.cost_figures.specs.declared.items.Item.TheVariants.{Spread}
+use Rattle.cost_figures.specs.Counts.{figures_of}
+use Rattle.cost_figures.specs.Expansion.{Expands, definition, Spreads, Leads, Reaches}
 use Rattle.cost_figures.specs.declared.figures.Figures.{Figures}
+use Rattle.cost_figures.specs.declared.items.Item.{Item}
+use Rattle.cost_figures.specs.declared.items.Item.TheVariants.{Spread}
+use Rattle.cost_figures.specs.declared.items.Span.{Span}
 use Rattle.cost_figures.specs.declared.walk.Fault.{Fault}
 use Rattle.cost_figures.specs.declared.walk.Fault.TheVariants.{Cycle, Undefined, Memory}
-use Rattle.cost_figures.specs.Expansion.{Expands, definition, Spreads, Leads, Reaches}
-use Rattle.cost_figures.specs.Counts.{figures_of}
 
 -- `f` are the figures of the expansion of the definition `r`
 pub record IsMeasured (d : List (List Item)) (r : ℕ) (f : Figures) : Type 0 where

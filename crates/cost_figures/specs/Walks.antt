@@ -1,16 +1,16 @@
 -- What the walk over the definitions keeps true.
 use Rattle.std.specs.Prelude.{ℕ, ◌+◌, ◌-◌, ◌<◌, ◌≤◌, ◌≡◌, List, [], ◌∷◌, ◌++◌, length, take, slice_index_or, ◌⊎◌, Bool}
 use Rattle.std.specs.Prelude.{MatchBool}
-use Rattle.cost_figures.specs.declared.items.Item.{Item}
-use Rattle.cost_figures.specs.declared.items.Span.{Span}
-use Rattle.cost_figures.specs.declared.items.Item.TheVariants.{Spread}
+use Rattle.cost_figures.specs.Counts.{figures_of}
+use Rattle.cost_figures.specs.Expansion.{Expands, definition}
 use Rattle.cost_figures.specs.declared.figures.Figures.{Figures}
+use Rattle.cost_figures.specs.declared.items.Item.{Item}
+use Rattle.cost_figures.specs.declared.items.Item.TheVariants.{Spread}
+use Rattle.cost_figures.specs.declared.items.Span.{Span}
 use Rattle.cost_figures.specs.declared.walk.Frame.{Frame}
-use Rattle.cost_figures.specs.declared.walk.OpenDefinitions.{OpenDefinitions}
 use Rattle.cost_figures.specs.declared.walk.Mark.{Mark}
 use Rattle.cost_figures.specs.declared.walk.Mark.TheVariants.{Untouched, Open, Done}
-use Rattle.cost_figures.specs.Expansion.{Expands, definition}
-use Rattle.cost_figures.specs.Counts.{figures_of}
+use Rattle.cost_figures.specs.declared.walk.OpenDefinitions.{OpenDefinitions}
 
 -- `f` are the figures of an expansion of `xs`
 pub record Measured (d : List (List Item)) (xs : List Item) (f : Figures) : Type 0 where

@@ -1,15 +1,15 @@
 -- The first fragments of names.
 use Rattle.std.proofs.Common.{◌≡◌, ℕ, ◌<◌, ◌≤◌, List, length, map, get_or, Bool, true, false, ltb, cond, Option, Some}
 use Rattle.std.proofs.Common.{None, inl, inr, refl, sym, ap, ◌∙◌, subst, arith, bytes_eq}
-use Rattle.std.specs.Prelude.{IfNone}
-use Rattle.std.specs.List.{position_or_len}
 use Rattle.std.proofs.lemmas.Bool.{cases_lt}
 use Rattle.std.proofs.lemmas.Bool.Decides.{nat_tests}
 use Rattle.std.proofs.lemmas.List.{get_or-map, length-map}
 use Rattle.std.proofs.lemmas.List.Sums.{fails_before_first}
 use Rattle.std.proofs.lemmas.Slice.Eq.{bytes_eq-Decides}
-use Rattle.validation_names.specs.Names.{Name, Entries, entry_of, has_name, first_number, AreFirstNumbers}
+use Rattle.std.specs.List.{position_or_len}
+use Rattle.std.specs.Prelude.{IfNone}
 use Rattle.validation_names.specs.Definitions.{as_defined, fragment_name, fragment_names}
+use Rattle.validation_names.specs.Names.{Name, Entries, entry_of, has_name, first_number, AreFirstNumbers}
 use Rattle.validation_names.specs.declared.executables.ExecutableDefinition.{ExecutableDefinition}
 use Rattle.cost_limits.specs.Measures.{IsFirst, IsSecond}
 

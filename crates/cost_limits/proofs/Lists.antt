@@ -2,37 +2,37 @@
 use Rattle.std.proofs.Common.{◌≡◌, ℕ, suc, ◌+◌, ◌<◌, ◌≤◌, List, [], ◌∷◌, ◌++◌, length, map, take, get_or, Bool, true}
 use Rattle.std.proofs.Common.{false, cond, Option, Some, None, unwrap_or, refl, sym, ap, ap₂, ◌∙◌, subst, arith, ltb}
 use Rattle.std.proofs.Common.{◌-◌, ◌^◌}
-use Rattle.std.specs.Prelude.{find}
-use Rattle.std.specs.Prelude.{All}
-use Rattle.std.specs.List.{filter}
+use Rattle.std.proofs.lemmas.Bool.Decides.{nat_tests}
 use Rattle.std.proofs.lemmas.List.{length-map, take_more, map-append, append-nil, length-take}
 use Rattle.std.proofs.lemmas.List.Elements.{All-cons, filter-append}
-use Rattle.std.proofs.lemmas.Bool.Decides.{nat_tests}
+use Rattle.std.specs.List.{filter}
+use Rattle.std.specs.Prelude.{find}
+use Rattle.std.specs.Prelude.{All}
+use Rattle.document_grammar.specs.Forests.{Forest, none as no_tree, leaf, node, count}
+use Rattle.document_grammar.specs.Numbers.{is_kind}
+use Rattle.document_grammar.specs.declared.kind.SyntaxKind.TheVariants.{FIELD, ALIAS, DIRECTIVE, FRAGMENT_SPREAD}
+use Rattle.document_grammar.specs.declared.kind.SyntaxKind.TheVariants.{FRAGMENT_NAME}
+use Rattle.apollo_tree.specs.Order.{Place, tree_at, tree_kids, kind_at}
+use Rattle.apollo_tree.specs.References.{node_place}
+use Rattle.validation_names.specs.Definitions.{Defined, as_defined, fragment_names}
+use Rattle.validation_names.specs.Mentions.{name_in}
+use Rattle.validation_names.specs.Names.{Name, Entries, AreFirstNumbers}
+use Rattle.validation_names.specs.Sites.{Located, as_located, located}
+use Rattle.validation_names.specs.declared.executables.ExecutableDefinition.{ExecutableDefinition}
+use Rattle.cost_figures.specs.Limiting.{figure_of, limits_in_order}
+use Rattle.cost_figures.specs.Outcome.{AreMeasured, none, next}
 use Rattle.cost_figures.specs.declared.figures.Figures.{Figures}
+use Rattle.cost_figures.specs.declared.items.Item.{Item}
+use Rattle.cost_figures.specs.declared.items.Item.TheVariants.{Alias, Directive, Spread}
 use Rattle.cost_figures.specs.declared.limits.Limit.{Limit}
 use Rattle.cost_figures.specs.declared.limits.Limit.TheVariants.{Depth, Fields, RootFields, Aliases, Directives, Height}
 use Rattle.cost_figures.specs.declared.limits.Limit.TheVariants.{DistinctRootFields}
-use Rattle.cost_figures.specs.Limiting.{figure_of, limits_in_order}
-use Rattle.cost_figures.specs.Outcome.{AreMeasured, none, next}
-use Rattle.cost_figures.specs.declared.items.Item.{Item}
-use Rattle.cost_figures.specs.declared.items.Item.TheVariants.{Alias, Directive, Spread}
-use Rattle.document_grammar.specs.declared.kind.SyntaxKind.TheVariants.{FIELD, ALIAS, DIRECTIVE, FRAGMENT_SPREAD}
-use Rattle.document_grammar.specs.declared.kind.SyntaxKind.TheVariants.{FRAGMENT_NAME}
-use Rattle.document_grammar.specs.Forests.{Forest, none as no_tree, leaf, node, count}
-use Rattle.document_grammar.specs.Numbers.{is_kind}
-use Rattle.apollo_tree.specs.Order.{Place, tree_at, tree_kids, kind_at}
-use Rattle.apollo_tree.specs.References.{node_place}
-use Rattle.validation_names.specs.Names.{Name, Entries, AreFirstNumbers}
-use Rattle.validation_names.specs.Sites.{Located, as_located, located}
-use Rattle.validation_names.specs.Mentions.{name_in}
-use Rattle.validation_names.specs.Definitions.{Defined, as_defined, fragment_names}
-use Rattle.validation_names.specs.declared.executables.ExecutableDefinition.{ExecutableDefinition}
-use Rattle.cost_limits.specs.declared.introspection.Introspection.{Introspection}
+use Rattle.cost_limits.specs.Collecting.{number_of}
 use Rattle.cost_limits.specs.Items.{field_items, is_counted, is_new, response_name, span_at, items_of as own_items}
 use Rattle.cost_limits.specs.Items.{seen_after, inside, items_below, definition_items}
-use Rattle.cost_limits.specs.Collecting.{number_of}
-use Rattle.cost_limits.specs.Measures.{Measure, number_in, items_of, is_measured, operations}
 use Rattle.cost_limits.specs.Limits.{exceeded_by, IsWithin}
+use Rattle.cost_limits.specs.Measures.{Measure, number_in, items_of, is_measured, operations}
+use Rattle.cost_limits.specs.declared.introspection.Introspection.{Introspection}
 
 first_none : (p : Limit → Bool) (x : Limit) (xs : List Limit) → find p (x ∷ xs) ≡ None
     → (p x ≡ false) × (find p xs ≡ None)

@@ -1,27 +1,27 @@
 -- Parts of a tree's order: their first node, and the children of an element.
 use Rattle.std.proofs.Common.{◌≡◌, ℕ, suc, ◌+◌, ◌<◌, ◌≤◌, List, [], ◌∷◌, ◌++◌, length, get_or, map, refl, sym, ap, ◌∙◌}
 use Rattle.std.proofs.Common.{subst, arith, Option, Some, None, Bool, true, false, cond}
-use Rattle.std.specs.List.{filter}
 use Rattle.std.proofs.lemmas.List.{append_assoc, append-nil, length-append, get_or_at}
-use Rattle.document_grammar.specs.declared.kind.SyntaxKind.{SyntaxKind}
-use Rattle.document_grammar.specs.declared.kind.SyntaxKind.TheVariants.{FIELD}
+use Rattle.std.specs.List.{filter}
 use Rattle.document_grammar.specs.Forests.{Forest, none, leaf, node, Leaf, Node, text, count}
 use Rattle.document_grammar.specs.Numbers.{is_kind}
-use Rattle.apollo_tree.specs.Order.{Element, Place, element, order_from, order, nowhere, places, tree_at, tree_kids}
-use Rattle.apollo_tree.specs.Order.{kind_at, is_node}
-use Rattle.apollo_tree.specs.Children.{child_nodes, is_node_place}
-use Rattle.apollo_tree.specs.References.{node_place}
-use Rattle.apollo_tree.specs.ReadBack.{length-records}
-use Rattle.apollo_tree.specs.declared.node.SyntaxNode.{SyntaxNode}
+use Rattle.document_grammar.specs.declared.kind.SyntaxKind.{SyntaxKind}
+use Rattle.document_grammar.specs.declared.kind.SyntaxKind.TheVariants.{FIELD}
 use Rattle.apollo_tree.proofs.Parts.{part}
 use Rattle.apollo_tree.proofs.Places.{length-order}
+use Rattle.apollo_tree.specs.Children.{child_nodes, is_node_place}
+use Rattle.apollo_tree.specs.Order.{Element, Place, element, order_from, order, nowhere, places, tree_at, tree_kids}
+use Rattle.apollo_tree.specs.Order.{kind_at, is_node}
+use Rattle.apollo_tree.specs.ReadBack.{length-records}
+use Rattle.apollo_tree.specs.References.{node_place}
+use Rattle.apollo_tree.specs.declared.node.SyntaxNode.{SyntaxNode}
 use Rattle.validation_names.specs.Names.{Name, Entries}
 use Rattle.validation_names.specs.Sites.{Located, located}
 use Rattle.cost_figures.specs.declared.items.Item.{Item}
-use Rattle.cost_limits.specs.declared.introspection.Introspection.{Introspection}
+use Rattle.cost_limits.specs.Collecting.{ArePart, nodes_from, AreNames, IsLeft, IsNoted, Adds}
 use Rattle.cost_limits.specs.Items.{spot as at, items_of, inside, is_counted, seen_after, items_below, items_inside}
 use Rattle.cost_limits.specs.Items.{is_among, is_new, with_name, response_name, field_items, other_items}
-use Rattle.cost_limits.specs.Collecting.{ArePart, nodes_from, AreNames, IsLeft, IsNoted, Adds}
+use Rattle.cost_limits.specs.declared.introspection.Introspection.{Introspection}
 
 regroup : (xs ys zs us : List Element) (e : Element) → xs ++ ((e ∷ (ys ++ zs)) ++ us) ≡ (xs ++ (e ∷ ys)) ++ (zs ++ us)
 regroup xs ys zs us e = simp append_assoc

@@ -6,8 +6,8 @@ use Rattle.apollo_tree.specs.Order.{Element, Place, order, order_from}
 use Rattle.validation_names.specs.Names.{Name, Entries, entry_of}
 use Rattle.validation_names.specs.Sites.{Located}
 use Rattle.cost_figures.specs.declared.items.Item.{Item}
-use Rattle.cost_limits.specs.declared.introspection.Introspection.{Introspection}
 use Rattle.cost_limits.specs.Items.{spot, is_among, is_new, with_name, items_of, seen_after, items_below}
+use Rattle.cost_limits.specs.declared.introspection.Introspection.{Introspection}
 
 -- the number that a fragment's name has in a map
 abbrev pub number_of : Entries ℕ → Option Name → ℕ

@@ -1,16 +1,16 @@
 -- The items of an operation or a fragment of one of some documents, in the order of the text.
+use Rattle.std.specs.List.{list_any}
 use Rattle.std.specs.Prelude.{ℕ, suc, ◌+◌, List, [], ◌∷◌, ◌++◌, Bool, true, false, not, ◌&&◌, ◌||◌, if◌then◌else◌}
 use Rattle.std.specs.Prelude.{Option, Some, None, bytes_eq, codes}
-use Rattle.std.specs.List.{list_any}
-use Rattle.document_grammar.specs.declared.kind.SyntaxKind.TheVariants.{FIELD, ALIAS, DIRECTIVE, FRAGMENT_SPREAD}
-use Rattle.document_grammar.specs.declared.kind.SyntaxKind.TheVariants.{FRAGMENT_NAME}
 use Rattle.document_grammar.specs.Forests.{Forest, none, leaf, node, count}
 use Rattle.document_grammar.specs.Numbers.{is_kind}
+use Rattle.document_grammar.specs.declared.kind.SyntaxKind.TheVariants.{FIELD, ALIAS, DIRECTIVE, FRAGMENT_SPREAD}
+use Rattle.document_grammar.specs.declared.kind.SyntaxKind.TheVariants.{FRAGMENT_NAME}
 use Rattle.apollo_tree.specs.Order.{Place, tree_at, tree_kids, kind_at, range_at}
 use Rattle.apollo_cst_core.specs.Cast.{cast_children, first_of}
+use Rattle.validation_names.specs.Mentions.{name_of, name_in}
 use Rattle.validation_names.specs.Names.{Name}
 use Rattle.validation_names.specs.Sites.{Located, located}
-use Rattle.validation_names.specs.Mentions.{name_of, name_in}
 use Rattle.cost_figures.specs.declared.items.Item.{Item}
 use Rattle.cost_figures.specs.declared.items.Item.TheVariants.{Field, ResponseName, Alias, Directive, Spread}
 use Rattle.cost_figures.specs.declared.items.Span.{Span}

@@ -1,11 +1,11 @@
 -- The limits that operations exceed.
 use Rattle.std.specs.Prelude.{◌≡◌, ◌<◌, ◌≤◌, ℕ, List, length, take, find, nat_lt, All, Option, Some, slice_index_or}
+use Rattle.validation_names.specs.Definitions.{as_defined}
+use Rattle.cost_figures.specs.Limiting.{figure_of, limits_in_order}
 use Rattle.cost_figures.specs.declared.figures.Figures.{Figures}
 use Rattle.cost_figures.specs.declared.limits.Limit.{Limit}
-use Rattle.cost_figures.specs.Limiting.{figure_of, limits_in_order}
 use Rattle.cost_limits.specs.Measures.{Measure}
 use Rattle.cost_limits.specs.declared.limits.Exceeded.{Exceeded}
-use Rattle.validation_names.specs.Definitions.{as_defined}
 
 -- the first limit that figures exceed
 abbrev pub exceeded_by : Figures → Figures → Option Limit

@@ -1,20 +1,20 @@
 -- The figures of the operations of some documents, and why there are none.
+use Rattle.std.specs.List.{filter}
 use Rattle.std.specs.Prelude.{◌≡◌, ℕ, suc, ◌-◌, ◌^◌, ◌<◌, List, [], ◌∷◌, length, map, Bool, true, false, if◌then◌else◌}
 use Rattle.std.specs.Prelude.{◌&&◌, nat_lt, Option, Some, None, unwrap_or, slice_index_or, Contains}
-use Rattle.std.specs.List.{filter}
-use Rattle.validation_names.specs.Names.{Name, first_number}
 use Rattle.validation_names.specs.Definitions.{Defined, as_defined, fragment_names}
+use Rattle.validation_names.specs.Names.{Name, first_number}
 use Rattle.validation_names.specs.declared.executables.DefinitionKind.TheVariants.{Operation, Fragment}
-use Rattle.cost_figures.specs.declared.items.Item.{Item}
-use Rattle.cost_figures.specs.declared.figures.Figures.{Figures}
 use Rattle.cost_figures.specs.Outcome.{AreMeasured, IsCycle, IsUndefined}
+use Rattle.cost_figures.specs.declared.figures.Figures.{Figures}
+use Rattle.cost_figures.specs.declared.items.Item.{Item}
 use Rattle.cost_limits.specs.Items.{definition_items}
 use Rattle.cost_limits.specs.declared.introspection.Introspection.{Introspection}
 use Rattle.cost_limits.specs.declared.introspection.Introspection.TheVariants.{Counted}
-use Rattle.cost_limits.specs.declared.measures.MeasureOptions.{MeasureOptions}
-use Rattle.cost_limits.specs.declared.measures.OperationFigures.{OperationFigures}
 use Rattle.cost_limits.specs.declared.measures.MeasureError.{MeasureError}
 use Rattle.cost_limits.specs.declared.measures.MeasureError.TheVariants.{SameName, Cycle, Undefined, Memory}
+use Rattle.cost_limits.specs.declared.measures.MeasureOptions.{MeasureOptions}
+use Rattle.cost_limits.specs.declared.measures.OperationFigures.{OperationFigures}
 
 -- the number of the first fragment of a name; where there is none, a number that no definition has
 abbrev pub number_in : List (Option Name) → Option Name → ℕ

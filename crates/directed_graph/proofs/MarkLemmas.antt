@@ -2,13 +2,13 @@
 use Rattle.std.proofs.Common.{◌≡◌, ◌≢◌, ℕ, ◌<◌, ◌+◌, List, [], ◌∷◌, ◌++◌, length, get_or, set, Bool, true, false}
 use Rattle.std.proofs.Common.{not, cond, arith, sym, ◌∙◌, refl, inl}
 use Rattle.std.proofs.Common.{inr, ⊎_elim, append_assoc, length-append, length-set, get_or-set_same, get_or-set_other}
-use Rattle.std.specs.List.{Contains}
 use Rattle.std.proofs.lemmas.Bool.{cases_eq}
 use Rattle.std.proofs.lemmas.List.{get_or_default}
-use Rattle.std.proofs.lemmas.List.Sums.{sum_by-set}
 use Rattle.std.proofs.lemmas.List.Elements.{Contains-append_cases, Contains-append_left, Contains-get_or, Contains-push}
 use Rattle.std.proofs.lemmas.List.Elements.{Contains-push_cases}
 use Rattle.std.proofs.lemmas.List.Quantifiers.{all_pairs_push}
+use Rattle.std.proofs.lemmas.List.Sums.{sum_by-set}
+use Rattle.std.specs.List.{Contains}
 use Rattle.directed_graph.specs.Marks.{AreMarked, IsMarked, MarksAll, Unmarks, unmarked}
 
 pub marks_old :

@@ -1,12 +1,12 @@
 -- Components that passed the tests: an edge leads back exactly if both its ends are in one component.
 use Rattle.std.proofs.Common.{◌+◌, ◌++◌, Option, None, get_or, length-append, ◌≡◌, ◌≢◌, ℕ, zero, suc, ◌<◌, ◌≤◌, List}
 use Rattle.std.proofs.Common.{[], ◌∷◌, length, arith, refl, sym, ⊎_elim}
-use Rattle.std.specs.List.{Contains}
 use Rattle.std.proofs.lemmas.Bool.{cases_eq, cases_lt}
 use Rattle.std.proofs.lemmas.Grind.{common_steps}
-use Rattle.directed_graph.specs.declared.components.Part.{Part}
+use Rattle.std.specs.List.{Contains}
 use Rattle.directed_graph.specs.Graph.{Graph, HasEdge, IsClosed, Reached, start, next}
 use Rattle.directed_graph.specs.Parts.{part_of, AreSound}
+use Rattle.directed_graph.specs.declared.components.Part.{Part}
 
 -- the other vertex is this one, or edges lead from it to this one
 abbrev pub LeadsTo : Graph → ℕ → ℕ → Type 0

@@ -1,13 +1,13 @@
 -- The test decides what is reached: as many steps as there are vertices lead to all of it.
 use Rattle.std.proofs.Common.{◌≡◌, ◌⊎◌, ℕ, zero, suc, ◌+◌, ◌<◌, ◌≤◌, List, [], ◌∷◌, ◌++◌, length, get_or, eqb, Bool}
 use Rattle.std.proofs.Common.{true, false, ◌||◌, arith, refl, sym, inl, inr, ⊎_elim, eqb-true, eq-eqb}
-use Rattle.std.specs.Bool.{Decides}
-use Rattle.std.specs.List.{All, Contains, flat_map, list_any}
 use Rattle.std.proofs.lemmas.List.Elements.{Contains-append_cases, Contains-append_left, Contains-append_right}
 use Rattle.std.proofs.lemmas.List.Elements.{Contains-get_or}
+use Rattle.std.specs.Bool.{Decides}
+use Rattle.std.specs.List.{All, Contains, flat_map, list_any}
+use Rattle.directed_graph.proofs.Below.{no_more_below}
 use Rattle.directed_graph.specs.Graph.{Graph, HasEdge, IsClosed, Reached, next, row_of, start}
 use Rattle.directed_graph.specs.Reach.{has_vertex, reaches, within}
-use Rattle.directed_graph.proofs.Below.{no_more_below}
 
 -- ---- whether a list has a vertex
 later : {A : Type 0} (x y : A) (xs : List A) → Contains xs y → Contains (x ∷ xs) y

@@ -1,17 +1,17 @@
 -- A search of a graph: what is known when the rows of the first vertices that were found are marked.
-use borrow.Author.Tests.{ltb-true}
 use Rattle.std.proofs.Common.{ltb, ◌≡◌, ◌≢◌, ◌⊎◌, ℕ, zero, suc, ◌<◌, ◌≤◌, ◌+◌, List, []}
 use Rattle.std.proofs.Common.{◌∷◌, length, slice_index, get_or, Bool, true, arith, sym, ◌∙◌, ap, ⊎_elim, length-append}
-use Rattle.std.specs.Prelude.{◌↔◌}
-use Rattle.std.specs.List.{Contains, All}
-use Rattle.std.proofs.lemmas.Grind.{common_steps}
 use Rattle.std.proofs.lemmas.Bool.{cases_eq}
+use Rattle.std.proofs.lemmas.Grind.{common_steps}
 use Rattle.std.proofs.lemmas.List.{get_or_default}
 use Rattle.std.proofs.lemmas.List.Elements.{Contains-append_left, Contains-append_right, Contains-append_cases}
 use Rattle.std.proofs.lemmas.List.Elements.{Contains-get_or}
+use Rattle.std.specs.List.{Contains, All}
+use Rattle.std.specs.Prelude.{◌↔◌}
+use borrow.Author.Tests.{ltb-true}
+use Rattle.directed_graph.proofs.MarkLemmas.{all_marked}
 use Rattle.directed_graph.specs.Graph.{Graph, row_of, HasEdge, IsClosed, Reached, start, next}
 use Rattle.directed_graph.specs.Marks.{AreDistinct, AreMarked, AreUnmarked, IsMarked, MarksAll}
-use Rattle.directed_graph.proofs.MarkLemmas.{all_marked}
 
 pub record Searched (graph : Graph) (starts : List ℕ) (marks : List Bool) (found : List ℕ) (done : ℕ) : Type 0 where
   pub as_many : length marks ≡ length graph

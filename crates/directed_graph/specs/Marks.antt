@@ -1,6 +1,6 @@
 -- Vertices that are marked, and found.
-use Rattle.std.specs.Prelude.{◌≡◌, ◌≢◌, ◌⊎◌, ℕ, ◌+◌, List, ◌++◌, length, Bool, true, false, slice_index_or, not}
 use Rattle.std.specs.List.{AllPairs, Contains, count_by}
+use Rattle.std.specs.Prelude.{◌≡◌, ◌≢◌, ◌⊎◌, ℕ, ◌+◌, List, ◌++◌, length, Bool, true, false, slice_index_or, not}
 
 abbrev pub IsMarked : List Bool → ℕ → Type 0
 IsMarked marks vertex = slice_index_or marks vertex false ≡ true

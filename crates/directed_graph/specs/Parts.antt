@@ -1,7 +1,7 @@
 -- What is known of the components of a graph, and what of it is tested.
 use Rattle.std.specs.Prelude.{◌≡◌, ◌⊎◌, ℕ, ◌<◌, List, length, slice_index_or}
-use Rattle.directed_graph.specs.declared.components.Part.{Part}
 use Rattle.directed_graph.specs.Graph.{Graph, HasEdge}
+use Rattle.directed_graph.specs.declared.components.Part.{Part}
 
 abbrev pub no_part : Part
 no_part = record {

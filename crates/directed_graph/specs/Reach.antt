@@ -1,6 +1,6 @@
 -- What is reached from some vertices, as a list and as a test.
-use Rattle.std.specs.Prelude.{ℕ, zero, suc, ◌==◌, List, [], ◌∷◌, ◌++◌, length, Bool, Option}
 use Rattle.std.specs.List.{find, flat_map, list_any}
+use Rattle.std.specs.Prelude.{ℕ, zero, suc, ◌==◌, List, [], ◌∷◌, ◌++◌, length, Bool, Option}
 use Rattle.directed_graph.specs.Graph.{Graph, row_of}
 
 abbrev pub has_vertex : List ℕ → ℕ → Bool

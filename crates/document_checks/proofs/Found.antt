@@ -2,14 +2,14 @@
 use Rattle.std.proofs.Common.{◌≡◌, ◌<◌, ◌≤◌, ℕ, List, [], ◌∷◌, length, map, take, ap, ◌∙◌, arith}
 use Rattle.std.proofs.lemmas.List.{take-map}
 use Rattle.apollo_lexer.specs.declared.limits.Limits.{Limits}
+use Rattle.apollo_tree.specs.Order.{Place}
+use Rattle.apollo_parser.proofs.OneParse.{one-parse}
 use Rattle.apollo_parser.specs.Diagnostics.{Diagnostic}
 use Rattle.apollo_parser.specs.Parsed.{Parsed}
 use Rattle.apollo_parser.specs.Promise.{Promise}
-use Rattle.apollo_parser.proofs.OneParse.{one-parse}
-use Rattle.apollo_tree.specs.Order.{Place}
+use Rattle.first_errors.proofs.Firsts.{first_shown}
 use Rattle.first_errors.specs.First.{IsFirst}
 use Rattle.first_errors.specs.Places.{shown_at}
-use Rattle.first_errors.proofs.Firsts.{first_shown}
 use Rattle.document_checks.specs.Findings.{AreFindings}
 use Rattle.document_checks.specs.declared.report.Finding.{Finding}
 

@@ -4,14 +4,14 @@ use Rattle.std.proofs.Common.{ap, ◌∙◌, arith, append-nil, take_all}
 use Rattle.std.proofs.lemmas.List.{drop_all}
 use Rattle.std.specs.Prelude.{◌↔◌}
 use Rattle.apollo_tree.specs.Order.{Place}
+use Rattle.document_checks.proofs.ParsedTexts.{documents_pass, have_documents, have_numbers, none_of}
+use Rattle.document_checks.proofs.ParsedTexts.{pass_without_errors, quiet_reports, same_documents, same_numbers}
 use Rattle.document_checks.specs.Checking.{Asked, AreSound, AreWithin, HaveDocuments, HaveNumbers, PassTogether}
 use Rattle.document_checks.specs.Documents.{AllPass, AreChecked, AreInside, AreParsed, numbers_of, root_of}
 use Rattle.document_checks.specs.Passing.{AreKept, PassByDocuments, PassEach}
 use Rattle.document_checks.specs.Warnings.{WarnByDocuments, WarnEach}
 use Rattle.document_checks.specs.declared.documents.Document.{Document}
 use Rattle.document_checks.specs.declared.report.Report.{Report}
-use Rattle.document_checks.proofs.ParsedTexts.{documents_pass, have_documents, have_numbers, none_of}
-use Rattle.document_checks.proofs.ParsedTexts.{pass_without_errors, quiet_reports, same_documents, same_numbers}
 
 -- There is a text.
 pub together : (asked : Asked) (sources : List (List ℕ)) (P : Type 0) → 0 < length sources → P ↔ AreSound asked sources

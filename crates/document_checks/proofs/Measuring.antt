@@ -1,12 +1,12 @@
 -- The figures of operations: there is one list of them, and none where there is an error.
 use Rattle.std.proofs.Common.{◌≡◌, ℕ, zero, suc, ◌<◌, List, ◌∷◌, length, refl, sym, ap, ap₂, ◌∙◌, subst, arith, get_or}
 use Rattle.std.specs.Prelude.{Contains}
-use Rattle.cost_figures.specs.declared.figures.Figures.{Figures}
-use Rattle.cost_figures.specs.declared.items.Item.{Item}
-use Rattle.cost_figures.specs.declared.items.Span.{Span}
 use Rattle.cost_figures.specs.Counts.{figures_of}
 use Rattle.cost_figures.specs.Expansion.{Leads, here, onward, Reaches, Spreads}
 use Rattle.cost_figures.specs.Outcome.{IsMeasured, AreMeasured, none, next, IsCycle, IsUndefined}
+use Rattle.cost_figures.specs.declared.figures.Figures.{Figures}
+use Rattle.cost_figures.specs.declared.items.Item.{Item}
+use Rattle.cost_figures.specs.declared.items.Span.{Span}
 
 same_figures : (d : List (List Item)) (r : ℕ) (f g : Figures) → IsMeasured d r f → IsMeasured d r g → f ≡ g
 same_figures d r f g m n = m.figures ∙ ap figures_of (n.only m.expansion m.expands) ∙ sym n.figures

@@ -1,15 +1,15 @@
 -- A text without a definition is no document.
 use Rattle.std.proofs.Common.{ℕ, List, [], map, refl, ap, ◌∙◌}
-use Rattle.document_grammar.specs.Tree.{Tree, none}
-use Rattle.document_grammar.specs.Derivation.{Spells, document}
-use Rattle.document_grammar.specs.Sentence.{token_of, tokens_of}
-use Rattle.document_grammar.specs.Kinds.{DOCUMENT}
-use Rattle.document_grammar.specs.Booleans.{◌and◌, ◌or◌}
 use Rattle.document_grammar.proofs.Texts.{one-cut}
+use Rattle.document_grammar.specs.Booleans.{◌and◌, ◌or◌}
+use Rattle.document_grammar.specs.Derivation.{Spells, document}
+use Rattle.document_grammar.specs.Kinds.{DOCUMENT}
+use Rattle.document_grammar.specs.Sentence.{token_of, tokens_of}
+use Rattle.document_grammar.specs.Tree.{Tree, none}
+use Rattle.grammar_machine.proofs.SentenceTheorems.{no-early-fault}
 use Rattle.grammar_machine.specs.Machine.{IsStuck, arcs, at, ends, entries, fires, first, holds, is_leaf, move, second}
 use Rattle.grammar_machine.specs.Machine.{start}
 use Rattle.grammar_machine.specs.Table.{firsts, rows}
-use Rattle.grammar_machine.proofs.SentenceTheorems.{no-early-fault}
 use Rattle.apollo_lexer.specs.declared.limits.Limits.{Limits}
 use Rattle.apollo_tree.specs.Order.{Place}
 use Rattle.formatter.specs.Within.{HasCommentsAlone}

@@ -1,17 +1,20 @@
 -- Texts that are parsed, and the documents among them.
 use Rattle.std.proofs.Common.{◌≡◌, ◌≢◌, ◌<◌, ◌≤◌, ℕ, zero, suc, ◌+◌, Bool, true, false, List, [], ◌∷◌, ◌++◌, length}
 use Rattle.std.proofs.Common.{map, take, refl, sym, ap, ap₂, ◌∙◌, subst, arith, inl, inr}
-use Rattle.std.specs.Prelude.{◌↔◌, All, slice_index_or}
-use Rattle.std.specs.List.{Any}
 use Rattle.std.proofs.lemmas.List.Elements.{All-cons, All-head, All-nil, All-same, All-tail}
+use Rattle.std.specs.List.{Any}
+use Rattle.std.specs.Prelude.{◌↔◌, All, slice_index_or}
 use Rattle.apollo_lexer.specs.declared.limits.Limits.{Limits}
 use Rattle.apollo_tree.specs.Order.{Place}
+use Rattle.apollo_parser.proofs.OneParse.{one-parse}
 use Rattle.apollo_parser.specs.Diagnostics.{Diagnostic}
 use Rattle.apollo_parser.specs.Parsed.{Parsed}
 use Rattle.apollo_parser.specs.Promise.{Promise}
-use Rattle.apollo_parser.proofs.OneParse.{one-parse}
 use Rattle.first_errors.specs.Places.{shown_at}
 use Rattle.formatter.specs.Within.{HasCommentsAlone}
+use Rattle.document_checks.proofs.Found.{of_errors}
+use Rattle.document_checks.proofs.NoTokens.{not_both}
+use Rattle.document_checks.proofs.Warnings.{no_warnings}
 use Rattle.document_checks.specs.Checking.{HaveDocuments, HaveNumbers, IsDocument}
 use Rattle.document_checks.specs.Documents.{AllPass, AreClean, AreDocuments, AreErrorReports, AreErrors, AreInside}
 use Rattle.document_checks.specs.Documents.{AreParsed, IsClean, IsErrorReport, IsFounded, numbers_of, root_of}
@@ -21,9 +24,6 @@ use Rattle.document_checks.specs.Warnings.{AreQuietIf}
 use Rattle.document_checks.specs.declared.documents.Document.{Document}
 use Rattle.document_checks.specs.declared.report.Finding.{Finding}
 use Rattle.document_checks.specs.declared.report.Report.{Report}
-use Rattle.document_checks.proofs.Found.{of_errors}
-use Rattle.document_checks.proofs.NoTokens.{not_both}
-use Rattle.document_checks.proofs.Warnings.{no_warnings}
 
 -- ---- a parse has errors or none
 

@@ -3,25 +3,27 @@ use Rattle.std.proofs.Common.{◌≡◌, ◌≢◌, ◌<◌, ℕ, Bool, true, fa
 use Rattle.std.proofs.Common.{◌++◌, length, get_or, refl, sym, ap, ◌∙◌, subst, arith, inl, inr, Option, Some}
 use Rattle.std.proofs.Common.{None}
 use Rattle.std.proofs.Math.ListN.{length-set, set}
-use Rattle.std.specs.Prelude.{◌↔◌, ◌⊎◌, All, Err, Ok, OnOk, Result, option_map, slice_index_or}
-use Rattle.std.specs.List.{filter}
 use Rattle.std.proofs.lemmas.Bool.{eqb-false}
 use Rattle.std.proofs.lemmas.Grind.{get_or-set_at}
 use Rattle.std.proofs.lemmas.List.{get_or-set_other, get_or_default}
 use Rattle.std.proofs.lemmas.List.Elements.{All-append, All-cons, All-get_or, All-head, All-nil, All-set, All-tail}
 use Rattle.std.proofs.lemmas.List.Elements.{All-weaker}
+use Rattle.std.specs.List.{filter}
+use Rattle.std.specs.Prelude.{◌↔◌, ◌⊎◌, All, Err, Ok, OnOk, Result, option_map, slice_index_or}
 use Rattle.apollo_tree.specs.Order.{Place}
+use Rattle.validation_names.specs.Definitions.{defined}
 use Rattle.validation_names.specs.Names.{Name}
 use Rattle.validation_names.specs.Sites.{Located, as_located}
 use Rattle.validation_names.specs.declared.sites.Site.{Site}
-use Rattle.validation_names.specs.Definitions.{defined}
 use Rattle.validation_rules.specs.declared.violations.Violation.{Violation}
-use Rattle.cost_figures.specs.declared.figures.Figures.{Figures}
-use Rattle.cost_limits.specs.Limits.{IsWithin}
-use Rattle.cost_limits.specs.Measures.{Measure}
 use Rattle.document_validation.specs.Validation.{AreDecided, AreValidIn, IsValidation}
 use Rattle.document_validation.specs.declared.validation.Validation.{Validation}
 use Rattle.document_validation.specs.declared.validation.ValidationOptions.{ValidationOptions}
+use Rattle.cost_figures.specs.declared.figures.Figures.{Figures}
+use Rattle.cost_limits.specs.Limits.{IsWithin}
+use Rattle.cost_limits.specs.Measures.{Measure}
+use Rattle.document_checks.proofs.Verdicts.{one_measures}
+use Rattle.document_checks.proofs.Warnings.{founded_of, not_both}
 use Rattle.document_checks.specs.Checking.{Asked, HaveMeasures, has_limits, is_chosen, judged_documents, measuring}
 use Rattle.document_checks.specs.Documents.{AllPass, AreChecked, AreClean, AreJudged, AreJudgedTogether, AreMeasured}
 use Rattle.document_checks.specs.Documents.{AreTold, AreWarned, IsFounded, IsUnwarned}
@@ -29,8 +31,6 @@ use Rattle.document_checks.specs.Passing.{AreKept, HasWithin, IsThere, IsWithout
 use Rattle.document_checks.specs.Passing.{undecided_sites, validation_options, violation_sites}
 use Rattle.document_checks.specs.Warnings.{AreQuietIf, has_warnings, warning_options}
 use Rattle.document_checks.specs.declared.report.Report.{Report}
-use Rattle.document_checks.proofs.Verdicts.{one_measures}
-use Rattle.document_checks.proofs.Warnings.{founded_of, not_both}
 
 -- ---- lists
 

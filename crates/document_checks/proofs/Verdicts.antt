@@ -1,19 +1,19 @@
 -- The figures of the operations of some documents: there is one list of them, and none where there is an error.
 use Rattle.std.proofs.Common.{◌≡◌, ◌≢◌, ℕ, ◌≤◌, Bool, true, false, List, [], ◌∷◌, map, refl, sym, ap, ap₂, ◌∙◌}
 use Rattle.std.proofs.Common.{subst, arith, get_or, cond, Option, Some, None, ltb}
-use Rattle.std.specs.Prelude.{All, find}
 use Rattle.std.proofs.lemmas.Bool.Decides.{nat_tests}
 use Rattle.std.proofs.lemmas.List.Elements.{All-get_or}
+use Rattle.std.specs.Prelude.{All, find}
 use Rattle.validation_names.specs.Definitions.{Defined, as_defined}
+use Rattle.cost_figures.specs.Limiting.{figure_of, limits_in_order}
 use Rattle.cost_figures.specs.declared.figures.Figures.{Figures}
 use Rattle.cost_figures.specs.declared.limits.Limit.{Limit}
-use Rattle.cost_figures.specs.Limiting.{figure_of, limits_in_order}
-use Rattle.cost_limits.specs.Measures.{Measure, AreMeasures, AreTwins, IsMeasureError}
 use Rattle.cost_limits.specs.Limits.{IsWithin, IsExceeded}
+use Rattle.cost_limits.specs.Measures.{Measure, AreMeasures, AreTwins, IsMeasureError}
 use Rattle.cost_limits.specs.declared.limits.Exceeded.{Exceeded}
 use Rattle.cost_limits.specs.declared.measures.MeasureError.{MeasureError}
-use Rattle.cost_limits.specs.declared.measures.MeasureOptions.{MeasureOptions}
 use Rattle.cost_limits.specs.declared.measures.MeasureError.TheVariants.{SameName, Cycle, Undefined, Memory}
+use Rattle.cost_limits.specs.declared.measures.MeasureOptions.{MeasureOptions}
 use Rattle.document_checks.proofs.Measuring.{one_list, no_cycle, all_defined}
 
 -- ---- the figures are one list

@@ -1,8 +1,8 @@
 -- Reports that get one more finding.
 use Rattle.std.proofs.Common.{◌≡◌, ◌<◌, Bool, true, false, List, [], ◌∷◌, ◌++◌, length, refl, sym, ap}
 use Rattle.std.proofs.Common.{◌∙◌, subst, arith}
-use Rattle.std.specs.Prelude.{◌≢◌, vec_len}
 use Rattle.std.proofs.lemmas.List.Elements.{All-append, All-cons, All-nil}
+use Rattle.std.specs.Prelude.{◌≢◌, vec_len}
 use Rattle.document_checks.specs.Documents.{IsFounded, IsUnwarned}
 use Rattle.document_checks.specs.Findings.{AreWarnings, BeginWithError}
 use Rattle.document_checks.specs.declared.report.Finding.{Finding}

@@ -1,23 +1,23 @@
 -- Which texts pass.
+use Rattle.std.specs.List.{filter}
 use Rattle.std.specs.Prelude.{◌≡◌, ◌≢◌, ◌⊎◌, ◌^◌, ◌-◌, ◌||◌, ℕ, suc, Bool, true, false, List, [], ◌∷◌, All, bytes_eq}
 use Rattle.std.specs.Prelude.{Option, Some, None, is_some, length, map, nat_lt, option_map}
-use Rattle.std.specs.List.{filter}
 use denote.Ref.{Bor}
 use Rattle.apollo_lexer.specs.declared.limits.Limits.{Limits}
 use Rattle.apollo_tree.specs.Order.{Place}
 use Rattle.apollo_parser.specs.Parsed.{Parsed}
 use Rattle.apollo_parser.specs.Promise.{Promise}
-use Rattle.validation_names.specs.Names.{Name}
+use Rattle.formatter.specs.Within.{HasCommentsAlone}
 use Rattle.validation_names.specs.Definitions.{defined, operation_name}
+use Rattle.validation_names.specs.Names.{Name}
 use Rattle.validation_rules.specs.declared.selection.RuleSet.{RuleSet}
 use Rattle.validation_rules.specs.declared.selection.Selection.{Selection}
+use Rattle.document_validation.specs.Validation.{AreDecided, AreValidIn}
 use Rattle.cost_figures.specs.declared.figures.Figures.{Figures}
-use Rattle.formatter.specs.Within.{HasCommentsAlone}
+use Rattle.cost_limits.specs.Limits.{IsWithin, exceeded_by}
+use Rattle.cost_limits.specs.Measures.{Measure, AreMeasures}
 use Rattle.cost_limits.specs.declared.introspection.Introspection.{Introspection}
 use Rattle.cost_limits.specs.declared.measures.MeasureOptions.{MeasureOptions}
-use Rattle.cost_limits.specs.Measures.{Measure, AreMeasures}
-use Rattle.cost_limits.specs.Limits.{IsWithin, exceeded_by}
-use Rattle.document_validation.specs.Validation.{AreDecided, AreValidIn}
 use Rattle.document_checks.specs.declared.report.Checks.{Checks}
 
 -- What texts are checked against.

@@ -1,15 +1,15 @@
 -- Texts that are parsed, and reports on them, while `check` judges them.
+use Rattle.std.specs.List.{filter}
 use Rattle.std.specs.Prelude.{◌≡◌, ◌<◌, ◌⊎◌, ℕ, suc, true, false, List, [], ◌∷◌, All, length, map, slice_index_or}
 use Rattle.std.specs.Prelude.{◌↔◌, ◌≢◌}
-use Rattle.std.specs.List.{filter}
 use Rattle.apollo_lexer.specs.declared.limits.Limits.{Limits}
 use Rattle.apollo_tree.specs.Order.{Place}
 use Rattle.apollo_parser.specs.Promise.{Promise}
+use Rattle.formatter.specs.Within.{HasCommentsAlone}
 use Rattle.validation_names.specs.Sites.{Located}
-use Rattle.cost_limits.specs.Measures.{Measure}
 use Rattle.document_validation.specs.Validation.{IsValidation}
 use Rattle.document_validation.specs.declared.validation.Validation.{Validation}
-use Rattle.formatter.specs.Within.{HasCommentsAlone}
+use Rattle.cost_limits.specs.Measures.{Measure}
 use Rattle.document_checks.specs.Checking.{Asked, AreWithin, HaveMeasures, has_limits, is_chosen}
 use Rattle.document_checks.specs.Findings.{AreWarnings, BeginWithError, HasErrors, IsReport}
 use Rattle.document_checks.specs.Passing.{AreKept, HasWithin, IsThere, IsWithout, PassByDocuments, PassIf}

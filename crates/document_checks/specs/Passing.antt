@@ -1,16 +1,16 @@
 -- Which of the texts that are judged together pass.
+use Rattle.std.specs.List.{Any, filter}
 use Rattle.std.specs.Prelude.{◌≡◌, ◌≢◌, ◌<◌, ◌↔◌, ℕ, true, false, List, [], ◌∷◌, ◌++◌, All, length, map, None}
 use Rattle.std.specs.Prelude.{Option, Some, option_map, slice_index_or}
-use Rattle.std.specs.List.{Any, filter}
 use Rattle.apollo_tree.specs.Order.{Place}
 use Rattle.validation_names.specs.Sites.{Located, as_located}
 use Rattle.validation_rules.specs.declared.violations.Violation.{Violation}
-use Rattle.cost_figures.specs.declared.figures.Figures.{Figures}
-use Rattle.cost_limits.specs.Limits.{IsWithin}
-use Rattle.cost_limits.specs.Measures.{Measure}
 use Rattle.document_validation.specs.Validation.{AreDecided, AreValidIn, IsValidation}
 use Rattle.document_validation.specs.declared.validation.Validation.{Validation}
 use Rattle.document_validation.specs.declared.validation.ValidationOptions.{ValidationOptions}
+use Rattle.cost_figures.specs.declared.figures.Figures.{Figures}
+use Rattle.cost_limits.specs.Limits.{IsWithin}
+use Rattle.cost_limits.specs.Measures.{Measure}
 use Rattle.document_checks.specs.Checking.{Asked, HaveDocuments, HaveMeasures, HaveNumbers, has_limits, is_chosen}
 use Rattle.document_checks.specs.Checking.{selection}
 use Rattle.document_checks.specs.Findings.{HasErrors}

@@ -1,6 +1,6 @@
 -- Which of the texts that are judged together have warnings.
-use Rattle.std.specs.Prelude.{◌≡◌, ◌<◌, ◌↔◌, ℕ, Bool, true, false, List, [], length, slice_index_or}
 use Rattle.std.specs.List.{Any, list_any}
+use Rattle.std.specs.Prelude.{◌≡◌, ◌<◌, ◌↔◌, ℕ, Bool, true, false, List, [], length, slice_index_or}
 use Rattle.apollo_tree.specs.Order.{Place}
 use Rattle.document_validation.specs.Validation.{IsValidation}
 use Rattle.document_validation.specs.declared.validation.Validation.{Validation}

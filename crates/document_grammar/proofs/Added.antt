@@ -1,12 +1,12 @@
 -- Trees that are added to the open node: one list after another, a node that was opened and closed, and one that opens
 -- at an earlier index.
 use Rattle.std.proofs.Common.{◌≡◌, ℕ, zero, suc, ◌+◌, ◌-◌, List, ◌∷◌, refl, sym, ap, ap₂, ◌∙◌, subst, arith}
-use Rattle.document_grammar.specs.declared.kind.SyntaxKind.{SyntaxKind}
-use Rattle.document_grammar.specs.Forests.{Forest, none, leaf, node, count, join}
+use Rattle.document_grammar.proofs.Built.{front-join, back-join}
+use Rattle.document_grammar.proofs.Joins.{join-none, join-assoc}
 use Rattle.document_grammar.specs.Builds.{Building, start, add_leaf, close, finish, open_count, built_count, front}
 use Rattle.document_grammar.specs.Builds.{wrap, IsSeam, CanOpenAt}
-use Rattle.document_grammar.proofs.Joins.{join-none, join-assoc}
-use Rattle.document_grammar.proofs.Built.{front-join, back-join}
+use Rattle.document_grammar.specs.Forests.{Forest, none, leaf, node, count, join}
+use Rattle.document_grammar.specs.declared.kind.SyntaxKind.{SyntaxKind}
 
 -- `t` is `b` with the trees `f` after those of the open node
 pub record Added (f : Forest) (b t : Building) : Type 0 where

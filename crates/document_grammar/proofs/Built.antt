@@ -2,15 +2,15 @@
 -- trees.
 use Rattle.std.proofs.Common.{◌≡◌, ℕ, ◌+◌, ◌-◌, true, zero, suc, List, [], ◌∷◌, ◌++◌, append_assoc, refl, sym, ap, ◌∙◌}
 use Rattle.std.proofs.Common.{inl, inr, true≢false, arith}
-use Rattle.document_grammar.specs.Numbers.{number}
-use Rattle.document_grammar.specs.Forests as built
-use Rattle.document_grammar.specs.Builds.{Open, front, back, close, built_count}
-use Rattle.document_grammar.proofs.Joins.{count-join}
-use Rattle.document_grammar.specs.Numbered.{numbered}
-use Rattle.document_grammar.specs.Tree.{Token, Tree, leaf, node, Forest, none, ◌▸◌, ◌+++◌}
-use Rattle.document_grammar.specs.Derivation.{Yield, Yields}
-use Rattle.document_grammar.specs.Placed.{ignored, bare, bares}
 use Rattle.document_grammar.proofs.Booleans.{either}
+use Rattle.document_grammar.proofs.Joins.{count-join}
+use Rattle.document_grammar.specs.Builds.{Open, front, back, close, built_count}
+use Rattle.document_grammar.specs.Derivation.{Yield, Yields}
+use Rattle.document_grammar.specs.Forests as built
+use Rattle.document_grammar.specs.Numbered.{numbered}
+use Rattle.document_grammar.specs.Numbers.{number}
+use Rattle.document_grammar.specs.Placed.{ignored, bare, bares}
+use Rattle.document_grammar.specs.Tree.{Token, Tree, leaf, node, Forest, none, ◌▸◌, ◌+++◌}
 
 -- One list of trees after the other.
 pub forest-none : (f : Forest) → f +++ none ≡ f

@@ -1,13 +1,13 @@
 -- What is a sentence by the rows of the first profile is one.
 use Rattle.std.proofs.Common.{ℕ, eqb, List, [], refl, inl, inr, eqb-true}
-use Rattle.document_grammar.specs.Tree.{Token, Tree, leaf, node, Forest, none, ◌▸◌}
-use Rattle.document_grammar.specs.Pattern.{Matches}
-use Rattle.document_grammar.specs.Kinds.{OPERATION_DEFINITION, FRAGMENT_DEFINITION, VARIABLE_DEFINITION}
-use Rattle.document_grammar.specs.Rows.{Row, FirstRow, first_operation, first_fragment, first_variable}
+use Rattle.document_grammar.proofs.Booleans.{either}
+use Rattle.document_grammar.specs.Beginnings.{FirstSpells}
 use Rattle.document_grammar.specs.Derivation.{FitsBy, AllFitBy, BareBy, Sort, document, selections, type, DerivationBy}
 use Rattle.document_grammar.specs.Derivation.{Derivation, Spells}
-use Rattle.document_grammar.specs.Beginnings.{FirstSpells}
-use Rattle.document_grammar.proofs.Booleans.{either}
+use Rattle.document_grammar.specs.Kinds.{OPERATION_DEFINITION, FRAGMENT_DEFINITION, VARIABLE_DEFINITION}
+use Rattle.document_grammar.specs.Pattern.{Matches}
+use Rattle.document_grammar.specs.Rows.{Row, FirstRow, first_operation, first_fragment, first_variable}
+use Rattle.document_grammar.specs.Tree.{Token, Tree, leaf, node, Forest, none, ◌▸◌}
 
 -- The three rows that differ may have a description first, and need not.
 row-kept : (k : ℕ) (w : List ℕ) → Matches (FirstRow k) w → Matches (Row k) w

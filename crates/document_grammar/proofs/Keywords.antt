@@ -1,9 +1,9 @@
 -- A test of each kind and text of a list holds of each one in it.
 use Rattle.std.proofs.Common.{◌≡◌, ℕ, Bool, true, List, [], ◌∷◌, subst, inl, inr}
-use Rattle.document_grammar.specs.Booleans.{◌and◌}
-use Rattle.document_grammar.specs.Tree.{Text}
-use Rattle.document_grammar.specs.Derivation.{Listed}
 use Rattle.document_grammar.proofs.Booleans.{and-l, and-r}
+use Rattle.document_grammar.specs.Booleans.{◌and◌}
+use Rattle.document_grammar.specs.Derivation.{Listed}
+use Rattle.document_grammar.specs.Tree.{Text}
 
 abbrev pub all_words : List (ℕ × Text) → (ℕ → Text → Bool) → Bool
 all_words [] t = true

@@ -1,16 +1,16 @@
 -- No two kinds have the same number. And checks of the lists of kinds.
 use Rattle.std.proofs.Common.{◌≡◌, ℕ, ◌++◌, get_or, map, refl, sym, ap, ◌∙◌}
-use Rattle.document_grammar.specs.declared.kind.SyntaxKind.{SyntaxKind}
-use Rattle.document_grammar.specs.declared.kind.SyntaxKind.TheVariants as kind
-use Rattle.document_grammar.specs.Numbers.{number}
-use Rattle.document_grammar.specs.Kinds.{DIRECTIVES, SELECTION_SET}
-use Rattle.document_grammar.specs.Choices.{Selections}
-use Rattle.document_grammar.proofs.generated.KindLists.{all_kinds, leaf_kinds, node_kinds}
 use Rattle.std.specs.List.{filter}
 use Rattle.std.specs.Prelude.{Bool, false, not, ◌||◌, ◌&&◌}
+use Rattle.document_grammar.proofs.generated.KindLists.{all_kinds, leaf_kinds, node_kinds}
+use Rattle.document_grammar.specs.Choices.{Selections}
+use Rattle.document_grammar.specs.Derivation.{HasConstantDirectives}
+use Rattle.document_grammar.specs.Kinds.{DIRECTIVES, SELECTION_SET}
+use Rattle.document_grammar.specs.Numbers.{number}
 use Rattle.document_grammar.specs.Pattern.{Pattern, any_of, nothing, ◌then◌, ◌or_else◌, many, member}
 use Rattle.document_grammar.specs.Rows.{children}
-use Rattle.document_grammar.specs.Derivation.{HasConstantDirectives}
+use Rattle.document_grammar.specs.declared.kind.SyntaxKind.{SyntaxKind}
+use Rattle.document_grammar.specs.declared.kind.SyntaxKind.TheVariants as kind
 
 -- The kind that has the number.
 kind_of : ℕ → SyntaxKind

@@ -2,20 +2,20 @@
 -- built trees.
 use Rattle.std.proofs.Common.{not, ◌≡◌, ℕ, zero, suc, ◌+◌, ◌<◌, ◌≤◌, max, Bool, true, false, cond, List, refl, sym, ap}
 use Rattle.std.proofs.Common.{ap₂, ◌∙◌, inl, inr, true≢false, ltb-true, arith}
-use Rattle.document_grammar.specs.declared.kind.SyntaxKind.{SyntaxKind}
-use Rattle.document_grammar.specs.Kinds.{SELECTION_SET, LIST_TYPE, LIST_VALUE, OBJECT_FIELD}
-use Rattle.document_grammar.specs.Choices.{Values, is_ignored}
-use Rattle.document_grammar.specs.Numbers.{number}
-use Rattle.document_grammar.specs.Forests as built
-use Rattle.document_grammar.specs.Numbered.{numbered}
-use Rattle.document_grammar.specs.Pattern.{member}
-use Rattle.document_grammar.specs.Tree.{Tree, leaf, node, Forest, none, ◌▸◌, ◌+++◌, root}
-use Rattle.document_grammar.specs.Derivation.{counts, below, belows, nest}
-use Rattle.document_grammar.specs.Placed.{ignored, bare, bares}
-use Rattle.document_grammar.specs.Booleans.{◌and◌}
+use Rattle.std.specs.Prelude.{[], ◌∷◌}
 use Rattle.document_grammar.proofs.Booleans.{either, and-l, and-r, not-c, cond-zero}
 use Rattle.document_grammar.proofs.Built.{numbered-join}
-use Rattle.std.specs.Prelude.{[], ◌∷◌}
+use Rattle.document_grammar.specs.Booleans.{◌and◌}
+use Rattle.document_grammar.specs.Choices.{Values, is_ignored}
+use Rattle.document_grammar.specs.Derivation.{counts, below, belows, nest}
+use Rattle.document_grammar.specs.Forests as built
+use Rattle.document_grammar.specs.Kinds.{SELECTION_SET, LIST_TYPE, LIST_VALUE, OBJECT_FIELD}
+use Rattle.document_grammar.specs.Numbered.{numbered}
+use Rattle.document_grammar.specs.Numbers.{number}
+use Rattle.document_grammar.specs.Pattern.{member}
+use Rattle.document_grammar.specs.Placed.{ignored, bare, bares}
+use Rattle.document_grammar.specs.Tree.{Tree, leaf, node, Forest, none, ◌▸◌, ◌+++◌, root}
+use Rattle.document_grammar.specs.declared.kind.SyntaxKind.{SyntaxKind}
 
 -- a kind that is never counted
 abbrev pub uncounted : ℕ → Bool

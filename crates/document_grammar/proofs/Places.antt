@@ -1,11 +1,11 @@
 -- Examples of the places of ignored leaves: a space is placed between a brace and a field, and behind an operation; not
 -- behind the leaf of a name.
 use Rattle.std.proofs.Common.{◌≢◌, true≢false, sym, IsTrue, false, List, [], ◌∷◌, refl}
-use Rattle.document_grammar.specs.Tree.{Token, Tree, leaf, node, Forest, none, ◌▸◌, ◌+++◌}
 use Rattle.std.specs.Prelude.{codes}
 use Rattle.document_grammar.specs.Kinds.{WHITESPACE, L_CURLY, R_CURLY, IDENT, DOCUMENT, OPERATION_DEFINITION}
 use Rattle.document_grammar.specs.Kinds.{SELECTION_SET, FIELD, NAME}
 use Rattle.document_grammar.specs.Placed.{PlacedIn, Placed}
+use Rattle.document_grammar.specs.Tree.{Token, Tree, leaf, node, Forest, none, ◌▸◌, ◌+++◌}
 
 abbrev space : Tree
 space = leaf WHITESPACE (codes " ")

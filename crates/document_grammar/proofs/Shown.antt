@@ -1,18 +1,18 @@
 -- What the items of a cut show: their significant tokens, and the end; and where each item of a cut is.
 use Rattle.std.proofs.Common.{◌≡◌, ◌≢◌, ℕ, ◌+◌, ◌<◌, List, [], ◌∷◌, ◌++◌, length, take, true, Option, Some, None, refl}
 use Rattle.std.proofs.Common.{sym, ap, ap₂, ◌∙◌, subst, arith, append_assoc, length-append}
-use Rattle.std.specs.Prelude.{map, is_some}
 use Rattle.std.proofs.lemmas.Bool.{and_parts}
 use Rattle.std.proofs.lemmas.List.{map-append, take_at}
-use Rattle.lexical_grammar.specs.declared.TokenKind.{TokenKind}
-use Rattle.lexical_grammar.specs.declared.TokenKind.TheVariants as token
-use Rattle.lexical_grammar.specs.Cut.{Item, IsItem, Cut, CutFrom, texts, Significant, significant_word, are_tokens}
+use Rattle.std.specs.Prelude.{map, is_some}
 use Rattle.lexical_grammar.proofs.Cuts.{texts-append}
 use Rattle.lexical_grammar.proofs.Offsets.{item-some}
-use Rattle.document_grammar.specs.Tree.{Text, Token}
+use Rattle.lexical_grammar.specs.Cut.{Item, IsItem, Cut, CutFrom, texts, Significant, significant_word, are_tokens}
+use Rattle.lexical_grammar.specs.declared.TokenKind.{TokenKind}
+use Rattle.lexical_grammar.specs.declared.TokenKind.TheVariants as token
 use Rattle.document_grammar.specs.Derivation.{Terminal, word, terminals}
-use Rattle.document_grammar.specs.Sentence.{token_of, tokens_of}
 use Rattle.document_grammar.specs.FirstError.{shown_kind, shown_item, shown}
+use Rattle.document_grammar.specs.Sentence.{token_of, tokens_of}
+use Rattle.document_grammar.specs.Tree.{Text, Token}
 
 -- ---- items of a cut
 

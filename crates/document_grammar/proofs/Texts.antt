@@ -3,14 +3,14 @@
 use Rattle.std.proofs.Common.{◌≡◌, ℕ, true, List, [], ◌∷◌, refl, sym, ap, ap₂, ◌∙◌, inl, inr, true≢false}
 use Rattle.std.proofs.lemmas.Bool.{and_parts}
 use Rattle.std.specs.Prelude.{is_some}
-use Rattle.lexical_grammar.specs.Cut.{Item, Cut, are_tokens}
-use Rattle.lexical_grammar.specs.Agreement.{Agree}
 use Rattle.lexical_grammar.proofs.Agree.{cuts-agree}
-use Rattle.document_grammar.specs.Tree.{Tree}
-use Rattle.document_grammar.specs.Derivation.{Sort, Yield, Terminal}
-use Rattle.document_grammar.specs.Beginnings.{Starts, StartsWithin}
-use Rattle.document_grammar.specs.Sentence.{Sentence, FirstSentence, StartSentence, StartSentenceWithin}
+use Rattle.lexical_grammar.specs.Agreement.{Agree}
+use Rattle.lexical_grammar.specs.Cut.{Item, Cut, are_tokens}
 use Rattle.document_grammar.proofs.FirstProfile.{derivation-kept}
+use Rattle.document_grammar.specs.Beginnings.{Starts, StartsWithin}
+use Rattle.document_grammar.specs.Derivation.{Sort, Yield, Terminal}
+use Rattle.document_grammar.specs.Sentence.{Sentence, FirstSentence, StartSentence, StartSentenceWithin}
+use Rattle.document_grammar.specs.Tree.{Tree}
 
 agree-same : (items others : List Item) → Agree items others → are_tokens items ≡ true → items ≡ others
 agree-same [] [] a h = refl

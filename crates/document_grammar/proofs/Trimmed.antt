@@ -1,20 +1,20 @@
 -- Ignored leaves are placed where no node but the root begins or ends with one: of built trees.
 use Rattle.std.proofs.Common.{◌≡◌, ◌≢◌, ℕ, Bool, true, false, not, eqb, ltb, List, [], ◌∷◌, ◌++◌, refl, sym, ap, ◌∙◌}
 use Rattle.std.proofs.Common.{inl, inr, true≢false}
-use Rattle.document_grammar.specs.declared.kind.SyntaxKind.{SyntaxKind}
-use Rattle.document_grammar.specs.Numbers.{number}
-use Rattle.document_grammar.specs.Kinds.{ERROR}
-use Rattle.document_grammar.specs.Forests as built
-use Rattle.document_grammar.specs.Builds.{Building, Open, finish, close}
-use Rattle.document_grammar.specs.Numbered.{numbered, tree_of}
-use Rattle.document_grammar.specs.Tree.{Token, Tree, leaf, node, Forest, none, ◌▸◌}
-use Rattle.document_grammar.specs.Pattern.{Pattern, Matches}
-use Rattle.document_grammar.specs.Rows.{Row, row_in, children}
-use Rattle.document_grammar.specs.Derivation.{kinds, Yield, Yields, Fits, AllFit}
-use Rattle.document_grammar.specs.Placed.{ignored, bare, bares, Between, AllPlaced, Placed}
-use Rattle.document_grammar.specs.Booleans.{◌and◌, ◌or◌}
 use Rattle.document_grammar.proofs.Booleans.{and-i, and-l, and-r, not-c, either, false-true}
 use Rattle.document_grammar.proofs.Nullable.{nullable, nullable-to, nil-parts}
+use Rattle.document_grammar.specs.Booleans.{◌and◌, ◌or◌}
+use Rattle.document_grammar.specs.Builds.{Building, Open, finish, close}
+use Rattle.document_grammar.specs.Derivation.{kinds, Yield, Yields, Fits, AllFit}
+use Rattle.document_grammar.specs.Forests as built
+use Rattle.document_grammar.specs.Kinds.{ERROR}
+use Rattle.document_grammar.specs.Numbered.{numbered, tree_of}
+use Rattle.document_grammar.specs.Numbers.{number}
+use Rattle.document_grammar.specs.Pattern.{Pattern, Matches}
+use Rattle.document_grammar.specs.Placed.{ignored, bare, bares, Between, AllPlaced, Placed}
+use Rattle.document_grammar.specs.Rows.{Row, row_in, children}
+use Rattle.document_grammar.specs.Tree.{Token, Tree, leaf, node, Forest, none, ◌▸◌}
+use Rattle.document_grammar.specs.declared.kind.SyntaxKind.{SyntaxKind}
 
 abbrev pub is_ignored : SyntaxKind → Bool
 is_ignored k = ltb (number k) ERROR

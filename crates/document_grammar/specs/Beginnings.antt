@@ -1,9 +1,9 @@
 -- Over tokens alone, without a text: derivations by the rows of the first profile, and the beginnings of the tokens
 -- that derivations spell.
 use Rattle.std.specs.Prelude.{◌≡◌, ℕ, ◌≤◌, List, ◌++◌}
-use Rattle.document_grammar.specs.Tree.{Token, Tree}
-use Rattle.document_grammar.specs.Rows.{FirstRow}
 use Rattle.document_grammar.specs.Derivation.{Sort, DerivationBy, Spells, Yield, Terminal, terminals, nest}
+use Rattle.document_grammar.specs.Rows.{FirstRow}
+use Rattle.document_grammar.specs.Tree.{Token, Tree}
 
 -- The tree is a derivation by the rows of the first profile, and spells these tokens.
 abbrev pub FirstSpells : List Token → Tree → Sort → Type 0

@@ -1,7 +1,7 @@
 -- What the builder's calls name: start and finish are brackets, and wrap is an opening bracket at an earlier index.
 use Rattle.std.specs.Prelude.{◌≡◌, ℕ, zero, suc, ◌+◌, ◌-◌, ◌≤◌, List, [], ◌∷◌, ◌++◌}
-use Rattle.document_grammar.specs.declared.kind.SyntaxKind.{SyntaxKind}
 use Rattle.document_grammar.specs.Forests.{Forest, none, leaf, node, text, count, join}
+use Rattle.document_grammar.specs.declared.kind.SyntaxKind.{SyntaxKind}
 
 -- a node that is open: the trees before it in its parent, and its kind
 pub record Open : Type 0 where

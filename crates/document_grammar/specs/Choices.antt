@@ -1,7 +1,6 @@
 -- Choices of kinds: which leaves are ignored and which are keywords, and what may be in one place (GraphQL October
 -- 2021, sections 2 and 3).
 use Rattle.std.specs.Prelude.{ℕ, Bool, cond, eqb, ltb, List, [], ◌∷◌, Option, None, Some}
-use Rattle.document_grammar.specs.Tree.{Text}
 use Rattle.document_grammar.specs.Kinds.{ERROR, STRING, QUERY_KW, MUTATION_KW, SUBSCRIPTION_KW, FIELD_KW}
 use Rattle.document_grammar.specs.Kinds.{FRAGMENT_DEFINITION_KW, FRAGMENT_SPREAD_KW, INLINE_FRAGMENT_KW}
 use Rattle.document_grammar.specs.Kinds.{VARIABLE_DEFINITION_KW, SCHEMA_KW, SCALAR_KW, OBJECT_KW, FIELD_DEFINITION_KW}
@@ -15,6 +14,7 @@ use Rattle.document_grammar.specs.Kinds.{UNION_TYPE_DEFINITION, ENUM_TYPE_DEFINI
 use Rattle.document_grammar.specs.Kinds.{DIRECTIVE_DEFINITION, SCHEMA_EXTENSION, SCALAR_TYPE_EXTENSION}
 use Rattle.document_grammar.specs.Kinds.{OBJECT_TYPE_EXTENSION, INTERFACE_TYPE_EXTENSION, UNION_TYPE_EXTENSION}
 use Rattle.document_grammar.specs.Kinds.{ENUM_TYPE_EXTENSION, INPUT_OBJECT_TYPE_EXTENSION, words}
+use Rattle.document_grammar.specs.Tree.{Text}
 
 -- The leaves of ignored tokens: WHITESPACE, COMMENT and COMMA.
 abbrev pub is_ignored : ℕ → Bool

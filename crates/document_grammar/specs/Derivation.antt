@@ -1,9 +1,7 @@
 -- Derivations: trees whose nodes fit their rows and that keep four rules, on leaves, names, constants and braces
 -- (GraphQL October 2021, section 2.2, "Document", and the sections that `Rows` names). Then the nesting of a tree.
 use Rattle.std.specs.Prelude.{◌≡◌, ◌≢◌, ℕ, ◌+◌, ◌<◌, max, cond, List, [], ◌∷◌, ◌++◌, ◌⊎◌, IsTrue, IsFalse, codes}
-use Rattle.document_grammar.specs.Tree.{Text, Token, Tree, leaf, node, Forest, none, ◌▸◌, root}
-use Rattle.document_grammar.specs.Pattern.{Pattern, Matches, member}
-use Rattle.document_grammar.specs.Rows.{Row, bare_selections}
+use Rattle.document_grammar.specs.Choices.{Types, Values, is_ignored, is_keyword}
 use Rattle.document_grammar.specs.Kinds.{L_CURLY, IDENT, STRING, DOCUMENT, OPERATION_DEFINITION, SELECTION_SET}
 use Rattle.document_grammar.specs.Kinds.{FRAGMENT_NAME, DIRECTIVES, VARIABLE_DEFINITION, VARIABLE, DEFAULT_VALUE}
 use Rattle.document_grammar.specs.Kinds.{ENUM_VALUE, LIST_VALUE, OBJECT_FIELD, LIST_TYPE, SCHEMA_DEFINITION}
@@ -14,7 +12,9 @@ use Rattle.document_grammar.specs.Kinds.{ENUM_VALUE_DEFINITION, INPUT_OBJECT_TYP
 use Rattle.document_grammar.specs.Kinds.{SCHEMA_EXTENSION, SCALAR_TYPE_EXTENSION, OBJECT_TYPE_EXTENSION}
 use Rattle.document_grammar.specs.Kinds.{INTERFACE_TYPE_EXTENSION, UNION_TYPE_EXTENSION, ENUM_TYPE_EXTENSION}
 use Rattle.document_grammar.specs.Kinds.{INPUT_OBJECT_TYPE_EXTENSION, words}
-use Rattle.document_grammar.specs.Choices.{Types, Values, is_ignored, is_keyword}
+use Rattle.document_grammar.specs.Pattern.{Pattern, Matches, member}
+use Rattle.document_grammar.specs.Rows.{Row, bare_selections}
+use Rattle.document_grammar.specs.Tree.{Text, Token, Tree, leaf, node, Forest, none, ◌▸◌, root}
 
 -- The kinds of the trees of a list.
 abbrev pub kinds : Forest → List ℕ

@@ -1,15 +1,15 @@
 -- What the offset of the first error says of the text. The standard says nothing of errors, so these are this project's
 -- own promises.
+use Rattle.std.specs.List.{flat_map}
 use Rattle.std.specs.Prelude.{◌≡◌, ◌≢◌, ℕ, ◌+◌, ◌<◌, ◌≤◌, List, [], ◌∷◌, ◌++◌, length, take, if◌then◌else◌, Option}
 use Rattle.std.specs.Prelude.{Some, None}
-use Rattle.std.specs.List.{flat_map}
+use Rattle.lexical_grammar.specs.Cut.{Item, Significant, is_significant_kind}
 use Rattle.lexical_grammar.specs.declared.TokenKind.{TokenKind}
 use Rattle.lexical_grammar.specs.declared.TokenKind.TheVariants.{Eof}
-use Rattle.lexical_grammar.specs.Cut.{Item, Significant, is_significant_kind}
-use Rattle.document_grammar.specs.Tree.{Text, Tree, leaf, node, Forest, none, ◌▸◌}
 use Rattle.document_grammar.specs.Derivation.{Sort, Fits, text, texts, Terminal, word, end}
 use Rattle.document_grammar.specs.Placed.{bare}
 use Rattle.document_grammar.specs.Sentence.{leaf_number, Begins, StartSentence, StartSentenceWithin}
+use Rattle.document_grammar.specs.Tree.{Text, Tree, leaf, node, Forest, none, ◌▸◌}
 
 -- ---- an offset in a text
 

@@ -1,16 +1,16 @@
 -- The leaves of a tree, and the items of a text: a leaf for an item.
 use Rattle.std.specs.Prelude.{◌≡◌, ℕ, Bool, false, is_none, List, [], ◌∷◌, ◌++◌, ◌⊎◌, Option, Some, None}
+use Rattle.lexical_grammar.specs.Answers.{Answer, gives, limit_at}
+use Rattle.lexical_grammar.specs.Cut.{Item}
 use Rattle.lexical_grammar.specs.declared.TokenKind.{TokenKind}
 use Rattle.lexical_grammar.specs.declared.TokenKind.TheVariants as token
-use Rattle.lexical_grammar.specs.Cut.{Item}
-use Rattle.lexical_grammar.specs.Answers.{Answer, gives, limit_at}
+use Rattle.document_grammar.specs.Derivation.{spelled, LeafRule}
+use Rattle.document_grammar.specs.Forests.{Forest, none, leaf, node}
+use Rattle.document_grammar.specs.Numbers.{number}
+use Rattle.document_grammar.specs.Sentence.{leaf_number}
+use Rattle.document_grammar.specs.Tree.{Text}
 use Rattle.document_grammar.specs.declared.kind.SyntaxKind.{SyntaxKind}
 use Rattle.document_grammar.specs.declared.kind.SyntaxKind.TheVariants as kind
-use Rattle.document_grammar.specs.Numbers.{number}
-use Rattle.document_grammar.specs.Tree.{Text}
-use Rattle.document_grammar.specs.Forests.{Forest, none, leaf, node}
-use Rattle.document_grammar.specs.Derivation.{spelled, LeafRule}
-use Rattle.document_grammar.specs.Sentence.{leaf_number}
 
 -- a leaf: its kind and its text
 pub record Leaf : Type 0 where

@@ -1,8 +1,8 @@
 -- Built trees as trees of the grammar: each kind by its number.
 use Rattle.std.specs.Prelude.{[]}
+use Rattle.document_grammar.specs.Forests as built
 use Rattle.document_grammar.specs.Kinds.{ERROR}
 use Rattle.document_grammar.specs.Numbers.{number}
-use Rattle.document_grammar.specs.Forests as built
 use Rattle.document_grammar.specs.Tree.{Tree, leaf, node, Forest, none, ◌▸◌}
 
 abbrev pub numbered : built.Forest → Forest

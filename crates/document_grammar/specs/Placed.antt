@@ -1,9 +1,9 @@
 -- Trees with the leaves of ignored tokens (GraphQL October 2021, section 2.1.7, "Ignored Tokens"): without them, and
 -- where they hang, which is this project's own rule.
 use Rattle.std.specs.Prelude.{◌≢◌, Bool, false, cond, List, [], ◌++◌, IsTrue}
-use Rattle.document_grammar.specs.Tree.{Token, Tree, leaf, node, Forest, none, ◌▸◌}
 use Rattle.document_grammar.specs.Choices.{is_ignored}
 use Rattle.document_grammar.specs.Derivation.{Yield, Yields}
+use Rattle.document_grammar.specs.Tree.{Token, Tree, leaf, node, Forest, none, ◌▸◌}
 
 -- A leaf of an ignored token.
 abbrev pub ignored : Tree → Bool

@@ -1,22 +1,22 @@
 -- What holds of a tree with errors: which children a node may have, and where left over tokens are. The standard says
 -- nothing of such trees, so these are this project's own promises.
+use Rattle.std.specs.List.{list_any, All}
 use Rattle.std.specs.Prelude.{◌≡◌, ◌≢◌, ℕ, ◌+◌, ◌≤◌, Bool, true, false, ◌&&◌, ◌⊎◌, cond, eqb, List, [], ◌∷◌, ◌++◌}
 use Rattle.std.specs.Prelude.{length, Option, Some, None, IsTrue, IsFalse}
-use Rattle.std.specs.List.{list_any, All}
+use Rattle.lexical_grammar.specs.Cut.{Item, Significant, is_significant_kind, are_tokens}
 use Rattle.lexical_grammar.specs.declared.TokenKind.{TokenKind}
 use Rattle.lexical_grammar.specs.declared.TokenKind.TheVariants.{RBracket}
-use Rattle.lexical_grammar.specs.Cut.{Item, Significant, is_significant_kind, are_tokens}
-use Rattle.document_grammar.specs.Tree.{Text, Tree, leaf, node, Forest, none, ◌▸◌}
-use Rattle.document_grammar.specs.Pattern.{Pattern, any_of, nothing, ◌then◌, ◌or_else◌, many, member}
-use Rattle.document_grammar.specs.Rows.{Row}
-use Rattle.document_grammar.specs.Kinds.{ERROR, SPREAD, LIST_VALUE, DOCUMENT}
-use Rattle.document_grammar.specs.Forests as built
-use Rattle.document_grammar.specs.Numbered.{numbered}
-use Rattle.document_grammar.specs.Placed.{bares}
-use Rattle.document_grammar.specs.FirstError.{At}
-use Rattle.document_grammar.specs.Sentence.{tokens_of}
 use Rattle.document_grammar.specs.Choices.{is_ignored}
 use Rattle.document_grammar.specs.Derivation.{document, Spells, nest, texts}
+use Rattle.document_grammar.specs.FirstError.{At}
+use Rattle.document_grammar.specs.Forests as built
+use Rattle.document_grammar.specs.Kinds.{ERROR, SPREAD, LIST_VALUE, DOCUMENT}
+use Rattle.document_grammar.specs.Numbered.{numbered}
+use Rattle.document_grammar.specs.Pattern.{Pattern, any_of, nothing, ◌then◌, ◌or_else◌, many, member}
+use Rattle.document_grammar.specs.Placed.{bares}
+use Rattle.document_grammar.specs.Rows.{Row}
+use Rattle.document_grammar.specs.Sentence.{tokens_of}
+use Rattle.document_grammar.specs.Tree.{Text, Tree, leaf, node, Forest, none, ◌▸◌}
 
 -- ---- the symbols of a row
 

@@ -3,7 +3,7 @@
 -- keyword, fragment definitions and variable definitions. The kinds whose DIRECTIVES are constant, and the rules on
 -- names, words and braces, are in `Derivation`.
 use Rattle.std.specs.Prelude.{ℕ, List, [], ◌∷◌, cond, eqb}
-use Rattle.document_grammar.specs.Pattern.{Pattern, any_of, ◌then◌, ◌or_else◌, many, one, optional, some}
+use Rattle.document_grammar.specs.Choices.{Definitions, Selections, Values, Types, DirectiveLocations}
 use Rattle.document_grammar.specs.Kinds.{BANG, DOLLAR, AMP, SPREAD, COLON, EQ, AT, L_PAREN, R_PAREN, L_BRACK, R_BRACK}
 use Rattle.document_grammar.specs.Kinds.{L_CURLY, R_CURLY, PIPE, IDENT, INT, FLOAT, STRING, query_KW, mutation_KW}
 use Rattle.document_grammar.specs.Kinds.{subscription_KW, fragment_KW, on_KW, true_KW, false_KW, null_KW, extend_KW}
@@ -24,7 +24,7 @@ use Rattle.document_grammar.specs.Kinds.{INPUT_OBJECT_TYPE_DEFINITION, INPUT_FIE
 use Rattle.document_grammar.specs.Kinds.{DIRECTIVE_LOCATIONS, DIRECTIVE_LOCATION, SCHEMA_EXTENSION}
 use Rattle.document_grammar.specs.Kinds.{SCALAR_TYPE_EXTENSION, OBJECT_TYPE_EXTENSION, INTERFACE_TYPE_EXTENSION}
 use Rattle.document_grammar.specs.Kinds.{UNION_TYPE_EXTENSION, ENUM_TYPE_EXTENSION, INPUT_OBJECT_TYPE_EXTENSION}
-use Rattle.document_grammar.specs.Choices.{Definitions, Selections, Values, Types, DirectiveLocations}
+use Rattle.document_grammar.specs.Pattern.{Pattern, any_of, ◌then◌, ◌or_else◌, many, one, optional, some}
 
 -- An operation with a keyword (section 2.3), in the second profile with a description.
 abbrev pub keyword_operation : Pattern

@@ -2,16 +2,16 @@
 -- for the cut, and section 2.2, "Document").
 use Rattle.std.specs.Prelude.{◌≡◌, ℕ, ◌≤◌, true, List, ◌++◌, length, map}
 use Rattle.std.specs.Str.{IsUtf8}
+use Rattle.lexical_grammar.specs.Cut.{Item, Word, Cut, Significant, are_tokens}
 use Rattle.lexical_grammar.specs.declared.TokenKind.{TokenKind}
 use Rattle.lexical_grammar.specs.declared.TokenKind.TheVariants as token
-use Rattle.lexical_grammar.specs.Cut.{Item, Word, Cut, Significant, are_tokens}
+use Rattle.document_grammar.specs.Derivation.{Sort, document, DerivationBy, Spells, Yield, nest, Terminal, terminals}
 use Rattle.document_grammar.specs.Kinds.{WHITESPACE, COMMENT, COMMA, ERROR, BANG, DOLLAR, AMP, SPREAD, COLON, EQ, AT}
 use Rattle.document_grammar.specs.Kinds.{L_PAREN, R_PAREN, L_BRACK, R_BRACK, L_CURLY, R_CURLY, PIPE, IDENT, INT, FLOAT}
 use Rattle.document_grammar.specs.Kinds.{STRING}
-use Rattle.document_grammar.specs.Tree.{Token, Tree}
 use Rattle.document_grammar.specs.Pattern.{Pattern}
 use Rattle.document_grammar.specs.Rows.{Row, FirstRow}
-use Rattle.document_grammar.specs.Derivation.{Sort, document, DerivationBy, Spells, Yield, nest, Terminal, terminals}
+use Rattle.document_grammar.specs.Tree.{Token, Tree}
 
 -- the number of the leaf of a token, IDENT for each Name, keywords among them; the end, which has no leaf, has ERROR's
 abbrev pub leaf_number : TokenKind → ℕ

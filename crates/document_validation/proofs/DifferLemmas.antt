@@ -1,18 +1,18 @@
 -- Lists of breaches in which none is there twice.
 use Rattle.std.proofs.Common.{◌≡◌, ◌≢◌, ℕ, zero, suc, ◌<◌, List, [], ◌∷◌, length, Bool, true, false, cond}
 use Rattle.std.proofs.Common.{Option, Some, None, arith, sym, ap, ◌∙◌}
-use Rattle.std.specs.List.{AllPairs, Contains, flat_map, range_with_len}
 use Rattle.std.proofs.lemmas.List.Elements.{Contains-get_or}
-use Rattle.validation_names.specs.Names.{Name}
-use Rattle.validation_names.specs.Mentions.{Named}
-use Rattle.validation_names.specs.Sites.{Located}
+use Rattle.std.specs.List.{AllPairs, Contains, flat_map, range_with_len}
 use Rattle.validation_names.proofs.Lists.{in_range}
-use Rattle.validation_rules.specs.declared.violations.Rule.{Rule}
+use Rattle.validation_names.specs.Mentions.{Named}
+use Rattle.validation_names.specs.Names.{Name}
+use Rattle.validation_names.specs.Sites.{Located}
+use Rattle.validation_rules.proofs.ApartLemmas.{AreApart}
+use Rattle.validation_rules.proofs.PairLemmas.{in_flat_map, pairs_flat_map, pairs_none, range_rises}
 use Rattle.validation_rules.specs.Broken.{repeat_at, repeat_of, repeats, unknown, unknown_item}
 use Rattle.validation_rules.specs.Parts.{item_at}
 use Rattle.validation_rules.specs.Violations.{Breach, breach}
-use Rattle.validation_rules.proofs.ApartLemmas.{AreApart}
-use Rattle.validation_rules.proofs.PairLemmas.{in_flat_map, pairs_flat_map, pairs_none, range_rises}
+use Rattle.validation_rules.specs.declared.violations.Rule.{Rule}
 
 abbrev pub Differ : List Breach → Type 0
 Differ bs = AllPairs (λ a b. a ≢ b) bs

@@ -1,45 +1,45 @@
 -- Nothing breaks a rule twice.
 use Rattle.std.proofs.Common.{◌≡◌, ◌≢◌, ℕ, zero, suc, ◌<◌, ◌≤◌, List, [], ◌∷◌, ◌++◌, length, map, Bool, true, false}
 use Rattle.std.proofs.Common.{cond, ◌&&◌, Option, Some, None, arith, refl, sym, ap, ◌∙◌, not, eqb, eq-eqb, ⊎_elim}
-use Rattle.std.specs.List.{Contains, list_all}
 use Rattle.std.proofs.lemmas.List.Elements.{Contains-append_cases, Contains-append_left, Contains-append_right}
 use Rattle.std.proofs.lemmas.List.Kept.{AllPairs-filter}
 use Rattle.std.proofs.lemmas.Option.{same_Some}
-use Rattle.apollo_tree.specs.Order.{Place, parent_place}
+use Rattle.std.specs.List.{Contains, list_all}
 use Rattle.apollo_tree.specs.Below.{at_or_below}
 use Rattle.apollo_tree.specs.Children.{child_nodes, is_node_place}
-use Rattle.validation_names.specs.declared.executables.DefinitionKind.TheVariants.{Operation, Fragment}
+use Rattle.apollo_tree.specs.Order.{Place, parent_place}
+use Rattle.validation_names.proofs.Lists.{in_filter_map, in_range}
 use Rattle.validation_names.specs.Definitions.{defined, named_definitions}
 use Rattle.validation_names.specs.Mentions.{Named}
+use Rattle.validation_names.specs.OwnNames.{own_name}
 use Rattle.validation_names.specs.Sites.{Located, located, nodes}
-use Rattle.validation_names.proofs.Lists.{in_filter_map, in_range}
-use Rattle.validation_rules.specs.declared.violations.Rule.{Rule}
-use Rattle.validation_rules.specs.declared.violations.Rule.TheVariants as rule
-use Rattle.validation_rules.specs.RuleNumbers.{rule_number}
-use Rattle.validation_rules.specs.Broken.{beside, not_alone, not_alone_at, on_cycle_at, on_cycles, repeats, through}
-use Rattle.validation_rules.specs.Broken.{variables, undefined_spreads, undefined_spreads_at, unused_fragment_at}
-use Rattle.validation_rules.specs.Broken.{unused_fragments}
-use Rattle.validation_rules.specs.Parts.{at, is_anonymous, is_fragment_name, numbers, operations, parts_in, reaches}
-use Rattle.validation_rules.specs.Parts.{site_at}
-use Rattle.validation_rules.specs.Violations.{Breach, breach}
+use Rattle.validation_names.specs.declared.executables.DefinitionKind.TheVariants.{Operation, Fragment}
 use Rattle.validation_rules.proofs.ApartLemmas.{AreApart, below_differ, differ, named_apart, named_site, numbers_rise}
 use Rattle.validation_rules.proofs.ApartLemmas.{operations_rise, sites_apart, spread_below, spreads_apart}
 use Rattle.validation_rules.proofs.PairLemmas.{in_flat_map, in_map, pairs_append, pairs_filter_map, pairs_flat_map}
 use Rattle.validation_rules.proofs.PairLemmas.{pairs_map}
 use Rattle.validation_rules.proofs.SpreadLemmas.{operations_inside}
 use Rattle.validation_rules.proofs.TreeLemmas.{IsBefore, child_node_parent, child_nodes_apart, nodes_rise}
-use Rattle.document_validation.specs.declared.lists.DocumentKind.{DocumentKind}
-use Rattle.document_validation.specs.declared.lists.DocumentKind.TheVariants.{Executable, TypeSystem}
-use Rattle.document_validation.specs.declared.lists.NamedList.{NamedList}
-use Rattle.document_validation.specs.declared.lists.NamedList.TheVariants as list
-use Rattle.document_validation.specs.Breaches.{breaches, foreign_as, foreign_at, foreign_in, judged_list, of_each}
-use Rattle.document_validation.specs.Breaches.{of_each_from, repeats_as, repeats_at, repeats_in, rule_of}
-use Rattle.document_validation.specs.Lists.{document_kind, is_executable, item_of, items_of}
-use Rattle.validation_names.specs.OwnNames.{own_name}
+use Rattle.validation_rules.specs.Broken.{beside, not_alone, not_alone_at, on_cycle_at, on_cycles, repeats, through}
+use Rattle.validation_rules.specs.Broken.{variables, undefined_spreads, undefined_spreads_at, unused_fragment_at}
+use Rattle.validation_rules.specs.Broken.{unused_fragments}
+use Rattle.validation_rules.specs.Parts.{at, is_anonymous, is_fragment_name, numbers, operations, parts_in, reaches}
+use Rattle.validation_rules.specs.Parts.{site_at}
+use Rattle.validation_rules.specs.RuleNumbers.{rule_number}
+use Rattle.validation_rules.specs.Violations.{Breach, breach}
+use Rattle.validation_rules.specs.declared.violations.Rule.{Rule}
+use Rattle.validation_rules.specs.declared.violations.Rule.TheVariants as rule
 use Rattle.document_validation.proofs.DifferLemmas.{Differ, IsAbout, none_differ, of_none, of_one, one_differs}
 use Rattle.document_validation.proofs.DifferLemmas.{repeats_about, repeats_differ, singles_differ, unknown_about}
 use Rattle.document_validation.proofs.DifferLemmas.{unknown_differ}
 use Rattle.document_validation.proofs.VariableLemmas.{variables_differ, variables_rule}
+use Rattle.document_validation.specs.Breaches.{breaches, foreign_as, foreign_at, foreign_in, judged_list, of_each}
+use Rattle.document_validation.specs.Breaches.{of_each_from, repeats_as, repeats_at, repeats_in, rule_of}
+use Rattle.document_validation.specs.Lists.{document_kind, is_executable, item_of, items_of}
+use Rattle.document_validation.specs.declared.lists.DocumentKind.{DocumentKind}
+use Rattle.document_validation.specs.declared.lists.DocumentKind.TheVariants.{Executable, TypeSystem}
+use Rattle.document_validation.specs.declared.lists.NamedList.{NamedList}
+use Rattle.document_validation.specs.declared.lists.NamedList.TheVariants as list
 
 -- ---- definitions
 module _ (documents : List Place) where

@@ -1,9 +1,9 @@
 -- What is listed for one document after another.
 use Rattle.std.proofs.Common.{◌≡◌, ℕ, suc, ◌+◌, List, [], ◌∷◌, arith}
 use Rattle.apollo_tree.specs.Order.{Place}
-use Rattle.validation_rules.specs.declared.violations.Violations.{Violations}
-use Rattle.validation_rules.specs.Violations.{Adds, Breach}
 use Rattle.validation_rules.proofs.AddLemmas.{adds_none, adds_then}
+use Rattle.validation_rules.specs.Violations.{Adds, Breach}
+use Rattle.validation_rules.specs.declared.violations.Violations.{Violations}
 use Rattle.document_validation.specs.Breaches.{of_each, of_each_from}
 
 -- Whoever adds what is listed for the documents that are left, the first of which has the number n, has added what is

@@ -1,19 +1,19 @@
 -- What is found of all breaches.
 use Rattle.std.proofs.Common.{◌≡◌, ℕ, zero, suc, ◌<◌, ◌≤◌, ◌-◌, List, [], ◌∷◌, length, map, take, arith, refl}
 use Rattle.std.proofs.Common.{sym, ◌∙◌, ap, subst, Option, None, Some, option_map, true}
-use Rattle.std.specs.Prelude.{◌↔◌}
-use Rattle.std.specs.List.Sorted.{IsPermutation}
 use Rattle.std.proofs.lemmas.List.{length-map, nil_from_length}
 use Rattle.std.proofs.lemmas.List.Sorted.{length_permutation}
+use Rattle.std.specs.List.Sorted.{IsPermutation}
+use Rattle.std.specs.Prelude.{◌↔◌}
 use Rattle.apollo_tree.specs.Order.{Place}
 use Rattle.validation_names.specs.Sites.{Located}
+use Rattle.validation_rules.specs.Parts.{operations, parts_in}
+use Rattle.validation_rules.specs.Selection.{is_selected_at}
+use Rattle.validation_rules.specs.Violations.{Adds, Breach, as_breach, found, selected}
 use Rattle.validation_rules.specs.declared.selection.Selection.{Selection}
 use Rattle.validation_rules.specs.declared.violations.Rule.{Rule}
 use Rattle.validation_rules.specs.declared.violations.Violation.{Violation}
 use Rattle.validation_rules.specs.declared.violations.Violations.{Violations}
-use Rattle.validation_rules.specs.Parts.{operations, parts_in}
-use Rattle.validation_rules.specs.Selection.{is_selected_at}
-use Rattle.validation_rules.specs.Violations.{Adds, Breach, as_breach, found, selected}
 use Rattle.variable_rules.proofs.WalkLemmas.{ends_once}
 use Rattle.document_validation.specs.Breaches.{breaches}
 use Rattle.document_validation.specs.Validation.{AreDecided, AreValidIn, IsValidation, ValidationEndsAt}

@@ -1,13 +1,13 @@
 -- A list by which documents of a kind are judged.
 use Rattle.std.proofs.Common.{◌≡◌, Option, Some, subst, sym}
 use Rattle.validation_names.specs.Sites.{Located}
-use Rattle.validation_rules.specs.declared.violations.Violations.{Violations}
 use Rattle.validation_rules.specs.Broken.{repeats}
 use Rattle.validation_rules.specs.Violations.{Adds}
-use Rattle.document_validation.specs.declared.lists.DocumentKind.{DocumentKind}
-use Rattle.document_validation.specs.declared.lists.NamedList.{NamedList}
+use Rattle.validation_rules.specs.declared.violations.Violations.{Violations}
 use Rattle.document_validation.specs.Breaches.{judged_list, repeats_as, repeats_at, rule_of}
 use Rattle.document_validation.specs.Lists.{items_of}
+use Rattle.document_validation.specs.declared.lists.DocumentKind.{DocumentKind}
+use Rattle.document_validation.specs.declared.lists.NamedList.{NamedList}
 
 pub judged : (kind : DocumentKind) (site : Located) (list : NamedList) (old new : Violations)
     → judged_list kind site.place ≡ Some list

@@ -2,19 +2,19 @@
 use Rattle.std.proofs.Common.{◌≡◌, ℕ, List, [], ◌∷◌, map, Option, refl, sym, ◌∙◌, ap, subst}
 use Rattle.std.specs.List.{flat_map}
 use Rattle.apollo_tree.specs.Order.{Place}
-use Rattle.validation_names.specs.declared.executables.ExecutableDefinition.{ExecutableDefinition}
-use Rattle.validation_names.specs.declared.executables.DefinitionKind.TheVariants.{Operation, Fragment}
 use Rattle.validation_names.specs.Definitions.{as_defined, defined, named_definitions}
-use Rattle.validation_rules.specs.declared.violations.Rule.TheVariants.{UniqueFragmentNames, UniqueOperationNames}
-use Rattle.validation_rules.specs.declared.violations.Violations.{Violations}
+use Rattle.validation_names.specs.declared.executables.DefinitionKind.TheVariants.{Operation, Fragment}
+use Rattle.validation_names.specs.declared.executables.ExecutableDefinition.{ExecutableDefinition}
+use Rattle.validation_rules.proofs.AddLemmas.{adds_then}
 use Rattle.validation_rules.specs.Broken.{not_alone, on_cycles, repeats, undefined_spreads, unused_fragments}
 use Rattle.validation_rules.specs.Broken.{variables_of}
+use Rattle.validation_rules.specs.Parts.{Parts, definitions, operations, parts_in, parts_of}
 use Rattle.validation_rules.specs.Violations.{Adds}
-use Rattle.validation_rules.proofs.AddLemmas.{adds_then}
+use Rattle.validation_rules.specs.declared.violations.Rule.TheVariants.{UniqueFragmentNames, UniqueOperationNames}
+use Rattle.validation_rules.specs.declared.violations.Violations.{Violations}
+use Rattle.variable_rules.specs.Steps.{EndsAt, before}
 use Rattle.document_validation.specs.Breaches.{breaches_before, foreign_in, of_each, repeats_in}
 use Rattle.document_validation.specs.Breaches.{variables_before}
-use Rattle.validation_rules.specs.Parts.{Parts, definitions, operations, parts_in, parts_of}
-use Rattle.variable_rules.specs.Steps.{EndsAt, before}
 
 of_all : (ds : List ExecutableDefinition) → map (λ d. parts_of (as_defined d)) ds ≡ map parts_of (map as_defined ds)
 of_all [] = refl

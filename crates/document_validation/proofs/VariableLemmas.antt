@@ -1,28 +1,28 @@
 -- Nothing breaks a rule on variables twice.
 use Rattle.std.proofs.Common.{◌≡◌, ◌≢◌, ◌⊎◌, ℕ, zero, suc, ◌<◌, List, [], ◌∷◌, length, Bool, true, false, cond}
 use Rattle.std.proofs.Common.{Option, Some, arith, sym, ap, ◌∙◌, inl, inr, ⊎_elim}
-use Rattle.std.specs.List.{Contains}
 use Rattle.std.proofs.lemmas.List.Elements.{Contains-append_cases}
 use Rattle.std.proofs.lemmas.List.Kept.{AllPairs-filter}
 use Rattle.std.proofs.lemmas.Option.{same_Some}
+use Rattle.std.specs.List.{Contains}
 use Rattle.apollo_tree.specs.Order.{Place}
-use Rattle.validation_names.specs.Names.{Name}
-use Rattle.validation_names.specs.declared.name_mentions.MentionKind.TheVariants.{Declared, Used}
-use Rattle.validation_names.specs.Mentions.{Named}
-use Rattle.validation_names.specs.Sites.{Located}
 use Rattle.validation_names.proofs.Lists.{in_filter, in_range}
-use Rattle.validation_rules.specs.declared.violations.Rule.{Rule}
-use Rattle.validation_rules.specs.declared.violations.Rule.TheVariants as rule
-use Rattle.validation_rules.specs.RuleNumbers.{rule_number}
-use Rattle.validation_rules.specs.Broken.{undefined_variables, undefined_variables_in, unknown, unknown_item}
-use Rattle.validation_rules.specs.Broken.{unused_variables, variables, variables_of}
-use Rattle.validation_rules.specs.Parts.{Parts, at, is_declared, is_used, numbers, operations, parts_in, reached}
-use Rattle.validation_rules.specs.Parts.{reaches, site_at}
-use Rattle.validation_rules.specs.Violations.{Breach, breach}
+use Rattle.validation_names.specs.Mentions.{Named}
+use Rattle.validation_names.specs.Names.{Name}
+use Rattle.validation_names.specs.Sites.{Located}
+use Rattle.validation_names.specs.declared.name_mentions.MentionKind.TheVariants.{Declared, Used}
 use Rattle.validation_rules.proofs.ApartLemmas.{AreApart, IsBelow, below_differ, differ, mention_below, mentions_apart}
 use Rattle.validation_rules.proofs.ApartLemmas.{numbers_rise, operations_rise, part_is, sites_apart}
 use Rattle.validation_rules.proofs.PairLemmas.{in_flat_map, pairs_append, pairs_flat_map}
 use Rattle.validation_rules.proofs.SpreadLemmas.{operations_inside}
+use Rattle.validation_rules.specs.Broken.{undefined_variables, undefined_variables_in, unknown, unknown_item}
+use Rattle.validation_rules.specs.Broken.{unused_variables, variables, variables_of}
+use Rattle.validation_rules.specs.Parts.{Parts, at, is_declared, is_used, numbers, operations, parts_in, reached}
+use Rattle.validation_rules.specs.Parts.{reaches, site_at}
+use Rattle.validation_rules.specs.RuleNumbers.{rule_number}
+use Rattle.validation_rules.specs.Violations.{Breach, breach}
+use Rattle.validation_rules.specs.declared.violations.Rule.{Rule}
+use Rattle.validation_rules.specs.declared.violations.Rule.TheVariants as rule
 use Rattle.document_validation.proofs.DifferLemmas.{Differ, unknown_about, unknown_differ}
 
 -- the other party of each is the same

@@ -1,12 +1,17 @@
 -- What breaks the rules that need no schema (GraphQL October 2021), in documents that are judged together.
+use Rattle.std.specs.List.{flat_map}
 use Rattle.std.specs.Prelude.{◌≡◌, ℕ, suc, List, [], ◌∷◌, ◌++◌, take, Bool, true, false, not, Option, Some, None}
 use Rattle.std.specs.Prelude.{option_and_then, if◌then◌else◌}
-use Rattle.std.specs.List.{flat_map}
-use Rattle.apollo_tree.specs.Order.{Place}
 use Rattle.apollo_tree.specs.Children.{child_nodes}
-use Rattle.validation_names.specs.declared.executables.DefinitionKind.TheVariants.{Operation, Fragment}
+use Rattle.apollo_tree.specs.Order.{Place}
 use Rattle.validation_names.specs.Definitions.{defined, named_definitions}
 use Rattle.validation_names.specs.Sites.{Located, located, nodes}
+use Rattle.validation_names.specs.declared.executables.DefinitionKind.TheVariants.{Operation, Fragment}
+use Rattle.validation_rules.specs.Broken.{not_alone, on_cycles, repeats, undefined_spreads, unused_fragments}
+use Rattle.validation_rules.specs.Broken.{variables_of}
+use Rattle.validation_rules.specs.Parts.{Parts, operations, parts_in}
+use Rattle.validation_rules.specs.TextOrder.{IsInTextOrder}
+use Rattle.validation_rules.specs.Violations.{Breach, breach}
 use Rattle.validation_rules.specs.declared.violations.Rule.{Rule}
 use Rattle.validation_rules.specs.declared.violations.Rule.TheVariants.{ExecutableDefinitions, UniqueArgumentNames}
 use Rattle.validation_rules.specs.declared.violations.Rule.TheVariants.{UniqueFragmentNames, UniqueInputFieldNames}
@@ -15,12 +20,8 @@ use Rattle.validation_rules.specs.declared.violations.Rule.TheVariants.{UniqueAr
 use Rattle.validation_rules.specs.declared.violations.Rule.TheVariants.{UniqueEnumValueNames, UniqueUnionMemberTypes}
 use Rattle.validation_rules.specs.declared.violations.Rule.TheVariants.{UniqueImplementedInterfaces}
 use Rattle.validation_rules.specs.declared.violations.Rule.TheVariants.{UniqueOperationNames, UniqueVariableNames}
-use Rattle.validation_rules.specs.Broken.{not_alone, on_cycles, repeats, undefined_spreads, unused_fragments}
-use Rattle.validation_rules.specs.Broken.{variables_of}
-use Rattle.validation_rules.specs.Parts.{Parts, operations, parts_in}
-use Rattle.validation_rules.specs.TextOrder.{IsInTextOrder}
-use Rattle.validation_rules.specs.Violations.{Breach, breach}
 use Rattle.variable_rules.specs.Steps.{before}
+use Rattle.document_validation.specs.Lists.{document_kind, is_executable, items_of, list_of}
 use Rattle.document_validation.specs.declared.lists.DocumentKind.{DocumentKind}
 use Rattle.document_validation.specs.declared.lists.DocumentKind.TheVariants.{Executable, TypeSystem}
 use Rattle.document_validation.specs.declared.lists.NamedList.{NamedList}
@@ -28,7 +29,6 @@ use Rattle.document_validation.specs.declared.lists.NamedList.TheVariants.{Argum
 use Rattle.document_validation.specs.declared.lists.NamedList.TheVariants.{FieldDefinitions, InputFieldDefinitions}
 use Rattle.document_validation.specs.declared.lists.NamedList.TheVariants.{ArgumentDefinitions, EnumValues}
 use Rattle.document_validation.specs.declared.lists.NamedList.TheVariants.{UnionMembers, Interfaces}
-use Rattle.document_validation.specs.Lists.{document_kind, is_executable, items_of, list_of}
 
 abbrev pub rule_of : NamedList → Rule
 rule_of Arguments = UniqueArgumentNames

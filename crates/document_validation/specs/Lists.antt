@@ -1,17 +1,18 @@
 -- Lists in a tree whose items have to have different names, and which definitions are executable.
+use Rattle.std.specs.List.{filter_map, list_any}
 use Rattle.std.specs.Prelude.{List, Bool, true, false, not, ◌&&◌, ◌||◌, Option, Some, None, [], ◌∷◌, map, option_map}
 use Rattle.std.specs.Prelude.{if◌then◌else◌}
-use Rattle.std.specs.List.{filter_map, list_any}
+use Rattle.document_grammar.specs.Numbers.{is_kind}
 use Rattle.document_grammar.specs.declared.kind.SyntaxKind.TheVariants.{ARGUMENTS, ARGUMENTS_DEFINITION}
 use Rattle.document_grammar.specs.declared.kind.SyntaxKind.TheVariants.{ENUM_VALUES_DEFINITION, FIELDS_DEFINITION}
 use Rattle.document_grammar.specs.declared.kind.SyntaxKind.TheVariants.{FRAGMENT_DEFINITION, INPUT_FIELDS_DEFINITION}
 use Rattle.document_grammar.specs.declared.kind.SyntaxKind.TheVariants.{OBJECT_VALUE, OPERATION_DEFINITION}
 use Rattle.document_grammar.specs.declared.kind.SyntaxKind.TheVariants.{IMPLEMENTS_INTERFACES, UNION_MEMBER_TYPES}
 use Rattle.document_grammar.specs.declared.kind.SyntaxKind.TheVariants.{VARIABLE_DEFINITIONS}
-use Rattle.document_grammar.specs.Numbers.{is_kind}
-use Rattle.apollo_tree.specs.Order.{Place, kind_at}
 use Rattle.apollo_tree.specs.Children.{child_nodes}
+use Rattle.apollo_tree.specs.Order.{Place, kind_at}
 use Rattle.validation_names.specs.Mentions.{Named}
+use Rattle.validation_names.specs.OwnNames.{own_name}
 use Rattle.validation_names.specs.Sites.{Located, located}
 use Rattle.document_validation.specs.declared.lists.DocumentKind.{DocumentKind}
 use Rattle.document_validation.specs.declared.lists.DocumentKind.TheVariants.{Executable, TypeSystem}
@@ -20,7 +21,6 @@ use Rattle.document_validation.specs.declared.lists.NamedList.TheVariants.{Argum
 use Rattle.document_validation.specs.declared.lists.NamedList.TheVariants.{FieldDefinitions, InputFieldDefinitions}
 use Rattle.document_validation.specs.declared.lists.NamedList.TheVariants.{ArgumentDefinitions, EnumValues}
 use Rattle.document_validation.specs.declared.lists.NamedList.TheVariants.{UnionMembers, Interfaces}
-use Rattle.validation_names.specs.OwnNames.{own_name}
 
 -- the list that an element is
 abbrev pub list_of : Place → Option NamedList

@@ -1,12 +1,14 @@
 -- The message of a violation, in the words of graphql-js 16.
 use Rattle.std.specs.Prelude.{Bool, ◌||◌, if◌then◌else◌, List, ℕ, ◌++◌, [], codes, bytes_eq, Option, Some, None}
 use Rattle.std.specs.Prelude.{option_and_then, option_map}
+use Rattle.document_grammar.specs.Numbers.{is_kind}
 use Rattle.document_grammar.specs.declared.kind.SyntaxKind.TheVariants.{DIRECTIVE_DEFINITION, SCHEMA_DEFINITION}
 use Rattle.document_grammar.specs.declared.kind.SyntaxKind.TheVariants.{SCHEMA_EXTENSION}
-use Rattle.document_grammar.specs.Numbers.{is_kind}
 use Rattle.apollo_tree.specs.Order.{Place, kind_at, parent_place}
 use Rattle.validation_names.specs.Names.{Name}
+use Rattle.validation_names.specs.OwnNames.{name_at, or_nothing, own_name}
 use Rattle.validation_names.specs.Sites.{Located}
+use Rattle.validation_rules.specs.Violations.{Breach}
 use Rattle.validation_rules.specs.declared.violations.Rule.{Rule}
 use Rattle.validation_rules.specs.declared.violations.Rule.TheVariants.{ExecutableDefinitions, UniqueOperationNames}
 use Rattle.validation_rules.specs.declared.violations.Rule.TheVariants.{LoneAnonymousOperation, UniqueArgumentNames}
@@ -18,8 +20,6 @@ use Rattle.validation_rules.specs.declared.violations.Rule.TheVariants.{UniqueFi
 use Rattle.validation_rules.specs.declared.violations.Rule.TheVariants.{UniqueArgumentDefinitionNames}
 use Rattle.validation_rules.specs.declared.violations.Rule.TheVariants.{UniqueEnumValueNames, UniqueUnionMemberTypes}
 use Rattle.validation_rules.specs.declared.violations.Rule.TheVariants.{UniqueImplementedInterfaces}
-use Rattle.validation_rules.specs.Violations.{Breach}
-use Rattle.validation_names.specs.OwnNames.{name_at, or_nothing, own_name}
 
 abbrev pub Text : Type 0
 Text = List ℕ

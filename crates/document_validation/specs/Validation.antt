@@ -2,9 +2,9 @@
 use Rattle.std.specs.Prelude.{◌≡◌, ℕ, ◌<◌, ◌≤◌, List, [], length, map, slice_index, Option, None, option_map, IfSome}
 use Rattle.apollo_tree.specs.Order.{Place}
 use Rattle.validation_names.specs.Sites.{Located, as_located}
-use Rattle.validation_rules.specs.declared.selection.Selection.{Selection}
 use Rattle.validation_rules.specs.Parts.{operations, parts_in, site_at}
 use Rattle.validation_rules.specs.Violations.{as_breach, selected}
+use Rattle.validation_rules.specs.declared.selection.Selection.{Selection}
 use Rattle.variable_rules.specs.Steps.{EndsAt}
 use Rattle.document_validation.specs.Breaches.{AreFound, breaches, breaches_before}
 use Rattle.document_validation.specs.declared.validation.Validation.{Validation}

@@ -1,7 +1,7 @@
 -- The tokens of pieces that grow.
 use Rattle.std.proofs.Common.{◌≡◌, List, ◌++◌, ap, ◌∙◌, append_assoc}
-use Rattle.std.specs.List.{flat_map}
 use Rattle.std.proofs.lemmas.Grind.{flat_map-append}
+use Rattle.std.specs.List.{flat_map}
 use Rattle.json.specs.Token.{Token}
 use Rattle.rpc_messages.specs.Pieces.{tokens_of}
 use Rattle.rpc_messages.specs.declared.pieces.Piece.{Piece}

@@ -1,6 +1,6 @@
 -- Parts of a text, and what is found in them.
-use Rattle.std.specs.Prelude.{◌≢◌, ℕ, ◌<◌, ◌≤◌, List, slice_index_or, slice_range}
 use Rattle.std.specs.List.{All, AllPairs}
+use Rattle.std.specs.Prelude.{◌≢◌, ℕ, ◌<◌, ◌≤◌, List, slice_index_or, slice_range}
 use Rattle.editor_answers.specs.declared.span.Span.{Span}
 use Rattle.editor_answers.specs.declared.tokens.SemanticToken.{SemanticToken}
 

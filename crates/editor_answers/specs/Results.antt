@@ -3,8 +3,8 @@ use Rattle.std.specs.Prelude.{ℕ, List, ◌∷◌, codes}
 use Rattle.json.specs.Json.{Json, member, no_members, object, string}
 use Rattle.json.specs.Token.{Token, key}
 use Rattle.json.specs.Tree.{json_tokens}
-use Rattle.editor_diagnostics.specs.Positions.{position_of, range_value}
 use Rattle.line_index.specs.declared.PositionEncoding.{PositionEncoding}
+use Rattle.editor_diagnostics.specs.Positions.{position_of, range_value}
 use Rattle.editor_answers.specs.declared.span.Span.{Span}
 
 -- `Range`: a part of a text

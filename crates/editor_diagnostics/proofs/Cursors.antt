@@ -1,13 +1,13 @@
 -- Offsets where a cursor may be.
 use Rattle.std.proofs.Common.{◌≡◌, ◌==◌, Bool, true, false, ℕ, zero, suc, ◌≤◌, List, length, min, sym, ◌∙◌, refl, subst}
 use Rattle.std.proofs.Common.{inl, inr, arith}
-use Rattle.std.specs.Prelude.{◌&&◌, if◌then◌else◌, slice_index, take}
-use Rattle.std.specs.Str.{IsCharBoundary}
 use Rattle.std.proofs.lemmas.Bool.{and_parts, cases_Bool, eqb-true, false≢true}
 use Rattle.std.proofs.lemmas.Str.{IsCharBoundary-before_ascii}
+use Rattle.std.specs.Prelude.{◌&&◌, if◌then◌else◌, slice_index, take}
+use Rattle.std.specs.Str.{IsCharBoundary}
+use Rattle.line_index.proofs.OffsetLemmas.{named}
 use Rattle.line_index.specs.Positions.{IsCursor, offset_of, units}
 use Rattle.line_index.specs.declared.PositionEncoding.{PositionEncoding}
-use Rattle.line_index.proofs.OffsetLemmas.{named}
 use Rattle.editor_diagnostics.specs.Positions.{IsReadAt, cursor_at, position_in, position_of}
 
 abbrev parted : List ℕ → ℕ → Bool

@@ -1,16 +1,16 @@
 -- The errors of the definitions, and the remarks on them.
 use Rattle.std.proofs.Common.{◌≡◌, ◌<◌, ◌+◌, ◌-◌, ℕ, suc, get_or, List, [], ◌∷◌, ◌++◌, Bool, true, false, cond, None}
 use Rattle.std.proofs.Common.{map, take, drop, length, min, ap, refl, sym, ◌∙◌, inl, inr, arith}
-use Rattle.std.specs.Prelude.{take_while}
+use Rattle.std.proofs.Math.Seq.{take-suc}
 use Rattle.std.proofs.lemmas.Bool.{cases_Bool}
 use Rattle.std.proofs.lemmas.List.{length-map, map-append, take-map, take_min}
-use Rattle.std.proofs.Math.Seq.{take-suc}
 use Rattle.std.proofs.lemmas.List.Sums.{take_while-cons}
+use Rattle.std.specs.Prelude.{take_while}
 use Rattle.apollo_lexer.specs.Diagnostics.{Diagnostic}
 use Rattle.first_errors.specs.Groups.{Group, group_of, groups, is_earlier}
 use Rattle.editor_diagnostics.specs.Remarks.{Remarked}
-use Rattle.editor_diagnostics.specs.declared.syntax.ErrorGroup.{ErrorGroup}
 use Rattle.editor_diagnostics.specs.Syntax.{IsAboutFirst, as_group, more_remarks, syntax_remark, syntax_remarks}
+use Rattle.editor_diagnostics.specs.declared.syntax.ErrorGroup.{ErrorGroup}
 
 -- the remarks after that on the first group
 abbrev remarks_after : ℕ → Diagnostic → List Group → List Remarked

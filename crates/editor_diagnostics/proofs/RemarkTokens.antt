@@ -1,12 +1,12 @@
 -- The tokens of lists of pieces that grow.
 use Rattle.std.proofs.Common.{◌≡◌, ℕ, ℤ, suc, ◌+◌, ◌-◌, ◌^◌, ◌<◌, List, [], ◌∷◌, ◌++◌, Option, Some, None, append_assoc}
 use Rattle.std.proofs.Common.{subst, ap, sym, refl, ◌∙◌, length, map, take, get_or, min, arith}
-use Rattle.std.specs.List.{flat_map}
+use Rattle.std.proofs.Math.Seq.{take-suc}
 use Rattle.std.proofs.lemmas.Grind.{flat_map-append}
 use Rattle.std.proofs.lemmas.List.{append-nil}
 use Rattle.std.proofs.lemmas.List.Concat.{flat_map-cons}
 use Rattle.std.proofs.lemmas.List.Folds.{flat_map-map}
-use Rattle.std.proofs.Math.Seq.{take-suc}
+use Rattle.std.specs.List.{flat_map}
 use Rattle.json.specs.Json.{Json, object}
 use Rattle.json.specs.Token.{Token, end_array, end_object}
 use Rattle.json.specs.Tree.{items_tokens, json_tokens, members_tokens}

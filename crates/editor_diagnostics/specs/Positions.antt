@@ -3,10 +3,10 @@ use Rattle.std.specs.Prelude.{◌≡◌, ℕ, zero, suc, ◌&&◌, ◌==◌, if�
 use Rattle.std.specs.Prelude.{take, decimal, codes}
 use Rattle.std.specs.Str.{IsCharBoundary, IsUtf8}
 use Rattle.json.specs.Json.{Json, member, no_members, number, object}
-use Rattle.line_index.specs.declared.Position.{Position}
-use Rattle.line_index.specs.declared.PositionEncoding.{PositionEncoding}
 use Rattle.line_index.specs.Lines.{line_at, line_start}
 use Rattle.line_index.specs.Positions.{offset_of, units, width}
+use Rattle.line_index.specs.declared.Position.{Position}
+use Rattle.line_index.specs.declared.PositionEncoding.{PositionEncoding}
 
 -- where a cursor may be: no client can name the offset between the CR and the LF of a CR LF, and the line ends in front
 -- of them

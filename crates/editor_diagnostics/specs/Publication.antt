@@ -1,6 +1,6 @@
 -- The notice of the remarks on a document to a client.
-use Rattle.std.specs.Prelude.{ℕ, ◌+◌, ◌-◌, ◌^◌, ℤ, List, map, min, Option, Some, None, codes, decimal}
 use Rattle.std.specs.Fmt.{signed_decimal}
+use Rattle.std.specs.Prelude.{ℕ, ◌+◌, ◌-◌, ◌^◌, ℤ, List, map, min, Option, Some, None, codes, decimal}
 use Rattle.json.specs.Json.{Json, Members, array, item, member, no_items, no_members, number, object, string}
 use Rattle.json.specs.Value.{items_of}
 use Rattle.line_index.specs.declared.PositionEncoding.{PositionEncoding}

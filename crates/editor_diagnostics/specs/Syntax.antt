@@ -1,9 +1,9 @@
 -- The syntax errors of a document as remarks: one for each definition that has some.
+use Rattle.std.specs.List.{starts_with}
 use Rattle.std.specs.Prelude.{◌≡◌, ℕ, ◌+◌, ◌-◌, ◌^◌, ◌==◌, if◌then◌else◌, Bool, not, List, [], ◌∷◌, ◌++◌, length, map}
 use Rattle.std.specs.Prelude.{take, min, codes, decimal, take_while, Option, None}
-use Rattle.std.specs.List.{starts_with}
-use Rattle.apollo_lexer.specs.Diagnostics.{Diagnostic, subject_text}
 use Rattle.lexical_grammar.specs.Characters.{is_line_terminator}
+use Rattle.apollo_lexer.specs.Diagnostics.{Diagnostic, subject_text}
 use Rattle.first_errors.specs.Groups.{Group, groups}
 use Rattle.editor_diagnostics.specs.Remarks.{Remarked, with_brace}
 use Rattle.editor_diagnostics.specs.declared.remark.Severity.TheVariants.{Error}

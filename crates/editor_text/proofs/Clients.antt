@@ -2,22 +2,22 @@
 use Rattle.std.proofs.Common.{◌≡◌, ◌==◌, ◌≤◌, Bool, ℕ, zero, suc, ◌+◌, ◌-◌, List, [], ◌∷◌, ◌++◌, append_assoc, arith}
 use Rattle.std.proofs.Common.{ap, drop, length, map, drop-drop, length-append, length-drop, refl, subst, sym, take, ◌∙◌}
 use Rattle.std.proofs.Common.{inl, inr}
-use Rattle.std.specs.Prelude.{◌&&◌, if◌then◌else◌, slice_index, slice_range}
-use Rattle.std.specs.List.{flat_map}
-use Rattle.std.specs.Str.{IsCharBoundary, IsUtf8}
+use Rattle.std.proofs.Math.Seq.{take-add}
 use Rattle.std.proofs.lemmas.Bool.{cases_Bool}
 use Rattle.std.proofs.lemmas.List.Concat.{flat_map-cons}
 use Rattle.std.proofs.lemmas.Str.{chars-nil, IsCharBoundary-from_drop, IsUtf8-append, IsUtf8-between, IsUtf8-drop}
 use Rattle.std.proofs.lemmas.Str.{IsUtf8-take}
-use Rattle.std.proofs.Math.Seq.{take-add}
+use Rattle.std.specs.List.{flat_map}
+use Rattle.std.specs.Prelude.{◌&&◌, if◌then◌else◌, slice_index, slice_range}
+use Rattle.std.specs.Str.{IsCharBoundary, IsUtf8}
 use Rattle.json.specs.Token.{Token, begin_array, end_array}
 use Rattle.json.specs.Tree.{items_tokens, json_tokens}
+use Rattle.line_index.proofs.TextLemmas.{units-append}
 use Rattle.line_index.specs.Positions.{IsCursor, offset_of, units, units_of}
 use Rattle.line_index.specs.declared.PositionEncoding.{PositionEncoding}
-use Rattle.line_index.proofs.TextLemmas.{units-append}
-use Rattle.editor_text.proofs.EditLemmas.{back, front, mono}
-use Rattle.editor_diagnostics.specs.Positions.{cursor_at, position_of}
 use Rattle.editor_diagnostics.proofs.Cursors.{read_at}
+use Rattle.editor_diagnostics.specs.Positions.{cursor_at, position_of}
+use Rattle.editor_text.proofs.EditLemmas.{back, front, mono}
 use Rattle.editor_text.specs.Answered.{AreEditsOf, edit_tokens, text_edit}
 use Rattle.editor_text.specs.Edited.{AreApart, TextEdit, edited, edits_value, items_of_edits}
 use Rattle.editor_text.specs.Finding.{AreAfter, AreEdits, spliced}

@@ -1,18 +1,18 @@
 -- A change of a text in bytes, and in its units.
 use Rattle.std.proofs.Common.{◌≡◌, ℕ, ◌+◌, ◌-◌, ◌≤◌, max, List, ◌++◌, length, take, drop, sym, ap, ◌∙◌, subst, inl, inr}
 use Rattle.std.proofs.Common.{arith, length-append}
-use Rattle.std.specs.Prelude.{Some}
-use Rattle.std.specs.List.{replace_range}
-use Rattle.std.specs.Str.{IsUtf8, IsCharBoundary}
+use Rattle.std.proofs.Math.Seq.{take-add}
 use Rattle.std.proofs.lemmas.Bool.{cases_lt}
 use Rattle.std.proofs.lemmas.List.{take-append-drop, take-append-le, take_at, drop_at, length-take-le}
 use Rattle.std.proofs.lemmas.Str.{IsUtf8-take, IsUtf8-drop, IsUtf8-between, IsUtf8-append}
-use Rattle.std.proofs.Math.Seq.{take-add}
+use Rattle.std.specs.List.{replace_range}
+use Rattle.std.specs.Prelude.{Some}
+use Rattle.std.specs.Str.{IsUtf8, IsCharBoundary}
+use Rattle.line_index.proofs.TextLemmas.{units-append}
 use Rattle.line_index.specs.Positions.{units, offset_of}
 use Rattle.line_index.specs.declared.PositionEncoding.{PositionEncoding}
-use Rattle.line_index.proofs.TextLemmas.{units-append}
-use Rattle.editor_text.specs.declared.PositionRange.{PositionRange}
 use Rattle.editor_text.specs.Client.{AreOffsets, replaced}
+use Rattle.editor_text.specs.declared.PositionRange.{PositionRange}
 
 -- the units on both sides of an offset
 split : (e : PositionEncoding) (text : List ℕ) (k : ℕ) → IsUtf8 text → IsCharBoundary text k

@@ -1,11 +1,11 @@
 -- Edits up to two offsets.
 use Rattle.std.proofs.Common.{◌≡◌, ◌≤◌, ℕ, ◌+◌, ◌-◌, List, [], ◌∷◌, ◌++◌, append_assoc, arith, ap, drop, refl, subst}
 use Rattle.std.proofs.Common.{sym, take, ◌∙◌}
-use Rattle.std.specs.Prelude.{slice_range}
-use Rattle.std.specs.Str.{IsCharBoundary, IsUtf8}
+use Rattle.std.proofs.Math.Seq.{take-add}
 use Rattle.std.proofs.lemmas.List.{append-nil, take-append-drop}
 use Rattle.std.proofs.lemmas.Str.{IsCharBoundary-from_drop}
-use Rattle.std.proofs.Math.Seq.{take-add}
+use Rattle.std.specs.Prelude.{slice_range}
+use Rattle.std.specs.Str.{IsCharBoundary, IsUtf8}
 use Rattle.line_index.specs.Positions.{IsCursor}
 use Rattle.editor_text.specs.Finding.{AreAfter, AreEdits, IsStep, spliced}
 use Rattle.editor_text.specs.declared.differences.Edit.{Edit}

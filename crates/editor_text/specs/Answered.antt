@@ -4,10 +4,10 @@ use Rattle.std.specs.Str.{IsUtf8}
 use Rattle.json.specs.Json.{Json}
 use Rattle.json.specs.Token.{Token}
 use Rattle.json.specs.Tree.{json_tokens}
-use Rattle.editor_diagnostics.specs.Positions.{position_of}
 use Rattle.line_index.specs.Positions.{units}
 use Rattle.line_index.specs.declared.PositionEncoding.{PositionEncoding}
 use Rattle.rpc_messages.specs.Messages.{IsResult}
+use Rattle.editor_diagnostics.specs.Positions.{position_of}
 use Rattle.editor_text.specs.Edited.{AreApart, TextEdit, edit_value, edited, edits_value}
 use Rattle.editor_text.specs.declared.differences.Edit.{Edit}
 

@@ -1,14 +1,14 @@
 -- What a client has. Its text is a list of units, in the encoding that it agreed on with the server, and its positions
 -- count lines and units.
-use Rattle.std.specs.Prelude.{◌≡◌, ℕ, ◌≤◌, max, List, length, take, fold}
 use Rattle.std.specs.List.{replace_range}
+use Rattle.std.specs.Prelude.{◌≡◌, ℕ, ◌≤◌, max, List, length, take, fold}
 use Rattle.std.specs.Str.{IsCharBoundary}
 use Rattle.std.specs.declared.option.Option.{Option}
 use Rattle.std.specs.declared.option.Option.TheVariants.{Some, None}
 use Rattle.line_index.specs.Positions.{units, offset_of}
 use Rattle.line_index.specs.declared.PositionEncoding.{PositionEncoding}
-use Rattle.editor_text.specs.declared.PositionRange.{PositionRange}
 use Rattle.editor_text.specs.declared.Change.{Change}
+use Rattle.editor_text.specs.declared.PositionRange.{PositionRange}
 
 -- an open document: the encoding, and the bytes of the text
 pub record Opened : Type 0 where

@@ -2,9 +2,9 @@
 -- refer to the text before them.
 use Rattle.std.specs.Prelude.{ℕ, ◌≤◌, List, [], ◌∷◌, ◌++◌, codes, drop, slice_range}
 use Rattle.json.specs.Json.{Items, Json, array, item, member, no_items, no_members, object, string}
-use Rattle.editor_diagnostics.specs.Positions.{range_value}
 use Rattle.line_index.specs.Positions.{offset_of, units}
 use Rattle.line_index.specs.declared.PositionEncoding.{PositionEncoding}
+use Rattle.editor_diagnostics.specs.Positions.{range_value}
 use Rattle.editor_text.specs.declared.PositionRange.{PositionRange}
 
 -- a range, and the text that takes its place

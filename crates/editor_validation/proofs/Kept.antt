@@ -1,9 +1,9 @@
 -- Violations that are kept, one more.
 use Rattle.std.proofs.Common.{◌≡◌, ℕ, ◌+◌, ◌<◌, Bool, true, false, List, [], ◌∷◌, ◌++◌, length, map, take, get_or}
 use Rattle.std.proofs.Common.{Option, Some, None, refl, append-nil}
-use Rattle.std.specs.List.{filter}
 use Rattle.std.proofs.lemmas.List.{take_more, map-append}
 use Rattle.std.proofs.lemmas.List.Elements.{filter-append}
+use Rattle.std.specs.List.{filter}
 use Rattle.validation_names.specs.Names.{Name}
 use Rattle.validation_rules.specs.declared.violations.Rule.{Rule}
 use Rattle.validation_rules.specs.declared.violations.Rule.TheVariants.{KnownFragmentNames, NoUnusedFragments}

@@ -1,21 +1,21 @@
 -- Remarks depend on which fragments other documents have, and not on the order of the documents.
 use Rattle.std.proofs.Common.{◌≡◌, zero, suc, Bool, true, false, not, List, [], ◌∷◌, map, take, arith, refl, sym, ap}
 use Rattle.std.proofs.Common.{◌∙◌}
-use Rattle.std.specs.Prelude.{◌↔◌, ◌||◌}
 use Rattle.std.specs.List.{Contains, filter, list_any}
+use Rattle.std.specs.Prelude.{◌↔◌, ◌||◌}
 use Rattle.document_grammar.specs.declared.kind.SyntaxKind.TheVariants.{FRAGMENT_NAME}
 use Rattle.apollo_lexer.specs.Diagnostics.{Diagnostic}
 use Rattle.apollo_tree.specs.Order.{Place}
-use Rattle.document_validation.specs.Breaches.{breaches}
-use Rattle.validation_rules.proofs.TextOrderLemmas.{one_order}
-use Rattle.validation_names.specs.Names.{Name}
 use Rattle.validation_names.specs.Mentions.{name_in}
+use Rattle.validation_names.specs.Names.{Name}
+use Rattle.validation_rules.proofs.TextOrderLemmas.{one_order}
 use Rattle.validation_rules.specs.Violations.{Breach}
+use Rattle.document_validation.specs.Breaches.{breaches}
 use Rattle.editor_diagnostics.specs.Remarks.{Remarked}
+use Rattle.editor_validation.proofs.Kept.{same_mends}
 use Rattle.editor_validation.specs.Fragments.{Fragments}
 use Rattle.editor_validation.specs.Mending.{define, has_name, is_mended, spread}
 use Rattle.editor_validation.specs.Remarks.{AreRemarks, AreRemarksOn, remark_of}
-use Rattle.editor_validation.proofs.Kept.{same_mends}
 
 -- ---- a test that some element passes
 module _ {X : Type 0} (p : X → Bool) where

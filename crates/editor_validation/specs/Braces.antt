@@ -1,7 +1,7 @@
 -- Braces of a document that are never closed, although a definition begins behind them.
+use Rattle.std.specs.List.{filter, list_any}
 use Rattle.std.specs.Prelude.{ℕ, ◌-◌, Bool, false, true, ◌&&◌, if◌then◌else◌, List, [], ◌∷◌, drop, find, fold, nat_lt}
 use Rattle.std.specs.Prelude.{slice_index, Option, option_map, bytes_eq, codes}
-use Rattle.std.specs.List.{filter, list_any}
 use Rattle.lexical_grammar.specs.Characters.{is_line_terminator}
 use Rattle.apollo_tree.specs.Below.{at_or_below, is_leaf_place}
 use Rattle.apollo_tree.specs.Order.{Place, range_at, text_at}

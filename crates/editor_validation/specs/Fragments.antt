@@ -1,12 +1,12 @@
 -- The fragments that documents define and spread.
-use Rattle.std.specs.Prelude.{List, [], ◌∷◌, map, string_bytes}
 use Rattle.std.specs.List.{flat_map}
+use Rattle.std.specs.Prelude.{List, [], ◌∷◌, map, string_bytes}
 use Rattle.apollo_tree.specs.Order.{Place}
+use Rattle.validation_names.specs.Definitions.{Defined, defined, named_definitions}
+use Rattle.validation_names.specs.Mentions.{Named, mentions}
 use Rattle.validation_names.specs.Names.{Name}
 use Rattle.validation_names.specs.declared.executables.DefinitionKind.TheVariants.{Fragment}
 use Rattle.validation_names.specs.declared.name_mentions.MentionKind.TheVariants.{Spread}
-use Rattle.validation_names.specs.Definitions.{Defined, defined, named_definitions}
-use Rattle.validation_names.specs.Mentions.{Named, mentions}
 use Rattle.editor_validation.specs.declared.fragments.FragmentNames.{FragmentNames}
 
 -- the names of the fragments that a document defines, and of those that it spreads

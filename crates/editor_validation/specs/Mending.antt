@@ -1,12 +1,12 @@
 -- Broken rules on fragments that other documents mend.
-use Rattle.std.specs.Prelude.{List, Bool, false, Option, Some, None, bytes_eq}
 use Rattle.std.specs.List.{list_any}
+use Rattle.std.specs.Prelude.{List, Bool, false, Option, Some, None, bytes_eq}
 use Rattle.document_grammar.specs.declared.kind.SyntaxKind.TheVariants.{FRAGMENT_NAME}
-use Rattle.validation_names.specs.Names.{Name}
 use Rattle.validation_names.specs.Mentions.{name_in}
+use Rattle.validation_names.specs.Names.{Name}
+use Rattle.validation_rules.specs.Violations.{Breach}
 use Rattle.validation_rules.specs.declared.violations.Rule.{Rule}
 use Rattle.validation_rules.specs.declared.violations.Rule.TheVariants.{KnownFragmentNames, NoUnusedFragments}
-use Rattle.validation_rules.specs.Violations.{Breach}
 use Rattle.editor_validation.specs.Fragments.{Fragments}
 
 abbrev pub has_name : List Name → Name → Bool

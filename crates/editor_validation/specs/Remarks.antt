@@ -1,22 +1,22 @@
 -- Remarks on a document: its syntax errors, or the rules of validation that it breaks.
+use Rattle.std.specs.List.{filter}
 use Rattle.std.specs.Prelude.{◌≡◌, ℕ, Bool, not, ◌||◌, if◌then◌else◌, List, [], ◌∷◌, map, find, take, None, Option}
 use Rattle.std.specs.Prelude.{unwrap_or}
-use Rattle.std.specs.List.{filter}
-use Rattle.document_grammar.specs.declared.kind.SyntaxKind.TheVariants.{ENUM_VALUE, FRAGMENT_NAME, NAME, VARIABLE}
 use Rattle.document_grammar.specs.Numbers.{is_kind}
-use Rattle.apollo_tree.specs.Order.{Place, kind_at, range_at}
+use Rattle.document_grammar.specs.declared.kind.SyntaxKind.TheVariants.{ENUM_VALUE, FRAGMENT_NAME, NAME, VARIABLE}
+use Rattle.apollo_lexer.specs.Diagnostics.{Diagnostic}
 use Rattle.apollo_tree.specs.Children.{child_nodes}
+use Rattle.apollo_tree.specs.Order.{Place, kind_at, range_at}
+use Rattle.first_errors.specs.Groups.{definition_starts}
+use Rattle.validation_rules.specs.RuleNames.{rule_name}
+use Rattle.validation_rules.specs.Violations.{Breach}
 use Rattle.validation_rules.specs.declared.violations.Rule.{Rule}
 use Rattle.validation_rules.specs.declared.violations.Rule.TheVariants.{ExecutableDefinitions, KnownFragmentNames}
 use Rattle.validation_rules.specs.declared.violations.Rule.TheVariants.{NoUnusedFragments, NoUnusedVariables}
-use Rattle.validation_rules.specs.RuleNames.{rule_name}
-use Rattle.validation_rules.specs.Violations.{Breach}
-use Rattle.document_validation.specs.Messages.{message_of}
 use Rattle.document_validation.specs.Breaches.{AreFound, breaches}
-use Rattle.apollo_lexer.specs.Diagnostics.{Diagnostic}
+use Rattle.document_validation.specs.Messages.{message_of}
 use Rattle.editor_diagnostics.specs.Remarks.{Remarked, with_brace}
 use Rattle.editor_diagnostics.specs.Syntax.{IsAboutFirst, syntax_remarks}
-use Rattle.first_errors.specs.Groups.{definition_starts}
 use Rattle.editor_diagnostics.specs.declared.remark.Severity.{Severity}
 use Rattle.editor_diagnostics.specs.declared.remark.Severity.TheVariants.{Error, Warning}
 use Rattle.editor_validation.specs.Braces.{open_brace}

@@ -1,10 +1,10 @@
 -- Texts that are masked part by part.
 use Rattle.std.proofs.Common.{◌≡◌, ◌⊎◌, ℕ, ◌+◌, ◌-◌, ◌≤◌, Bool, true, false, List, [], ◌∷◌, ◌++◌, map, take, inl, inr}
 use Rattle.std.proofs.Common.{refl, sym, ap, ◌∙◌, subst, arith}
-use Rattle.std.specs.Prelude.{slice_range}
 use Rattle.std.proofs.Math.Seq.{take-add}
 use Rattle.std.proofs.lemmas.Bool.{cases_Bool}
 use Rattle.std.proofs.lemmas.List.{map-append}
+use Rattle.std.specs.Prelude.{slice_range}
 use Rattle.embedded_documents.specs.Masked.{AreMasked, blank}
 
 appended : (xs ys front rest : List ℕ) → AreMasked xs front → AreMasked ys rest → AreMasked (xs ++ ys) (front ++ rest)

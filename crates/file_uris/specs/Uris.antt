@@ -1,7 +1,7 @@
 -- Files as URIs (RFC 8089, section 2, "Syntax").
+use Rattle.std.specs.Char.{to_ascii_lowercase}
 use Rattle.std.specs.Prelude.{◌==◌, ℕ, List, [], ◌∷◌, ◌++◌, Option, Some, None, codes, if◌then◌else◌, option_and_then}
 use Rattle.std.specs.Prelude.{option_map, unwrap_or}
-use Rattle.std.specs.Char.{to_ascii_lowercase}
 use Rattle.percent_encoding.specs.Percent.{percent_decode, percent_encode}
 use Rattle.file_uris.specs.declared.TheConstants.{ESCAPED}
 

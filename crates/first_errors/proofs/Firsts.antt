@@ -1,10 +1,10 @@
 -- The first errors of a text.
 use Rattle.std.proofs.Common.{◌≡◌, ◌<◌, ◌≤◌, ◌+◌, ℕ, zero, suc, Bool, List, [], ◌∷◌, ◌++◌, append_assoc, cond, drop}
 use Rattle.std.proofs.Common.{get_or, inl, inr, length, map, take, ap, refl, sym, ◌∙◌, arith}
-use Rattle.std.specs.Prelude.{take_while}
 use Rattle.std.proofs.lemmas.Bool.{cases_Bool}
 use Rattle.std.proofs.lemmas.List.{drop-map, drop_more, map-append, take-map}
 use Rattle.std.proofs.lemmas.List.Sums.{take_while-cons}
+use Rattle.std.specs.Prelude.{take_while}
 use Rattle.apollo_parser.specs.Diagnostics.{Diagnostic}
 use Rattle.apollo_parser.specs.Order.{Place}
 use Rattle.first_errors.specs.First.{IsFirst, firsts}

@@ -1,9 +1,9 @@
 -- One more token written, or a block string with the same value.
 use Rattle.std.proofs.Common.{◌≡◌, ℕ, inl, inr, true, List, [], ◌∷◌, ◌++◌, refl, sym, ap, subst}
-use Rattle.lexical_grammar.specs.declared.TokenKind.TheVariants.{StringValue}
-use Rattle.lexical_grammar.specs.declared.edge.Edge.{Edge}
 use Rattle.lexical_grammar.specs.Cut.{Word}
 use Rattle.lexical_grammar.specs.Kept.{is_kept_kind, kept_word}
+use Rattle.lexical_grammar.specs.declared.TokenKind.TheVariants.{StringValue}
+use Rattle.lexical_grammar.specs.declared.edge.Edge.{Edge}
 use Rattle.format_layout.specs.Laid.{Laid, Keeps, Adds}
 use Rattle.format_layout.specs.Respelled.{SameBlock, SameWord, AreSameWords}
 use Rattle.format_layout.specs.Written.{LaidSame, AddsSame}

@@ -1,25 +1,25 @@
 -- Line feeds and spaces at the end of the output: a token of their own, or more of the white space there.
 use Rattle.std.proofs.Common.{inl, inr, ◌≡◌, ℕ, ◌<◌, true, List, [], ◌∷◌, ◌++◌, length, get_or, take, zero, suc, refl}
 use Rattle.std.proofs.Common.{sym, ap, ◌∙◌, subst, arith, append_assoc, append-nil, length-append}
-use Rattle.std.specs.Prelude.{◌-◌, bytes_eq, encode_utf8_all, slice_index, slice_range}
-use Rattle.std.specs.List.{list_all}
-use Rattle.std.specs.Str.{IsAscii}
 use Rattle.std.proofs.lemmas.Bool.{and_parts, and_from, cases_Bool}
 use Rattle.std.proofs.lemmas.Bool.Decides.{nat_tests}
-use Rattle.std.proofs.lemmas.Str.{encodes-IsAscii, encodes-append}
 use Rattle.std.proofs.lemmas.List.Folds.{list_all-append}
+use Rattle.std.proofs.lemmas.Str.{encodes-IsAscii, encodes-append}
+use Rattle.std.specs.List.{list_all}
+use Rattle.std.specs.Prelude.{◌-◌, bytes_eq, encode_utf8_all, slice_index, slice_range}
+use Rattle.std.specs.Str.{IsAscii}
+use Rattle.lexical_grammar.proofs.Cuts.{tok-some}
+use Rattle.lexical_grammar.specs.Characters.{is_blank}
+use Rattle.lexical_grammar.specs.Cut.{Word}
+use Rattle.lexical_grammar.specs.Edges.{edge_of, may_touch, touches, AreTokens, are_apart, last_edge, joined}
+use Rattle.lexical_grammar.specs.Kept.{kept_word, kept}
+use Rattle.lexical_grammar.specs.Tokens.{IsBlanks, Tok}
 use Rattle.lexical_grammar.specs.declared.TokenKind.{TokenKind}
 use Rattle.lexical_grammar.specs.declared.TokenKind.TheVariants.{Whitespace, StringValue}
 use Rattle.lexical_grammar.specs.declared.edge.Edge.{Edge}
 use Rattle.lexical_grammar.specs.declared.edge.Edge.TheVariants as ends
-use Rattle.lexical_grammar.specs.Characters.{is_blank}
-use Rattle.lexical_grammar.specs.Tokens.{IsBlanks, Tok}
-use Rattle.lexical_grammar.specs.Cut.{Word}
-use Rattle.lexical_grammar.specs.Edges.{edge_of, may_touch, touches, AreTokens, are_apart, last_edge, joined}
-use Rattle.lexical_grammar.specs.Kept.{kept_word, kept}
-use Rattle.lexical_grammar.proofs.Cuts.{tok-some}
-use Rattle.format_layout.specs.Laid.{Laid, Keeps, blank_room, is_gap_byte, takes_blank}
 use Rattle.format_layout.proofs.Tokens.{one-more}
+use Rattle.format_layout.specs.Laid.{Laid, Keeps, blank_room, is_gap_byte, takes_blank}
 
 gap-byte-blank : (b : ℕ) → is_gap_byte b ≡ true → is_blank b ≡ true
 gap-byte-blank b h = grind (arith, nat_tests)

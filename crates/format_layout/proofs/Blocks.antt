@@ -1,12 +1,12 @@
 -- A string that begins with three quotes is a block string.
 use Rattle.std.proofs.Common.{◌≡◌, ℕ, inl, inr, true, false, List, [], ◌∷◌, ◌++◌, refl, sym, ap, ◌∙◌, true≢false, eqb}
-use Rattle.std.specs.Prelude.{slice_index}
 use Rattle.std.proofs.Math.Logic.{∥∥₁_elim}
 use Rattle.std.proofs.Props.{props}
-use Rattle.lexical_grammar.specs.Strings.{StringCharacters, none, one_more, Quoted, begins, triple_quote}
-use Rattle.lexical_grammar.specs.Values.{Block}
+use Rattle.std.specs.Prelude.{slice_index}
 use Rattle.lexical_grammar.proofs.StringReads.{character-reads}
 use Rattle.lexical_grammar.proofs.StringSound.{begins-is}
+use Rattle.lexical_grammar.specs.Strings.{StringCharacters, none, one_more, Quoted, begins, triple_quote}
+use Rattle.lexical_grammar.specs.Values.{Block}
 use Rattle.apollo_cst_core.specs.StringValues.{IsStringValue}
 use Rattle.format_layout.specs.Respelled.{SameBlock}
 

@@ -1,16 +1,16 @@
 -- One more token written, left out, or written with a sign before it.
 use Rattle.std.proofs.Common.{◌≡◌, ℕ, true, List, [], ◌∷◌, ◌++◌, sym, ap, subst, append_assoc, append-nil}
-use Rattle.lexical_grammar.specs.declared.edge.Edge.{Edge}
 use Rattle.lexical_grammar.specs.Cut.{Word}
 use Rattle.lexical_grammar.specs.Kept.{is_kept_kind, kept_word}
-use Rattle.format_layout.specs.declared.lead.Lead.{Lead}
-use Rattle.format_layout.specs.declared.lead.Lead.TheVariants.{Other}
-use Rattle.format_layout.specs.Leads.{lead_after, may_come, may_go}
-use Rattle.format_layout.specs.Chosen.{Choice, stays, goes, signed, chosen, pipe_word, IsAllowed, AreAllowed}
-use Rattle.format_layout.specs.Laid.{Keeps}
-use Rattle.format_layout.specs.Written.{AddsChosen, AddsSame, AddsSigned, LaidChosen, LaidSame}
+use Rattle.lexical_grammar.specs.declared.edge.Edge.{Edge}
 use Rattle.format_layout.proofs.Adding.{kept-alone, keeps-same}
 use Rattle.format_layout.proofs.Steps.{Along, chosen-append}
+use Rattle.format_layout.specs.Chosen.{Choice, stays, goes, signed, chosen, pipe_word, IsAllowed, AreAllowed}
+use Rattle.format_layout.specs.Laid.{Keeps}
+use Rattle.format_layout.specs.Leads.{lead_after, may_come, may_go}
+use Rattle.format_layout.specs.Written.{AddsChosen, AddsSame, AddsSigned, LaidChosen, LaidSame}
+use Rattle.format_layout.specs.declared.lead.Lead.{Lead}
+use Rattle.format_layout.specs.declared.lead.Lead.TheVariants.{Other}
 
 allowed-along : (s e : Lead) (cs : List Choice) (ws : List Word) → AreAllowed s cs ws e → Along cs ws
 allowed-along s e [] [] a = tt

@@ -1,12 +1,12 @@
 -- What choices make of some tokens, and of the marks of these.
 use Rattle.std.proofs.Common.{◌≡◌, Bool, true, false, List, [], ◌∷◌, ◌++◌, sym, ap, ◌∙◌, subst, append_assoc}
 use Rattle.document_grammar.specs.Tree.{Token}
-use Rattle.format_layout.specs.declared.lead.Lead.{Lead}
-use Rattle.format_layout.specs.Chosen.{Choice, stays, chosen}
-use Rattle.format_layout.proofs.Steps.{Fit, Along, AtMarks, pipe_token, chosen-append, along-append, at-append}
-use Rattle.format_layout.proofs.Steps.{at-along}
 use Rattle.format_layout.proofs.Plain.{steps, steps-append, is_members, chosen-stay, stay-at}
 use Rattle.format_layout.proofs.Stays.{Stays}
+use Rattle.format_layout.proofs.Steps.{Fit, Along, AtMarks, pipe_token, chosen-append, along-append, at-append}
+use Rattle.format_layout.proofs.Steps.{at-along}
+use Rattle.format_layout.specs.Chosen.{Choice, stays, chosen}
+use Rattle.format_layout.specs.declared.lead.Lead.{Lead}
 
 -- Of the choices for some tokens and more, those for the first ones make these tokens of them, and these marks of their
 -- marks.

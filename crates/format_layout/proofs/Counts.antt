@@ -2,16 +2,16 @@
 use Rattle.std.proofs.Common.{◌≡◌, ℕ, zero, suc, ◌+◌, ◌*◌, ◌<◌, ◌≤◌, ◌⊎◌, inl, inr, List, [], ◌∷◌, length, refl, ap}
 use Rattle.std.proofs.Common.{◌∙◌, subst, arith}
 use Rattle.std.specs.Str.{IsUtf8}
-use Rattle.lexical_grammar.specs.declared.TokenKind.{TokenKind}
-use Rattle.lexical_grammar.specs.declared.TokenKind.TheVariants.{Eof}
-use Rattle.lexical_grammar.specs.declared.edge.Edge.{Edge}
+use Rattle.lexical_grammar.proofs.Cuts.{tok-some}
+use Rattle.lexical_grammar.proofs.Joined.{items-tokens, joined-cut}
+use Rattle.lexical_grammar.proofs.TheCut.{is-cut}
 use Rattle.lexical_grammar.specs.Answers.{Answer, IsTokenText, answer_text, limited}
 use Rattle.lexical_grammar.specs.Cut.{Item, Word, Cut, CutFrom}
 use Rattle.lexical_grammar.specs.Edges.{items_at}
 use Rattle.lexical_grammar.specs.Reads.{items_of}
-use Rattle.lexical_grammar.proofs.Cuts.{tok-some}
-use Rattle.lexical_grammar.proofs.Joined.{items-tokens, joined-cut}
-use Rattle.lexical_grammar.proofs.TheCut.{is-cut}
+use Rattle.lexical_grammar.specs.declared.TokenKind.{TokenKind}
+use Rattle.lexical_grammar.specs.declared.TokenKind.TheVariants.{Eof}
+use Rattle.lexical_grammar.specs.declared.edge.Edge.{Edge}
 use Rattle.document_grammar.proofs.Texts.{one-cut}
 use Rattle.format_layout.specs.Laid.{Laid}
 use Rattle.format_layout.specs.Lengths.{most_items}

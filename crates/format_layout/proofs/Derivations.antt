@@ -1,18 +1,18 @@
 -- A tree that is alike but for the spelling of block strings fits the rows too.
 use Rattle.std.proofs.Common.{◌≡◌, ◌≢◌, ℕ, ◌⊎◌, inl, inr, Bool, true, false, eqb, List, [], ◌∷◌, ◌++◌, refl, sym, ap}
 use Rattle.std.proofs.Common.{◌∙◌, subst, arith}
-use Rattle.std.specs.Prelude.{◌||◌, IsTrue}
-use Rattle.std.proofs.lemmas.Bool.{or_left, or_right, cases_Bool}
 use Rattle.std.proofs.Math.Logic.{∥∥₁_elim}
 use Rattle.std.proofs.Props.{props}
-use Rattle.document_grammar.specs.Kinds.{STRING}
-use Rattle.document_grammar.specs.Tree.{Text, Tree, leaf, node, Forest, none, ◌▸◌, root}
-use Rattle.document_grammar.specs.Pattern.{Pattern, Matches, member}
-use Rattle.document_grammar.specs.Rows.{Row}
+use Rattle.std.proofs.lemmas.Bool.{or_left, or_right, cases_Bool}
+use Rattle.std.specs.Prelude.{◌||◌, IsTrue}
 use Rattle.document_grammar.specs.Derivation.{kinds, text, texts, LeafRule, NameRule, on_text, true_text, false_text}
 use Rattle.document_grammar.specs.Derivation.{null_text, NoVariable, NoVariables, ConstantDirectives, Braced, NoBlock}
 use Rattle.document_grammar.specs.Derivation.{LacksBlock, StartsWithSelections, IsQuery, NotBefore, BraceRule, FitsBy}
 use Rattle.document_grammar.specs.Derivation.{AllFitBy, Derivation, document}
+use Rattle.document_grammar.specs.Kinds.{STRING}
+use Rattle.document_grammar.specs.Pattern.{Pattern, Matches, member}
+use Rattle.document_grammar.specs.Rows.{Row}
+use Rattle.document_grammar.specs.Tree.{Text, Tree, leaf, node, Forest, none, ◌▸◌, root}
 use Rattle.format_layout.specs.Respelled.{SameBlock, Alike, AllAlike}
 
 pub alike-root : (t u : Tree) → Alike t u → root u ≡ root t

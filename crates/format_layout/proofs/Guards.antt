@@ -1,25 +1,25 @@
 -- Which nodes are below no node with members, and what comes after a type.
 use Rattle.std.proofs.Common.{◌≡◌, ℕ, ◌⊎◌, inl, inr, Bool, true, false, not, eqb, leb, List, [], ◌∷◌, ◌++◌, refl, sym}
 use Rattle.std.proofs.Common.{ap, ◌∙◌, subst, arith, append_assoc, eqb-true, leb-true, true≢false}
-use Rattle.std.specs.Prelude.{◌&&◌, ◌||◌, IsTrue}
-use Rattle.std.specs.List.{list_all}
 use Rattle.std.proofs.lemmas.Bool.{and_parts, and_from, cases_Bool, not-true}
+use Rattle.std.specs.List.{list_all}
+use Rattle.std.specs.Prelude.{◌&&◌, ◌||◌, IsTrue}
+use Rattle.document_grammar.specs.Choices.{Types, Values}
+use Rattle.document_grammar.specs.Derivation.{kinds, Yield, Yields, Fits, AllFit}
 use Rattle.document_grammar.specs.Kinds.{BANG, AMP, COLON, EQ, L_BRACK, R_BRACK, PIPE, IDENT, DOCUMENT, NAME, VARIABLE}
 use Rattle.document_grammar.specs.Kinds.{VARIABLE_DEFINITION, DEFAULT_VALUE, NAMED_TYPE, LIST_TYPE, NON_NULL_TYPE}
 use Rattle.document_grammar.specs.Kinds.{DESCRIPTION, DIRECTIVES, OBJECT_TYPE_DEFINITION, INPUT_VALUE_DEFINITION}
 use Rattle.document_grammar.specs.Kinds.{INTERFACE_TYPE_DEFINITION, UNION_TYPE_DEFINITION, DIRECTIVE_DEFINITION}
 use Rattle.document_grammar.specs.Kinds.{OBJECT_TYPE_EXTENSION, INTERFACE_TYPE_EXTENSION, UNION_TYPE_EXTENSION}
-use Rattle.document_grammar.specs.Choices.{Types, Values}
-use Rattle.document_grammar.specs.Tree.{Text, Token, Tree, leaf, node, Forest, none, ◌▸◌, root}
 use Rattle.document_grammar.specs.Pattern.{Pattern, any_of, ◌then◌, one, optional, member, Matches}
 use Rattle.document_grammar.specs.Rows.{Row, children}
-use Rattle.document_grammar.specs.Derivation.{kinds, Yield, Yields, Fits, AllFit}
+use Rattle.document_grammar.specs.Tree.{Text, Token, Tree, leaf, node, Forest, none, ◌▸◌, root}
+use Rattle.format_layout.proofs.Plain.{steps, steps-append}
+use Rattle.format_layout.proofs.Rows.{all_pass, rows_pass, row-passes, matched-pass, member-passes, no-row, no-leaf}
+use Rattle.format_layout.proofs.Steps.{step}
+use Rattle.format_layout.specs.Signs.{has_members}
 use Rattle.format_layout.specs.declared.lead.Lead.{Lead}
 use Rattle.format_layout.specs.declared.lead.Lead.TheVariants.{Colon, Typed}
-use Rattle.format_layout.specs.Signs.{has_members}
-use Rattle.format_layout.proofs.Steps.{step}
-use Rattle.format_layout.proofs.Rows.{all_pass, rows_pass, row-passes, matched-pass, member-passes, no-row, no-leaf}
-use Rattle.format_layout.proofs.Plain.{steps, steps-append}
 
 -- ---- which nodes are plain
 

@@ -1,24 +1,24 @@
 -- The sign before the first of some members comes or goes, and every other token of them stays.
 use Rattle.std.proofs.Common.{◌≡◌, ℕ, ◌⊎◌, inl, inr, Bool, true, false, cond, eqb, List, [], ◌∷◌, ◌++◌, refl, sym, ap}
 use Rattle.std.proofs.Common.{◌∙◌, subst, append_assoc, true≢false, arith, eq-eqb}
-use Rattle.std.specs.Prelude.{◌||◌, bytes_eq}
 use Rattle.std.proofs.lemmas.Bool.{cases_Bool}
+use Rattle.std.specs.Prelude.{◌||◌, bytes_eq}
+use Rattle.document_grammar.specs.Derivation.{kinds, Yield, Yields, Fits, AllFit}
 use Rattle.document_grammar.specs.Kinds.{AMP, PIPE, IDENT}
-use Rattle.document_grammar.specs.Tree.{Text, Token, Tree, leaf, node, Forest, none, ◌▸◌, root}
 use Rattle.document_grammar.specs.Pattern.{Pattern, any_of, ◌then◌, many, one, optional, member, Repeats, stop, again}
 use Rattle.document_grammar.specs.Pattern.{Matches}
 use Rattle.document_grammar.specs.Rows.{Row}
-use Rattle.document_grammar.specs.Derivation.{kinds, Yield, Yields, Fits, AllFit}
+use Rattle.document_grammar.specs.Tree.{Text, Token, Tree, leaf, node, Forest, none, ◌▸◌, root}
+use Rattle.format_layout.proofs.Chose.{Chose, chose-none}
+use Rattle.format_layout.proofs.Guards.{leaf-of, one-is, head-of}
+use Rattle.format_layout.proofs.Plain.{steps, is_members, chosen-stay, stay-at, all-marks-long}
+use Rattle.format_layout.proofs.Stays.{Stays, no-tokens, more-tokens, one-stays, name-ready}
+use Rattle.format_layout.proofs.Steps.{step, goes_at, comes_at, Fit, Along, AtMarks, pipe_token}
+use Rattle.format_layout.specs.Chosen.{Choice, stays, goes, signed, chosen}
+use Rattle.format_layout.specs.Leads.{after_interface, after_member, after_name, implements_text, on_text}
+use Rattle.format_layout.specs.Signs.{is_sign, marks, all_marks, all_unsigned, without_first_sign}
 use Rattle.format_layout.specs.declared.lead.Lead.{Lead}
 use Rattle.format_layout.specs.declared.lead.Lead.TheVariants.{Members, Pipe, Amp, Implements, On}
-use Rattle.format_layout.specs.Leads.{after_interface, after_member, after_name, implements_text, on_text}
-use Rattle.format_layout.specs.Chosen.{Choice, stays, goes, signed, chosen}
-use Rattle.format_layout.specs.Signs.{is_sign, marks, all_marks, all_unsigned, without_first_sign}
-use Rattle.format_layout.proofs.Steps.{step, goes_at, comes_at, Fit, Along, AtMarks, pipe_token}
-use Rattle.format_layout.proofs.Plain.{steps, is_members, chosen-stay, stay-at, all-marks-long}
-use Rattle.format_layout.proofs.Guards.{leaf-of, one-is, head-of}
-use Rattle.format_layout.proofs.Stays.{Stays, no-tokens, more-tokens, one-stays, name-ready}
-use Rattle.format_layout.proofs.Chose.{Chose, chose-none}
 
 abbrev pub members_row : ℕ → ℕ → Pattern
 members_row sign member = optional sign then one member then many (one sign then one member)

@@ -1,11 +1,11 @@
 -- A tree that is alike but for the spelling of block strings nests as deep.
 use Rattle.std.proofs.Common.{◌≡◌, ℕ, ◌+◌, refl, sym, ap, ◌∙◌}
 use Rattle.std.specs.Prelude.{max}
+use Rattle.document_grammar.specs.Derivation.{counts, below, belows, nest}
 use Rattle.document_grammar.specs.Kinds.{DOCUMENT}
 use Rattle.document_grammar.specs.Tree.{Tree, leaf, node, Forest, none, ◌▸◌, root}
-use Rattle.document_grammar.specs.Derivation.{counts, below, belows, nest}
-use Rattle.format_layout.specs.Respelled.{Alike, AllAlike}
 use Rattle.format_layout.proofs.Derivations.{alike-root}
+use Rattle.format_layout.specs.Respelled.{Alike, AllAlike}
 
 mutual
   alike-below : (t u : Tree) → Alike t u → below u ≡ below t

@@ -1,15 +1,15 @@
 -- Each token stays that is below no node with members.
 use Rattle.std.proofs.Common.{◌≡◌, inl, inr, Bool, true, false, List, [], ◌∷◌, ◌++◌, refl, sym, ap, subst}
-use Rattle.std.specs.Prelude.{◌&&◌}
 use Rattle.std.proofs.lemmas.Bool.{cases_Bool}
+use Rattle.std.specs.Prelude.{◌&&◌}
 use Rattle.document_grammar.specs.Choices.{is_ignored}
-use Rattle.document_grammar.specs.Tree.{Token, Tree, leaf, node, Forest, none, ◌▸◌}
 use Rattle.document_grammar.specs.Derivation.{Yield, Yields, spelled}
-use Rattle.format_layout.specs.declared.lead.Lead.{Lead}
-use Rattle.format_layout.specs.declared.lead.Lead.TheVariants.{Members}
+use Rattle.document_grammar.specs.Tree.{Token, Tree, leaf, node, Forest, none, ◌▸◌}
+use Rattle.format_layout.proofs.Steps.{step, Along, AtMarks, along-append}
 use Rattle.format_layout.specs.Chosen.{Choice, stays, goes, signed, chosen}
 use Rattle.format_layout.specs.Signs.{has_members, marks, all_marks, is_leaf, is_sign}
-use Rattle.format_layout.proofs.Steps.{step, Along, AtMarks, along-append}
+use Rattle.format_layout.specs.declared.lead.Lead.{Lead}
+use Rattle.format_layout.specs.declared.lead.Lead.TheVariants.{Members}
 
 abbrev pub steps : Lead → List Token → Lead
 steps s [] = s

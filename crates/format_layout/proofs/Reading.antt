@@ -1,18 +1,18 @@
 -- The tokens that a lexer gives, written one after another.
 use Rattle.std.proofs.Common.{◌≡◌, ℕ, zero, suc, ◌≤◌, Bool, true, false, List, [], ◌∷◌, ◌++◌, length, Some, refl, sym}
 use Rattle.std.proofs.Common.{ap, ◌∙◌, subst, arith, append_assoc, append-nil}
-use Rattle.apollo_lexer.specs.Answers.{error_answer}
-use Rattle.lexical_grammar.specs.declared.TokenKind.{TokenKind}
-use Rattle.lexical_grammar.specs.declared.edge.Edge.{Edge}
 use Rattle.lexical_grammar.specs.Answers.{Answer, AreAnswers, IsTokenText, gives, limit_at, limited}
 use Rattle.lexical_grammar.specs.Cut.{Item, Word}
 use Rattle.lexical_grammar.specs.Kept.{Holds, kept_item, kept_word, Kept}
+use Rattle.lexical_grammar.specs.declared.TokenKind.{TokenKind}
+use Rattle.lexical_grammar.specs.declared.edge.Edge.{Edge}
+use Rattle.apollo_lexer.specs.Answers.{error_answer}
+use Rattle.format_layout.specs.Chosen.{AreAllowed, chosen, pipe_word}
 use Rattle.format_layout.specs.Laid.{Keeps, Laid}
 use Rattle.format_layout.specs.Respelled.{AreSameWords}
+use Rattle.format_layout.specs.Written.{HoldsChosen, LaidChosen, AddsChosen}
 use Rattle.format_layout.specs.declared.lead.Lead.{Lead}
 use Rattle.format_layout.specs.declared.lead.Lead.TheVariants.{Other}
-use Rattle.format_layout.specs.Chosen.{AreAllowed, chosen, pipe_word}
-use Rattle.format_layout.specs.Written.{HoldsChosen, LaidChosen, AddsChosen}
 
 -- the significant tokens and the comments among a lexer's answers
 abbrev kept_answer : Answer → List Word

@@ -1,12 +1,12 @@
 -- A tree with other spellings of its block strings.
 use Rattle.std.proofs.Common.{◌≡◌, ℕ, ◌⊎◌, inl, inr, true, false, List, [], ◌∷◌, ◌++◌, refl, sym, ap, ◌∙◌, subst, arith}
 use Rattle.std.proofs.Common.{append_assoc}
-use Rattle.std.specs.Prelude.{cond}
 use Rattle.std.proofs.lemmas.Bool.{cases_Bool}
-use Rattle.document_grammar.specs.Kinds.{IDENT, STRING}
+use Rattle.std.specs.Prelude.{cond}
 use Rattle.document_grammar.specs.Choices.{is_ignored, is_keyword}
-use Rattle.document_grammar.specs.Tree.{Text, Token, Tree, leaf, node, Forest, none, ◌▸◌}
 use Rattle.document_grammar.specs.Derivation.{Yield, Yields, spelled}
+use Rattle.document_grammar.specs.Kinds.{IDENT, STRING}
+use Rattle.document_grammar.specs.Tree.{Text, Token, Tree, leaf, node, Forest, none, ◌▸◌}
 use Rattle.format_layout.specs.Respelled.{SameBlock, Alike, AllAlike}
 
 abbrev pub SameToken : Token → Token → Type 0

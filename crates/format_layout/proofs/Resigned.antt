@@ -2,35 +2,35 @@
 use Rattle.std.proofs.Common.{◌≡◌, ◌≢◌, ℕ, ◌<◌, ◌≤◌, inl, inr, Bool, true, false, cond, not, eqb, ltb, List, [], ◌∷◌}
 use Rattle.std.proofs.Common.{◌++◌, refl, sym, ap, ◌∙◌, subst, append_assoc, append-nil, leb, true≢false, arith, eq-eqb}
 use Rattle.std.proofs.Common.{eqb-true, ltb-true, leb-true}
-use Rattle.std.specs.Prelude.{◌&&◌, ◌||◌, IsTrue, bytes_eq}
-use Rattle.std.specs.List.{list_all}
 use Rattle.std.proofs.lemmas.Bool.{and_parts, and_from, cases_Bool, not-true}
+use Rattle.std.specs.List.{list_all}
+use Rattle.std.specs.Prelude.{◌&&◌, ◌||◌, IsTrue, bytes_eq}
+use Rattle.document_grammar.specs.Choices.{DirectiveLocations, is_ignored, is_keyword}
+use Rattle.document_grammar.specs.Derivation.{kinds, Yield, Yields, LeafRule, Fits, AllFit, HasConstantDirectives}
+use Rattle.document_grammar.specs.Derivation.{ConstantDirectives, Derivation, document, NoBlock, LacksBlock}
+use Rattle.document_grammar.specs.Derivation.{StartsWithSelections, IsQuery, NotBefore, BraceRule, Braced}
 use Rattle.document_grammar.specs.Kinds.{AMP, EQ, PIPE, IDENT, DOCUMENT, on_KW, implements_KW, NAME, NAMED_TYPE}
 use Rattle.document_grammar.specs.Kinds.{FRAGMENT_NAME, ENUM_VALUE, DEFAULT_VALUE, DIRECTIVES, words}
 use Rattle.document_grammar.specs.Kinds.{OBJECT_TYPE_DEFINITION, INTERFACE_TYPE_DEFINITION, UNION_TYPE_DEFINITION}
 use Rattle.document_grammar.specs.Kinds.{DIRECTIVE_DEFINITION, OBJECT_TYPE_EXTENSION, INTERFACE_TYPE_EXTENSION}
 use Rattle.document_grammar.specs.Kinds.{UNION_TYPE_EXTENSION, IMPLEMENTS_INTERFACES, UNION_MEMBER_TYPES}
 use Rattle.document_grammar.specs.Kinds.{DIRECTIVE_LOCATIONS, DIRECTIVE_LOCATION}
-use Rattle.document_grammar.specs.Choices.{DirectiveLocations, is_ignored, is_keyword}
-use Rattle.document_grammar.specs.Tree.{Text, Token, Tree, leaf, node, Forest, none, ◌▸◌, root}
 use Rattle.document_grammar.specs.Pattern.{any_of, ◌then◌, one, member, Matches}
 use Rattle.document_grammar.specs.Rows.{Row, children}
-use Rattle.document_grammar.specs.Derivation.{kinds, Yield, Yields, LeafRule, Fits, AllFit, HasConstantDirectives}
-use Rattle.document_grammar.specs.Derivation.{ConstantDirectives, Derivation, document, NoBlock, LacksBlock}
-use Rattle.document_grammar.specs.Derivation.{StartsWithSelections, IsQuery, NotBefore, BraceRule, Braced}
-use Rattle.format_layout.specs.declared.lead.Lead.{Lead}
-use Rattle.format_layout.specs.declared.lead.Lead.TheVariants.{Colon, Typed, Members, Amp, Implements, On, Other}
-use Rattle.format_layout.specs.Leads.{after_equals, after_name, implements_text, on_text}
-use Rattle.format_layout.specs.Chosen.{Choice, stays, goes, signed, chosen}
-use Rattle.format_layout.specs.Signs.{has_members, all_marks, signs, unsigned, all_unsigned, without_first_sign}
-use Rattle.format_layout.proofs.Steps.{goes_at, comes_at, Fit, AtMarks, pipe_token}
-use Rattle.format_layout.proofs.Rows.{rows_pass, row-passes, member-passes, listed-passes, no-leaf, low-row}
-use Rattle.format_layout.proofs.Plain.{steps, is_members, marks-long}
-use Rattle.format_layout.proofs.Guards.{is_plain, needs_none, named-node, leaf-of, one-is, head-of, nil-of}
-use Rattle.format_layout.proofs.Stays.{Stays, tree-stays, name-ready, comes-none}
+use Rattle.document_grammar.specs.Tree.{Text, Token, Tree, leaf, node, Forest, none, ◌▸◌, root}
 use Rattle.format_layout.proofs.Chose.{Chose, chose-none, chose-after, chose-both}
+use Rattle.format_layout.proofs.Guards.{is_plain, needs_none, named-node, leaf-of, one-is, head-of, nil-of}
 use Rattle.format_layout.proofs.Members.{Member, AreMembers, members_row, members-listed, member-quiet, interface-quiet}
 use Rattle.format_layout.proofs.Members.{pipe-sign, amp-sign, name-goes-not, one-there}
+use Rattle.format_layout.proofs.Plain.{steps, is_members, marks-long}
+use Rattle.format_layout.proofs.Rows.{rows_pass, row-passes, member-passes, listed-passes, no-leaf, low-row}
+use Rattle.format_layout.proofs.Stays.{Stays, tree-stays, name-ready, comes-none}
+use Rattle.format_layout.proofs.Steps.{goes_at, comes_at, Fit, AtMarks, pipe_token}
+use Rattle.format_layout.specs.Chosen.{Choice, stays, goes, signed, chosen}
+use Rattle.format_layout.specs.Leads.{after_equals, after_name, implements_text, on_text}
+use Rattle.format_layout.specs.Signs.{has_members, all_marks, signs, unsigned, all_unsigned, without_first_sign}
+use Rattle.format_layout.specs.declared.lead.Lead.{Lead}
+use Rattle.format_layout.specs.declared.lead.Lead.TheVariants.{Colon, Typed, Members, Amp, Implements, On, Other}
 
 -- ---- members
 

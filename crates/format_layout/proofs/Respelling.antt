@@ -1,18 +1,18 @@
 -- A sentence whose block strings are spelled in other words is a sentence.
 use Rattle.std.proofs.Common.{◌≡◌, ℕ, inl, inr, true, List, [], ◌∷◌, ◌++◌, Some, refl, sym, ap, ◌∙◌, subst, append-nil}
 use Rattle.std.specs.Prelude.{map}
+use Rattle.lexical_grammar.specs.Cut.{Item, Word, Cut, Significant, significant_word, are_tokens}
+use Rattle.lexical_grammar.specs.Kept.{Kept}
 use Rattle.lexical_grammar.specs.declared.TokenKind.{TokenKind}
 use Rattle.lexical_grammar.specs.declared.TokenKind.TheVariants.{StringValue}
-use Rattle.lexical_grammar.specs.Cut.{Item, Word, Cut, Significant, significant_word, are_tokens}
-use Rattle.document_grammar.specs.Tree.{Token, Tree}
+use Rattle.document_grammar.proofs.Texts.{one-cut}
 use Rattle.document_grammar.specs.Derivation.{Derivation, Yield, document}
 use Rattle.document_grammar.specs.Sentence.{Sentence, token_of, leaf_number}
-use Rattle.document_grammar.proofs.Texts.{one-cut}
-use Rattle.lexical_grammar.specs.Kept.{Kept}
-use Rattle.format_layout.proofs.Significant.{significant, significant-kept}
-use Rattle.format_layout.specs.Respelled.{SameWord, AreSameWords, Respelled}
+use Rattle.document_grammar.specs.Tree.{Token, Tree}
 use Rattle.format_layout.proofs.Derivations.{alike-derivation}
 use Rattle.format_layout.proofs.Relabeled.{SameToken, AreSame, relabel}
+use Rattle.format_layout.proofs.Significant.{significant, significant-kept}
+use Rattle.format_layout.specs.Respelled.{SameWord, AreSameWords, Respelled}
 
 pub both-same : (xs ys more others : List Word) → AreSameWords xs ys → AreSameWords more others
     → AreSameWords (xs ++ more) (ys ++ others)

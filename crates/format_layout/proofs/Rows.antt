@@ -1,15 +1,15 @@
 -- What a row says of a node's children.
 use Rattle.std.proofs.Common.{◌≡◌, ℕ, ◌<◌, ◌≤◌, inl, inr, Bool, true, eqb, ltb, leb, List, [], ◌∷◌, ◌++◌, refl, sym}
 use Rattle.std.proofs.Common.{subst, arith, eqb-true, leb-true, ltb-true, true≢false}
-use Rattle.std.specs.Prelude.{◌&&◌, IsTrue}
-use Rattle.std.specs.List.{list_all}
 use Rattle.std.proofs.lemmas.Bool.{and_parts, and_from, cases_Bool}
+use Rattle.std.specs.List.{list_all}
+use Rattle.std.specs.Prelude.{◌&&◌, IsTrue}
+use Rattle.document_grammar.specs.Derivation.{LeafRule, Listed}
 use Rattle.document_grammar.specs.Kinds.{DOCUMENT, words}
-use Rattle.document_grammar.specs.Tree.{Text}
 use Rattle.document_grammar.specs.Pattern.{Pattern, any_of, nothing, ◌then◌, ◌or_else◌, many, member, Repeats, stop}
 use Rattle.document_grammar.specs.Pattern.{again, Matches}
 use Rattle.document_grammar.specs.Rows.{Row, row_in, children}
-use Rattle.document_grammar.specs.Derivation.{LeafRule, Listed}
+use Rattle.document_grammar.specs.Tree.{Text}
 
 -- all kinds of a pattern pass a test
 abbrev pub all_pass : (ℕ → Bool) → Pattern → Bool

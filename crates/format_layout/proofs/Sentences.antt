@@ -2,27 +2,27 @@
 use Rattle.std.proofs.Common.{◌≡◌, ℕ, ◌≤◌, true, false, List, length, sym, ap, ◌∙◌, subst, arith}
 use Rattle.std.specs.Prelude.{map}
 use Rattle.std.specs.Str.{IsUtf8}
+use Rattle.lexical_grammar.proofs.TheCut.{is-cut}
 use Rattle.lexical_grammar.specs.Answers.{usize_max}
 use Rattle.lexical_grammar.specs.Cut.{Item, Cut, Significant, are_tokens}
-use Rattle.lexical_grammar.specs.Reads.{items_of}
 use Rattle.lexical_grammar.specs.Kept.{Kept}
-use Rattle.lexical_grammar.proofs.TheCut.{is-cut}
-use Rattle.document_grammar.specs.Tree.{Tree}
+use Rattle.lexical_grammar.specs.Reads.{items_of}
+use Rattle.document_grammar.proofs.Texts.{one-cut}
 use Rattle.document_grammar.specs.Derivation.{Yield, document}
 use Rattle.document_grammar.specs.Sentence.{Sentence, token_of}
-use Rattle.document_grammar.proofs.Texts.{one-cut}
-use Rattle.format_layout.specs.declared.lead.Lead.TheVariants.{Other}
+use Rattle.document_grammar.specs.Tree.{Tree}
+use Rattle.format_layout.proofs.Relabeled.{AreSame}
+use Rattle.format_layout.proofs.Resigned.{redone}
+use Rattle.format_layout.proofs.Respelling.{respelled-tokens, significant-same, tokens-same}
+use Rattle.format_layout.proofs.Significant.{significant, significant-kept}
+use Rattle.format_layout.proofs.Steps.{Fit, pipe_token, to-tokens, tokens}
+use Rattle.format_layout.proofs.Unsigned.{marks-alike, unsigned-alike, without-same}
 use Rattle.format_layout.specs.Chosen.{chosen, pipe_word}
+use Rattle.format_layout.specs.Formatted.{IsSentence, HasLayoutOf, Formatted}
 use Rattle.format_layout.specs.Respelled.{Alike, AreSameWords}
 use Rattle.format_layout.specs.Signs.{signs, unsigned, without_marked}
 use Rattle.format_layout.specs.Written.{HoldsChosen}
-use Rattle.format_layout.specs.Formatted.{IsSentence, HasLayoutOf, Formatted}
-use Rattle.format_layout.proofs.Significant.{significant, significant-kept}
-use Rattle.format_layout.proofs.Relabeled.{AreSame}
-use Rattle.format_layout.proofs.Respelling.{respelled-tokens, significant-same, tokens-same}
-use Rattle.format_layout.proofs.Steps.{Fit, pipe_token, to-tokens, tokens}
-use Rattle.format_layout.proofs.Resigned.{redone}
-use Rattle.format_layout.proofs.Unsigned.{marks-alike, unsigned-alike, without-same}
+use Rattle.format_layout.specs.declared.lead.Lead.TheVariants.{Other}
 
 same-items : (source : List ℕ) (items : List Item) → IsUtf8 source → Cut source items → are_tokens items ≡ true
     → items ≡ items_of source

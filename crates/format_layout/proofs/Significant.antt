@@ -1,10 +1,10 @@
 -- The significant tokens are among those that are kept.
 use Rattle.std.proofs.Common.{◌≡◌, ℕ, List, [], ◌∷◌, ◌++◌, Option, Some, None, refl, sym, ap, ◌∙◌, append_assoc}
 use Rattle.std.specs.List.{flat_map}
-use Rattle.lexical_grammar.specs.declared.TokenKind.{TokenKind}
-use Rattle.lexical_grammar.specs.declared.TokenKind.TheVariants.{Whitespace, Comment, Comma, Eof}
 use Rattle.lexical_grammar.specs.Cut.{Item, Word, Significant, significant_word}
 use Rattle.lexical_grammar.specs.Kept.{kept_word, kept_item, Kept}
+use Rattle.lexical_grammar.specs.declared.TokenKind.{TokenKind}
+use Rattle.lexical_grammar.specs.declared.TokenKind.TheVariants.{Whitespace, Comment, Comma, Eof}
 
 abbrev pub significant : List Word → List Word
 significant words = flat_map (λ word. significant_word (Some word.kind) word.text) words

@@ -1,21 +1,21 @@
 -- Each token stays that is below no node with members.
 use Rattle.std.proofs.Common.{◌≡◌, ℕ, inl, inr, Bool, true, false, cond, eqb, List, [], ◌∷◌, ◌++◌, refl, sym, ap, ◌∙◌}
 use Rattle.std.proofs.Common.{subst, append_assoc, true≢false}
-use Rattle.std.specs.Prelude.{◌||◌, bytes_eq}
-use Rattle.std.specs.List.{list_all}
 use Rattle.std.proofs.lemmas.Bool.{and_parts, cases_Bool, not-true, or_parts}
-use Rattle.document_grammar.specs.Kinds.{BANG, AMP, COLON, EQ, R_BRACK, PIPE, IDENT, DEFAULT_VALUE}
+use Rattle.std.specs.List.{list_all}
+use Rattle.std.specs.Prelude.{◌||◌, bytes_eq}
 use Rattle.document_grammar.specs.Choices.{is_ignored, is_keyword}
-use Rattle.document_grammar.specs.Tree.{Text, Token, Tree, leaf, node, Forest, none, ◌▸◌, root}
 use Rattle.document_grammar.specs.Derivation.{kinds, Yield, Yields, spelled, Fits, AllFit}
-use Rattle.format_layout.specs.declared.lead.Lead.{Lead}
-use Rattle.format_layout.specs.declared.lead.Lead.TheVariants.{Colon, Typed, Members, Amp, Implements, On, Other}
+use Rattle.document_grammar.specs.Kinds.{BANG, AMP, COLON, EQ, R_BRACK, PIPE, IDENT, DEFAULT_VALUE}
+use Rattle.document_grammar.specs.Tree.{Text, Token, Tree, leaf, node, Forest, none, ◌▸◌, root}
+use Rattle.format_layout.proofs.Guards.{is_above, is_plain, needs_type, Guarded, guarded, plain-passes, all-plain}
+use Rattle.format_layout.proofs.Plain.{steps, steps-append, is_members, AllStay, stay-append}
+use Rattle.format_layout.proofs.Steps.{step, goes_at, comes_at, Fit, Along, along-append}
+use Rattle.format_layout.specs.Chosen.{Choice, stays, goes, signed}
 use Rattle.format_layout.specs.Leads.{after_equals, after_interface, after_member, after_name, after_word}
 use Rattle.format_layout.specs.Leads.{implements_text, on_text}
-use Rattle.format_layout.specs.Chosen.{Choice, stays, goes, signed}
-use Rattle.format_layout.proofs.Steps.{step, goes_at, comes_at, Fit, Along, along-append}
-use Rattle.format_layout.proofs.Plain.{steps, steps-append, is_members, AllStay, stay-append}
-use Rattle.format_layout.proofs.Guards.{is_above, is_plain, needs_type, Guarded, guarded, plain-passes, all-plain}
+use Rattle.format_layout.specs.declared.lead.Lead.{Lead}
+use Rattle.format_layout.specs.declared.lead.Lead.TheVariants.{Colon, Typed, Members, Amp, Implements, On, Other}
 
 -- Of the choices for some tokens and more, those for the first ones leave each of them as it is.
 pub record Stays (s : Lead) (cs : List Choice) (ts rest : List Token) : Type 0 where

@@ -1,20 +1,20 @@
 -- Choices for the tokens of a text, said of the tokens that a derivation spells.
 use Rattle.std.proofs.Common.{◌≡◌, ℕ, inl, inr, Bool, true, false, cond, eqb, List, [], ◌∷◌, ◌++◌, refl, sym, ap, ◌∙◌}
 use Rattle.std.proofs.Common.{subst, true≢false}
-use Rattle.std.specs.Prelude.{map, ◌||◌}
 use Rattle.std.proofs.lemmas.Bool.{cases_Bool}
+use Rattle.std.specs.Prelude.{map, ◌||◌}
+use Rattle.lexical_grammar.specs.Cut.{Word, is_significant_kind}
 use Rattle.lexical_grammar.specs.declared.TokenKind.{TokenKind}
 use Rattle.lexical_grammar.specs.declared.TokenKind.TheVariants as token
-use Rattle.lexical_grammar.specs.Cut.{Word, is_significant_kind}
 use Rattle.document_grammar.specs.Kinds.{BANG, AMP, COLON, EQ, R_BRACK, PIPE, IDENT}
-use Rattle.document_grammar.specs.Tree.{Text, Token}
 use Rattle.document_grammar.specs.Sentence.{leaf_number, token_of}
+use Rattle.document_grammar.specs.Tree.{Text, Token}
+use Rattle.format_layout.proofs.Significant.{significant}
+use Rattle.format_layout.specs.Chosen.{Choice, stays, goes, signed, chosen, pipe_word, IsAllowed, AreAllowed}
+use Rattle.format_layout.specs.Leads.{after_equals, after_name, lead_after, may_come, may_go}
+use Rattle.format_layout.specs.Signs.{without_marked}
 use Rattle.format_layout.specs.declared.lead.Lead.{Lead}
 use Rattle.format_layout.specs.declared.lead.Lead.TheVariants.{Colon, Typed, Members, Pipe, Amp, Implements, On, Other}
-use Rattle.format_layout.specs.Leads.{after_equals, after_name, lead_after, may_come, may_go}
-use Rattle.format_layout.specs.Chosen.{Choice, stays, goes, signed, chosen, pipe_word, IsAllowed, AreAllowed}
-use Rattle.format_layout.specs.Signs.{without_marked}
-use Rattle.format_layout.proofs.Significant.{significant}
 
 abbrev pub pipe_token : Token
 pipe_token = (PIPE, 124 ∷ [])

@@ -2,13 +2,13 @@
 use Rattle.std.proofs.Common.{◌≡◌, ℕ, ◌+◌, ◌*◌, ◌≤◌, true, List, [], ◌∷◌, ◌++◌, refl, sym, ap, ◌∙◌, subst, arith}
 use Rattle.std.proofs.Common.{append_assoc, append-nil, length-append}
 use Rattle.std.proofs.lemmas.Bool.{and_parts, and_from}
-use Rattle.lexical_grammar.specs.Tokens.{Tok}
+use Rattle.lexical_grammar.proofs.Joined.{holds}
 use Rattle.lexical_grammar.specs.Cut.{Word}
-use Rattle.lexical_grammar.specs.declared.edge.Edge.{Edge}
-use Rattle.lexical_grammar.specs.declared.edge.Edge.TheVariants as ends
 use Rattle.lexical_grammar.specs.Edges.{edge_of, touches, AreTokens, are_apart, last_edge, joined}
 use Rattle.lexical_grammar.specs.Kept.{kept_word, kept, Holds}
-use Rattle.lexical_grammar.proofs.Joined.{holds}
+use Rattle.lexical_grammar.specs.Tokens.{Tok}
+use Rattle.lexical_grammar.specs.declared.edge.Edge.{Edge}
+use Rattle.lexical_grammar.specs.declared.edge.Edge.TheVariants as ends
 use Rattle.format_layout.specs.Laid.{Laid, blank_room}
 
 joined-append : (xs ys : List Word) → joined (xs ++ ys) ≡ joined xs ++ joined ys

@@ -1,18 +1,18 @@
 -- Trees and words without optional signs.
 use Rattle.std.proofs.Common.{◌≡◌, ℕ, ◌+◌, inl, inr, Bool, true, false, cond, eqb, List, [], ◌∷◌, ◌++◌, refl, sym, ap}
 use Rattle.std.proofs.Common.{◌∙◌, subst, arith, eqb-true}
-use Rattle.std.specs.Prelude.{max, ◌&&◌}
 use Rattle.std.proofs.lemmas.Bool.{cases_Bool}
+use Rattle.std.specs.Prelude.{max, ◌&&◌}
 use Rattle.lexical_grammar.specs.Cut.{Word, is_significant_kind}
-use Rattle.document_grammar.specs.Kinds.{AMP, PIPE, DOCUMENT, LIST_VALUE, OBJECT_FIELD}
 use Rattle.document_grammar.specs.Choices.{is_ignored}
+use Rattle.document_grammar.specs.Derivation.{counts, below, belows, nest}
+use Rattle.document_grammar.specs.Kinds.{AMP, PIPE, DOCUMENT, LIST_VALUE, OBJECT_FIELD}
 use Rattle.document_grammar.specs.Pattern.{member}
 use Rattle.document_grammar.specs.Tree.{Tree, leaf, node, Forest, none, ◌▸◌, root}
-use Rattle.document_grammar.specs.Derivation.{counts, below, belows, nest}
+use Rattle.format_layout.proofs.Nests.{alike-nest}
 use Rattle.format_layout.specs.Respelled.{SameWord, AreSameWords, Alike, AllAlike}
 use Rattle.format_layout.specs.Signs.{has_members, is_sign, is_leaf, without_first_sign, unsigned, all_unsigned, marks}
 use Rattle.format_layout.specs.Signs.{all_marks, without_marked}
-use Rattle.format_layout.proofs.Nests.{alike-nest}
 
 -- ---- trees that are alike
 

@@ -1,14 +1,14 @@
 -- What each step of the writer leaves.
 use Rattle.std.proofs.Common.{◌≡◌, ℕ, ◌+◌, true, List, ◌∷◌, [], ◌++◌, refl, sym, subst, arith, append-nil}
-use Rattle.lexical_grammar.specs.declared.TokenKind.TheVariants.{Comma}
-use Rattle.lexical_grammar.specs.declared.edge.Edge.{Edge}
-use Rattle.lexical_grammar.specs.declared.edge.Edge.TheVariants as ends
-use Rattle.lexical_grammar.specs.Tokens.{Tok}
 use Rattle.lexical_grammar.specs.Cut.{Word}
 use Rattle.lexical_grammar.specs.Edges.{edge_of, may_touch, touches}
 use Rattle.lexical_grammar.specs.Kept.{kept_word}
-use Rattle.format_layout.specs.Laid.{Laid, Keeps, Adds}
+use Rattle.lexical_grammar.specs.Tokens.{Tok}
+use Rattle.lexical_grammar.specs.declared.TokenKind.TheVariants.{Comma}
+use Rattle.lexical_grammar.specs.declared.edge.Edge.{Edge}
+use Rattle.lexical_grammar.specs.declared.edge.Edge.TheVariants as ends
 use Rattle.format_layout.proofs.Tokens.{one-more, small-room}
+use Rattle.format_layout.specs.Laid.{Laid, Keeps, Adds}
 
 -- a comma where it may follow
 pub comma-keeps : (text more : List ℕ) (edge : Edge) (most count : ℕ) → more ≡ text ++ 44 ∷ [] → count ≡ most + 1

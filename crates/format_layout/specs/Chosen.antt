@@ -1,9 +1,9 @@
 -- Tokens, some of which are left out, and signs that come before some of them.
 use Rattle.std.specs.Prelude.{◌≡◌, true, List, [], ◌∷◌}
-use Rattle.lexical_grammar.specs.declared.TokenKind.TheVariants as token
 use Rattle.lexical_grammar.specs.Cut.{Word}
-use Rattle.format_layout.specs.declared.lead.Lead.{Lead}
+use Rattle.lexical_grammar.specs.declared.TokenKind.TheVariants as token
 use Rattle.format_layout.specs.Leads.{lead_after, may_come, may_go}
+use Rattle.format_layout.specs.declared.lead.Lead.{Lead}
 
 -- what becomes of a token: it stays, it goes, or a sign comes before it
 pub data Choice : Type 0 where

@@ -2,9 +2,9 @@
 use Rattle.std.specs.Prelude.{ℕ, ◌≤◌, List}
 use Rattle.lexical_grammar.specs.Answers.{usize_max}
 use Rattle.lexical_grammar.specs.Kept.{Kept}
-use Rattle.document_grammar.specs.Tree.{Tree}
 use Rattle.document_grammar.specs.Derivation.{document}
 use Rattle.document_grammar.specs.Sentence.{Sentence, Within}
+use Rattle.document_grammar.specs.Tree.{Tree}
 use Rattle.format_layout.specs.Respelled.{Alike, AreSameWords}
 use Rattle.format_layout.specs.Signs.{signs, unsigned, without_marked}
 

@@ -1,11 +1,11 @@
 -- What a writer has written: which significant tokens and comments, and what the text ends with.
 use Rattle.std.specs.Prelude.{◌≡◌, ℕ, ◌+◌, ◌*◌, ◌≤◌, Bool, true, ◌||◌, ◌==◌, List, ◌++◌, length}
-use Rattle.lexical_grammar.specs.declared.TokenKind.TheVariants as token
-use Rattle.lexical_grammar.specs.declared.edge.Edge.{Edge}
-use Rattle.lexical_grammar.specs.declared.edge.Edge.TheVariants.{Comment, Whitespace}
 use Rattle.lexical_grammar.specs.Cut.{Word}
 use Rattle.lexical_grammar.specs.Edges.{may_touch, AreTokens, are_apart, last_edge, joined}
 use Rattle.lexical_grammar.specs.Kept.{kept_word, kept}
+use Rattle.lexical_grammar.specs.declared.TokenKind.TheVariants as token
+use Rattle.lexical_grammar.specs.declared.edge.Edge.{Edge}
+use Rattle.lexical_grammar.specs.declared.edge.Edge.TheVariants.{Comment, Whitespace}
 
 -- how many tokens white space adds at the end: none where there is some already
 abbrev pub blank_room : Edge → ℕ

@@ -1,12 +1,12 @@
 -- Texts, tokens and trees that are the same but for the spelling of their block strings.
 use Rattle.std.specs.Prelude.{◌≡◌, ℕ, ◌⊎◌, List, [], ◌∷◌}
-use Rattle.lexical_grammar.specs.declared.TokenKind.TheVariants.{StringValue}
-use Rattle.lexical_grammar.specs.Values.{Block}
 use Rattle.lexical_grammar.specs.Cut.{Word}
-use Rattle.document_grammar.specs.Kinds.{STRING}
-use Rattle.document_grammar.specs.Tree.{Tree, leaf, node, Forest, none, ◌▸◌}
+use Rattle.lexical_grammar.specs.Values.{Block}
+use Rattle.lexical_grammar.specs.declared.TokenKind.TheVariants.{StringValue}
 use Rattle.document_grammar.specs.Derivation.{document}
+use Rattle.document_grammar.specs.Kinds.{STRING}
 use Rattle.document_grammar.specs.Sentence.{Sentence}
+use Rattle.document_grammar.specs.Tree.{Tree, leaf, node, Forest, none, ◌▸◌}
 
 -- both texts are block strings, with one value
 pub record SameBlock (text other : List ℕ) : Type 0 where

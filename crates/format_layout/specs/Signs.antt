@@ -2,8 +2,8 @@
 -- location of a directive (GraphQL October 2021, sections 3.6, 3.8 and 3.13).
 use Rattle.std.specs.Prelude.{ℕ, Bool, true, false, cond, eqb, ◌&&◌, ◌||◌, List, [], ◌∷◌, ◌++◌}
 use Rattle.lexical_grammar.specs.Cut.{Word, is_significant_kind}
-use Rattle.document_grammar.specs.Kinds.{AMP, PIPE, IMPLEMENTS_INTERFACES, UNION_MEMBER_TYPES, DIRECTIVE_LOCATIONS}
 use Rattle.document_grammar.specs.Choices.{is_ignored}
+use Rattle.document_grammar.specs.Kinds.{AMP, PIPE, IMPLEMENTS_INTERFACES, UNION_MEMBER_TYPES, DIRECTIVE_LOCATIONS}
 use Rattle.document_grammar.specs.Tree.{Tree, leaf, node, Forest, none, ◌▸◌}
 
 -- the nodes that have such members

@@ -1,13 +1,13 @@
 -- What a writer has written that may spell block strings anew, and leave out or put in optional signs.
 use Rattle.std.specs.Prelude.{ℕ, List, [], ◌∷◌, ◌++◌}
-use Rattle.lexical_grammar.specs.declared.edge.Edge.{Edge}
 use Rattle.lexical_grammar.specs.Cut.{Word}
 use Rattle.lexical_grammar.specs.Kept.{Holds, kept_word}
-use Rattle.format_layout.specs.declared.lead.Lead.{Lead}
-use Rattle.format_layout.specs.declared.lead.Lead.TheVariants.{Other}
+use Rattle.lexical_grammar.specs.declared.edge.Edge.{Edge}
 use Rattle.format_layout.specs.Chosen.{AreAllowed, Choice, chosen, pipe_word}
 use Rattle.format_layout.specs.Laid.{Laid}
 use Rattle.format_layout.specs.Respelled.{AreSameWords}
+use Rattle.format_layout.specs.declared.lead.Lead.{Lead}
+use Rattle.format_layout.specs.declared.lead.Lead.TheVariants.{Other}
 
 -- It has written these words, or block strings with the same values.
 pub record LaidSame (text : List ℕ) (edge : Edge) (most : ℕ) (words : List Word) : Type 0 where

@@ -1,32 +1,32 @@
 -- Items that are neither significant tokens nor bad text.
 use Rattle.std.proofs.Common.{◌≡◌, ◌∙◌, ◌≤◌, ◌<◌, ◌^◌, ◌+◌, ℕ, zero, suc, Bool, true, false, not, ◌&&◌, List}
 use Rattle.std.proofs.Common.{[], ◌∷◌, ◌++◌, inl, inr, Option, Some, None, Err, length, refl, sym, ap, subst, arith}
-use Rattle.std.specs.Prelude.{MatchBool, min, if◌then◌else◌}
-use Rattle.std.specs.List.{list_all}
-use Rattle.std.specs.Option.{is_some}
-use Rattle.std.proofs.lemmas.List.Folds.{list_all-append}
 use Rattle.std.proofs.lemmas.Bool.{and_parts, and_from}
 use Rattle.std.proofs.lemmas.Bool.Decides.{nat_tests}
+use Rattle.std.proofs.lemmas.List.Folds.{list_all-append}
+use Rattle.std.specs.List.{list_all}
+use Rattle.std.specs.Option.{is_some}
+use Rattle.std.specs.Prelude.{MatchBool, min, if◌then◌else◌}
 use Rattle.std.specs.Str.{IsUtf8}
-use Rattle.lexical_grammar.specs.declared.TokenKind.{TokenKind}
-use Rattle.lexical_grammar.specs.declared.TokenKind.TheVariants.{Whitespace, Comment, Comma, Eof}
+use Rattle.lexical_grammar.proofs.TheCut.{is-cut}
 use Rattle.lexical_grammar.specs.Answers.{Answer, gives, limit_at, limited, usize_max}
 use Rattle.lexical_grammar.specs.Cut.{Item, Word, Significant, significant_word, are_tokens, is_significant_kind}
 use Rattle.lexical_grammar.specs.Kept.{Holds, Kept, kept_item, kept_word}
 use Rattle.lexical_grammar.specs.Reads.{items_of}
-use Rattle.lexical_grammar.proofs.TheCut.{is-cut}
+use Rattle.lexical_grammar.specs.declared.TokenKind.{TokenKind}
+use Rattle.lexical_grammar.specs.declared.TokenKind.TheVariants.{Whitespace, Comment, Comma, Eof}
 use Rattle.document_grammar.proofs.Texts.{one-cut}
-use Rattle.apollo_lexer.specs.declared.lexer.Lexer.{Lexer}
-use Rattle.apollo_lexer.specs.declared.lex_error.LexError.{LexError}
-use Rattle.apollo_lexer.specs.Answers.{answers_left, answer_of, error_answer}
 use Rattle.apollo_lexer.proofs.Law.{answers-fit, limited-length}
+use Rattle.apollo_lexer.specs.Answers.{answers_left, answer_of, error_answer}
+use Rattle.apollo_lexer.specs.declared.lex_error.LexError.{LexError}
+use Rattle.apollo_lexer.specs.declared.lexer.Lexer.{Lexer}
+use Rattle.format_layout.proofs.Steps.{significant-comes, significant-goes}
+use Rattle.format_layout.specs.Chosen.{AreAllowed, Choice, chosen, goes, pipe_word, signed, stays}
+use Rattle.format_layout.specs.Leads.{lead_after}
 use Rattle.format_layout.specs.Respelled.{SameWord, AreSameWords}
+use Rattle.format_layout.specs.Written.{HoldsChosen}
 use Rattle.format_layout.specs.declared.lead.Lead.{Lead}
 use Rattle.format_layout.specs.declared.lead.Lead.TheVariants.{Other}
-use Rattle.format_layout.specs.Leads.{lead_after}
-use Rattle.format_layout.specs.Chosen.{AreAllowed, Choice, chosen, goes, pipe_word, signed, stays}
-use Rattle.format_layout.specs.Written.{HoldsChosen}
-use Rattle.format_layout.proofs.Steps.{significant-comes, significant-goes}
 use Rattle.formatter.specs.Comments.{HasNoDefinitions, HasSameComments}
 
 abbrev pub is_ignored_kind : Option TokenKind → Bool

@@ -1,16 +1,16 @@
 -- How many items a text has.
 use Rattle.std.proofs.Common.{◌≡◌, ◌∙◌, ◌+◌, ◌<◌, ◌^◌, ℕ, List, length, ap, arith}
-use Rattle.std.specs.Prelude.{Result, min}
-use Rattle.std.specs.Iterator.{Drains}
 use Rattle.std.proofs.lemmas.Bool.Decides.{nat_tests}
 use Rattle.std.proofs.lemmas.Iterator.Consumers.{YieldsList-from_shown, count_from_yields_List}
+use Rattle.std.specs.Iterator.{Drains}
+use Rattle.std.specs.Prelude.{Result, min}
 use Rattle.lexical_grammar.specs.Answers.{limited, usize_max}
 use Rattle.lexical_grammar.specs.Reads.{items_of}
-use Rattle.apollo_lexer.specs.declared.token.Token.{Token}
+use Rattle.apollo_lexer.proofs.Law.{answers-fit, limited-length}
+use Rattle.apollo_lexer.specs.Answers.{answers_left, answer_of, Advances}
 use Rattle.apollo_lexer.specs.declared.lex_error.LexError.{LexError}
 use Rattle.apollo_lexer.specs.declared.lexer.Lexer.{Lexer}
-use Rattle.apollo_lexer.specs.Answers.{answers_left, answer_of, Advances}
-use Rattle.apollo_lexer.proofs.Law.{answers-fit, limited-length}
+use Rattle.apollo_lexer.specs.declared.token.Token.{Token}
 
 -- a lexer without a limit gives as many answers as the text has items
 pub counted : (lexer : Lexer) (text : List ℕ) (n : ℕ) → answers_left lexer ≡ limited usize_max (items_of text)

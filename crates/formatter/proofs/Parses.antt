@@ -1,21 +1,21 @@
 -- What follows from a parse with errors, and from one without.
 use Rattle.std.proofs.Common.{◌≡◌, ◌≢◌, ℕ, ◌+◌, ◌*◌, ◌<◌, ◌≤◌, min, List, [], length, sym, ap, ◌∙◌, subst, arith}
-use Rattle.std.specs.Prelude.{Result, Ok, Err, IfErr}
 use Rattle.std.proofs.Math.Nat.{min-le_left, mul-le-mul_right}
+use Rattle.std.specs.Prelude.{Result, Ok, Err, IfErr}
 use Rattle.lexical_grammar.specs.Answers.{usize_max}
-use Rattle.apollo_lexer.specs.Diagnostics.{Diagnostic}
-use Rattle.document_grammar.specs.Numbered.{tree_of}
-use Rattle.document_grammar.specs.Placed.{bare}
-use Rattle.document_grammar.specs.Derivation.{nest}
-use Rattle.document_grammar.specs.Sentence.{tokens_of}
-use Rattle.document_grammar.proofs.Texts.{one-cut}
-use Rattle.apollo_parser.specs.Promise.{Promise}
-use Rattle.apollo_parser.specs.Parsed.{Parsed}
 use Rattle.lexical_grammar.specs.Cut.{Cut}
 use Rattle.lexical_grammar.specs.Reads.{items_of}
+use Rattle.document_grammar.proofs.Texts.{one-cut}
+use Rattle.document_grammar.specs.Derivation.{nest}
+use Rattle.document_grammar.specs.Numbered.{tree_of}
+use Rattle.document_grammar.specs.Placed.{bare}
+use Rattle.document_grammar.specs.Sentence.{tokens_of}
+use Rattle.apollo_lexer.specs.Diagnostics.{Diagnostic}
+use Rattle.apollo_parser.specs.Parsed.{Parsed}
+use Rattle.apollo_parser.specs.Promise.{Promise}
+use Rattle.format_layout.proofs.Unsigned.{unsigned-nest}
 use Rattle.format_layout.specs.Formatted.{IsSentence, Formatted}
 use Rattle.format_layout.specs.Lengths.{longest_layout}
-use Rattle.format_layout.proofs.Unsigned.{unsigned-nest}
 use Rattle.formatter.specs.Formatted.{IsDocument, IsFormatted, IsRefused, MayExceed}
 
 pub refused : (source : List ℕ) (r k : ℕ) (t : Parsed) (errors : List Diagnostic) → errors ≡ t.errors → errors ≢ []

@@ -1,9 +1,9 @@
 -- The outcome of formatting: another layout of the same document, or the errors of a text that is no document.
 use Rattle.std.specs.Prelude.{◌≡◌, ◌≢◌, ◌<◌, ℕ, List, [], length}
-use Rattle.apollo_lexer.specs.Diagnostics.{Diagnostic}
-use Rattle.document_grammar.specs.Tree.{Tree}
 use Rattle.document_grammar.specs.Derivation.{document, nest}
 use Rattle.document_grammar.specs.Sentence.{Sentence, Within}
+use Rattle.document_grammar.specs.Tree.{Tree}
+use Rattle.apollo_lexer.specs.Diagnostics.{Diagnostic}
 use Rattle.apollo_parser.specs.Parsed.{Parsed}
 use Rattle.apollo_parser.specs.Promise.{Promise}
 use Rattle.format_layout.specs.Formatted.{Formatted}

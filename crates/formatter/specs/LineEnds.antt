@@ -1,6 +1,6 @@
 -- Texts by the ends of their lines.
-use Rattle.std.specs.Prelude.{◌≡◌, ℕ, not, if◌then◌else◌, List, [], ◌∷◌, ◌++◌, drop}
 use Rattle.std.specs.List.{flat_map, prefix_len}
+use Rattle.std.specs.Prelude.{◌≡◌, ℕ, not, if◌then◌else◌, List, [], ◌∷◌, ◌++◌, drop}
 use Rattle.lexical_grammar.specs.Characters.{is_line_terminator}
 use Rattle.lexical_grammar.specs.Strings.{begins}
 use Rattle.lexical_grammar.specs.Values.{Lines}

@@ -1,7 +1,7 @@
 -- Formatting within limits on the source and on its formatted text.
 use Rattle.std.specs.Prelude.{◌<◌, ◌≤◌, ℕ, List, length}
-use Rattle.apollo_lexer.specs.declared.limits.Limits.{Limits}
 use Rattle.lexical_grammar.specs.Reads.{items_of}
+use Rattle.apollo_lexer.specs.declared.limits.Limits.{Limits}
 use Rattle.format_layout.specs.Lengths.{most_items}
 use Rattle.formatter.specs.Comments.{HasNoDefinitions, HasSameComments}
 use Rattle.formatter.specs.Formatted.{IsDocument, IsFormatted}

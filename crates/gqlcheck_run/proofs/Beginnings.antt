@@ -3,8 +3,8 @@ use Rattle.std.proofs.Common.{◌≡◌, ◌∙◌, ◌<◌, ◌≤◌, ◌+◌,
 use Rattle.std.proofs.Common.{append_assoc, append-nil, min, arith}
 use Rattle.std.proofs.lemmas.List.{take_all}
 use Rattle.json.specs.Json.{Json}
-use Rattle.marked_lines.specs.Places.{BeginsWith, OfFirst}
 use Rattle.marked_lines.proofs.Fronts.{begins_through, of_first_front, of_first_kept}
+use Rattle.marked_lines.specs.Places.{BeginsWith, OfFirst}
 use Rattle.document_checks.specs.declared.report.Finding.{Finding}
 use Rattle.command_lines.specs.declared.gqlcheck.Format.TheVariants.{Sarif}
 use Rattle.gqlcheck_run.specs.Places.{BeginsWithLine, BeginsWithResult}

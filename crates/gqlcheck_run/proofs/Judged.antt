@@ -1,11 +1,11 @@
 -- Texts with their reports.
 use Rattle.std.proofs.Common.{◌≡◌, ◌∙◌, ◌<◌, ℕ, suc, List, [], ◌∷◌, length, get_or, map, refl, ap, sym}
 use Rattle.std.proofs.Common.{arith, subst, true}
-use Rattle.std.specs.Prelude.{◌↔◌, All}
-use Rattle.std.specs.List.{zip}
 use Rattle.std.proofs.lemmas.List.{get_or_default}
 use Rattle.std.proofs.lemmas.List.Elements.{All-cons, All-head, All-nil, All-tail}
 use Rattle.std.proofs.lemmas.Slice.Zip.{get_or-zip}
+use Rattle.std.specs.List.{zip}
+use Rattle.std.specs.Prelude.{◌↔◌, All}
 use Rattle.apollo_lexer.specs.declared.limits.Limits.{Limits}
 use Rattle.document_checks.specs.Checking.{Asked}
 use Rattle.document_checks.specs.Findings.{AreReports, IsReport}

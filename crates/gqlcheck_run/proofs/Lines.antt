@@ -6,12 +6,12 @@ use Rattle.json.specs.Token.{Token, begin_array, begin_object, end_array, end_ob
 use Rattle.json.specs.Tree.{json_tokens, members_tokens}
 use Rattle.json.specs.Written.{Written}
 use Rattle.marked_lines.specs.Places.{BeginsWith, column_number, line_number}
+use Rattle.gqlcheck_run.proofs.Members.{adds_both, object_after}
 use Rattle.gqlcheck_run.specs.JsonLines.{Adds, AddsMember, AddsMembers, IsEnded, number_tokens, place_tokens}
 use Rattle.gqlcheck_run.specs.Numbers.{capped, json_number}
 use Rattle.gqlcheck_run.specs.Places.{BeginsWithJson, BeginsWithLine, BeginsWithResult}
 use Rattle.gqlcheck_run.specs.SarifResults.{artifact_location, locations, physical_location, region, region_members}
 use Rattle.gqlcheck_run.specs.SarifResults.{separator}
-use Rattle.gqlcheck_run.proofs.Members.{adds_both, object_after}
 
 -- ---- a line
 

@@ -1,10 +1,10 @@
 -- Which paths were read.
 use Rattle.std.proofs.Common.{◌≡◌, ◌∙◌, ℕ, Bool, true, false, List, ap, refl, cond}
-use Rattle.std.specs.Prelude.{◌||◌, bytes_eq, string_bytes}
-use Rattle.std.specs.BTreeSet.{BTreeSet, UpdatesBy, contains_text}
-use Rattle.std.specs.declared.string.String.{String}
-use Rattle.std.specs.String.{string_cmp}
 use Rattle.std.proofs.lemmas.Map.Text.{btree_set_updates_text}
+use Rattle.std.specs.BTreeSet.{BTreeSet, UpdatesBy, contains_text}
+use Rattle.std.specs.Prelude.{◌||◌, bytes_eq, string_bytes}
+use Rattle.std.specs.String.{string_cmp}
+use Rattle.std.specs.declared.string.String.{String}
 use Rattle.gqlcheck_run.specs.Inputs.{Marks}
 
 or_else : (b c : Bool) → cond b true c ≡ (b || c)

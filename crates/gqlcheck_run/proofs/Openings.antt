@@ -5,8 +5,8 @@ use Rattle.std.specs.declared.io.Error.{Error}
 use Rattle.document_checks.specs.Checking.{Asked}
 use Rattle.file_access.specs.Listing.{Listing}
 use Rattle.named_files.specs.Handling.{State}
-use Rattle.gqlcheck_run.specs.declared.job.Printing.{Printing}
 use Rattle.gqlcheck_run.specs.Program.{ChecksAndCloses, Continues, Paths}
+use Rattle.gqlcheck_run.specs.declared.job.Printing.{Printing}
 
 module _ {S : Type 0} (lists : S → List ℕ → Listing → S → Type 0) (omits : S → List ℕ → Result Bool Error → S → Type 0)
     (reads : S → List ℕ → Result (List ℕ) Error → S → Type 0)

@@ -4,15 +4,15 @@ use Rattle.std.specs.Prelude.{Bool, Result}
 use Rattle.std.specs.declared.io.Error.{Error}
 use Rattle.document_checks.specs.Checking.{Asked}
 use Rattle.file_access.specs.Listing.{Listing}
-use Rattle.named_files.specs.Handling.{State}
 use Rattle.command_lines.specs.Options.{Given}
 use Rattle.command_lines.specs.declared.misuse.WordsError.{WordsError}
 use Rattle.command_lines.specs.declared.misuse.WordsError.TheVariants.{Memory, Usage}
+use Rattle.named_files.specs.Handling.{State}
 use Rattle.gqlcheck_run.specs.Inputs.{Input}
 use Rattle.gqlcheck_run.specs.Judging.{JudgesTexts, Printed}
 use Rattle.gqlcheck_run.specs.Program.{ChecksAll, ChecksIfRules, Paths, Refuses, allowed_by, warned_by}
-use Rattle.gqlcheck_run.specs.declared.job.Printing.{Printing}
 use Rattle.gqlcheck_run.specs.Rules.{IsNotRead, IsUnknownRule}
+use Rattle.gqlcheck_run.specs.declared.job.Printing.{Printing}
 
 -- A name is no rule's.
 pub unknown : {S : Type 0} (lists : S → List ℕ → Listing → S → Type 0)

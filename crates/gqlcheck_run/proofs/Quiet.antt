@@ -1,7 +1,7 @@
 -- What a text that passes adds to a tally.
 use Rattle.std.proofs.Common.{◌≡◌, ℕ, max, arith}
-use Rattle.std.specs.Ordering.{ord_max, nat_cmp}
 use Rattle.std.proofs.lemmas.Bool.Decides.{nat_tests}
+use Rattle.std.specs.Ordering.{ord_max, nat_cmp}
 
 -- the greater of two statuses
 pub greater : (a b : ℕ) → ord_max nat_cmp a b ≡ max a b

@@ -1,25 +1,25 @@
 -- Sets of the rules with some names.
 use Rattle.std.proofs.Common.{◌≡◌, ◌∙◌, ◌<◌, ◌+◌, ℕ, Bool, true, false, List, [], ◌∷◌, ◌++◌, length, take, get_or}
 use Rattle.std.proofs.Common.{arith, refl, sym, ap, subst, not}
-use Rattle.std.specs.Prelude.{◌==◌, ◌&&◌, ◌||◌, All, bytes_eq, Option, None, Some, cond, unwrap_or}
-use Rattle.std.specs.List.{Contains, find}
 use Rattle.std.proofs.lemmas.Bool.{eq-eqb, eqb-true}
-use Rattle.std.proofs.lemmas.Option.{none-some}
-use Rattle.std.proofs.lemmas.Slice.Eq.{bytes_eq-Decides}
 use Rattle.std.proofs.lemmas.List.{get_or-map, length-map, map-append, take_more}
 use Rattle.std.proofs.lemmas.List.Elements.{All-append, All-cons, All-nil, Contains-append_left}
 use Rattle.std.proofs.lemmas.List.Elements.{Contains-append_right, Contains-get_or}
 use Rattle.std.proofs.lemmas.List.Folds.{list_any-append}
+use Rattle.std.proofs.lemmas.Option.{none-some}
+use Rattle.std.proofs.lemmas.Slice.Eq.{bytes_eq-Decides}
+use Rattle.std.specs.List.{Contains, find}
+use Rattle.std.specs.Prelude.{◌==◌, ◌&&◌, ◌||◌, All, bytes_eq, Option, None, Some, cond, unwrap_or}
 use denote.Ref.{Bor}
-use Rattle.command_lines.specs.Words.{texts}
-use Rattle.command_lines.specs.declared.misuse.WordsError.{WordsError}
-use Rattle.command_lines.specs.declared.misuse.WordsError.TheVariants.{Memory, Usage}
 use Rattle.validation_rules.specs.RuleNames.{rule_name}
 use Rattle.validation_rules.specs.RuleNumbers.{rule_number}
 use Rattle.validation_rules.specs.Selection.{has_rule}
 use Rattle.validation_rules.specs.declared.selection.RuleSet.{RuleSet}
 use Rattle.validation_rules.specs.declared.violations.Rule.{Rule}
 use Rattle.validation_rules.specs.declared.violations.Rule.TheVariants as each
+use Rattle.command_lines.specs.Words.{texts}
+use Rattle.command_lines.specs.declared.misuse.WordsError.{WordsError}
+use Rattle.command_lines.specs.declared.misuse.WordsError.TheVariants.{Memory, Usage}
 use Rattle.gqlcheck_run.specs.Rules.{AreRules, IsNotRead, IsRuleName, IsUnknownRule, is_among}
 
 -- ---- names

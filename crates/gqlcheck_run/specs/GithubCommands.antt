@@ -1,7 +1,7 @@
 -- Workflow commands of GitHub Actions, as its documentation has them ("Workflow commands for GitHub Actions", "Setting
 -- an error message").
-use Rattle.std.specs.Prelude.{◌==◌, ℕ, Bool, true, false, List, [], ◌∷◌, ◌++◌, codes, decimal, if◌then◌else◌}
 use Rattle.std.specs.List.{flat_map}
+use Rattle.std.specs.Prelude.{◌==◌, ℕ, Bool, true, false, List, [], ◌∷◌, ◌++◌, codes, decimal, if◌then◌else◌}
 
 -- A byte of a message: `%`, CR and LF are escaped.
 abbrev pub data_byte : ℕ → List ℕ

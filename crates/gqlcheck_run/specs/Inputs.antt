@@ -1,8 +1,8 @@
 -- The texts of a run.
-use Rattle.std.specs.Prelude.{◌≡◌, ◌||◌, ◌+◌, ◌*◌, ℕ, Bool, false, List, [], ◌∷◌, ◌++◌, length, map, bytes_eq}
-use Rattle.std.specs.Prelude.{string_bytes, Result, Ok, Err}
 use Rattle.std.specs.BTreeSet.{contains_text}
 use Rattle.std.specs.List.{sum_by}
+use Rattle.std.specs.Prelude.{◌≡◌, ◌||◌, ◌+◌, ◌*◌, ℕ, Bool, false, List, [], ◌∷◌, ◌++◌, length, map, bytes_eq}
+use Rattle.std.specs.Prelude.{string_bytes, Result, Ok, Err}
 use Rattle.std.specs.Str.{IsUtf8}
 use Rattle.byte_streams.specs.declared.fault.Fault.{Fault}
 use Rattle.byte_streams.specs.declared.fault.Fault.TheVariants.{Read, Utf8, Memory, Write}

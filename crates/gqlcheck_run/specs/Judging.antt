@@ -1,23 +1,23 @@
 -- Judging the texts of a run together, and writing what is found.
-use Rattle.std.specs.Prelude.{◌≡◌, ◌⊎◌, ◌↔◌, ℕ, max, true, false, List, [], All, map, Result, Ok, Err}
 use Rattle.std.specs.List.{zip}
-use Rattle.byte_streams.specs.Devices.{Account, moved}
-use Rattle.byte_streams.specs.Writing.{IsBroken}
-use Rattle.byte_streams.specs.declared.fault.Fault.{Fault}
-use Rattle.byte_streams.specs.declared.fault.Fault.TheVariants.{Read, Utf8, Memory, Write}
+use Rattle.std.specs.Prelude.{◌≡◌, ◌⊎◌, ◌↔◌, ℕ, max, true, false, List, [], All, map, Result, Ok, Err}
 use Rattle.document_checks.specs.Checking.{Asked, PassTogether}
 use Rattle.document_checks.specs.Findings.{IsReport}
 use Rattle.document_checks.specs.Passing.{PassEach}
 use Rattle.document_checks.specs.Warnings.{WarnEach}
 use Rattle.document_checks.specs.declared.report.Report.{Report}
-use Rattle.named_files.specs.Handling.{InTurn}
+use Rattle.byte_streams.specs.Devices.{Account, moved}
+use Rattle.byte_streams.specs.Writing.{IsBroken}
+use Rattle.byte_streams.specs.declared.fault.Fault.{Fault}
+use Rattle.byte_streams.specs.declared.fault.Fault.TheVariants.{Read, Utf8, Memory, Write}
 use Rattle.command_lines.specs.Streams.{IsSaid, no_memory}
-use Rattle.gqlcheck_run.specs.declared.command.TheConstants.{PROGRAM}
-use Rattle.gqlcheck_run.specs.declared.inputs.Input as declared
-use Rattle.gqlcheck_run.specs.declared.job.Printing.{Printing}
+use Rattle.named_files.specs.Handling.{InTurn}
 use Rattle.gqlcheck_run.specs.Ending.{Says, prints_figures, status_of, verdict_of}
 use Rattle.gqlcheck_run.specs.Inputs.{Input, as_input, text_of}
 use Rattle.gqlcheck_run.specs.Rendering.{BeginsAtFirst}
+use Rattle.gqlcheck_run.specs.declared.command.TheConstants.{PROGRAM}
+use Rattle.gqlcheck_run.specs.declared.inputs.Input as declared
+use Rattle.gqlcheck_run.specs.declared.job.Printing.{Printing}
 
 -- a text, and what is found of it
 pub record Judged : Type 0 where

@@ -3,31 +3,31 @@ use Rattle.std.specs.Prelude.{◌≡◌, ◌⊎◌, ◌++◌, ℕ, zero, suc, ma
 use Rattle.std.specs.Prelude.{Result, if◌then◌else◌, option_map, unwrap_or}
 use Rattle.std.specs.declared.io.Error.{Error}
 use denote.Ref.{Bor}
-use Rattle.byte_streams.specs.Devices.{Account}
 use Rattle.validation_rules.specs.declared.selection.RuleSet.{RuleSet}
 use Rattle.cost_limits.specs.declared.introspection.Introspection.{Introspection}
 use Rattle.cost_limits.specs.declared.introspection.Introspection.TheVariants.{Counted, LeftOut}
 use Rattle.document_checks.specs.Checking.{Asked}
+use Rattle.byte_streams.specs.Devices.{Account}
 use Rattle.file_access.specs.Listing.{Listing}
-use Rattle.named_files.specs.Handling.{State, streams}
 use Rattle.command_lines.specs.Gqlcheck.{format_of, most_of, operation_of, request_of}
 use Rattle.command_lines.specs.Misuse.{IsAmong}
 use Rattle.command_lines.specs.Options.{Given, is_set, limits_of, number, text}
-use Rattle.command_lines.specs.Words.{texts}
 use Rattle.command_lines.specs.Streams.{Explains, IsSaid, OnlyPrints, OnlySays, OnlyExplains, no_memory}
-use Rattle.command_lines.specs.declared.misuse.WordsError.{WordsError}
-use Rattle.command_lines.specs.declared.misuse.WordsError.TheVariants.{Memory, Usage}
-use Rattle.command_lines.specs.declared.information.Request.{Request}
-use Rattle.command_lines.specs.declared.information.Request.TheVariants.{Print, Process}
+use Rattle.command_lines.specs.Words.{texts}
 use Rattle.command_lines.specs.declared.information.Information.{Information}
 use Rattle.command_lines.specs.declared.information.Information.TheVariants.{Help, Version}
-use Rattle.gqlcheck_run.specs.declared.command.TheConstants.{PROGRAM, USAGE, HELP, VERSION}
-use Rattle.gqlcheck_run.specs.declared.job.Printing.{Printing}
+use Rattle.command_lines.specs.declared.information.Request.{Request}
+use Rattle.command_lines.specs.declared.information.Request.TheVariants.{Print, Process}
+use Rattle.command_lines.specs.declared.misuse.WordsError.{WordsError}
+use Rattle.command_lines.specs.declared.misuse.WordsError.TheVariants.{Memory, Usage}
+use Rattle.named_files.specs.Handling.{State, streams}
 use Rattle.gqlcheck_run.specs.Framing.{Closes, opening}
 use Rattle.gqlcheck_run.specs.Inputs.{Input, bytes_in, default_steps, no_texts}
 use Rattle.gqlcheck_run.specs.Judging.{JudgesTexts}
 use Rattle.gqlcheck_run.specs.Reading.{Reading, ReadsKnown, ReadsTexts}
 use Rattle.gqlcheck_run.specs.Rules.{AreRules, IsUnknownRule, names_of}
+use Rattle.gqlcheck_run.specs.declared.command.TheConstants.{PROGRAM, USAGE, HELP, VERSION}
+use Rattle.gqlcheck_run.specs.declared.job.Printing.{Printing}
 
 abbrev pub information_text : Information → List ℕ
 information_text Help = HELP.now

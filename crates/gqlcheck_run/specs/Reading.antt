@@ -7,15 +7,15 @@ use Rattle.byte_streams.specs.Runs.{Reads}
 use Rattle.byte_streams.specs.declared.fault.Fault.{Fault}
 use Rattle.byte_streams.specs.declared.fault.Fault.TheVariants.{Read, Memory}
 use Rattle.file_access.specs.Listing.{Listing}
-use Rattle.named_files.specs.Finding.{FoundPath, IsNamed, Lists, file, unreadable, path_of}
-use Rattle.named_files.specs.Handling.{InTurn}
 use Rattle.command_lines.specs.Complaints.{Tells, TellsOfFile}
 use Rattle.command_lines.specs.declared.complaints.FileFault.{FileFault}
 use Rattle.command_lines.specs.declared.complaints.FileFault.TheVariants.{Device, NotRead}
-use Rattle.gqlcheck_run.specs.declared.command.TheConstants.{PROGRAM}
-use Rattle.gqlcheck_run.specs.declared.inputs.TheConstants.{INPUT}
+use Rattle.named_files.specs.Finding.{FoundPath, IsNamed, Lists, file, unreadable, path_of}
+use Rattle.named_files.specs.Handling.{InTurn}
 use Rattle.gqlcheck_run.specs.Ending.{Says, SaysOfFile, status_of}
 use Rattle.gqlcheck_run.specs.Inputs.{Input, Keeps, Marks, Texts}
+use Rattle.gqlcheck_run.specs.declared.command.TheConstants.{PROGRAM}
+use Rattle.gqlcheck_run.specs.declared.inputs.TheConstants.{INPUT}
 
 -- Standard input is read to its end, and its text is kept, or it is said why not.
 pub record ReadsInput (status : ℕ) (kept kept' : List Input) (old new complaints complaints' : Account) : Type 0 where

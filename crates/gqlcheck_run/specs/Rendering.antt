@@ -1,7 +1,7 @@
 -- What the output for some findings begins with.
 use Rattle.std.specs.Prelude.{ℕ, List, length, min}
-use Rattle.document_checks.specs.declared.report.Finding.{Finding}
 use Rattle.marked_lines.specs.Places.{OfFirst}
+use Rattle.document_checks.specs.declared.report.Finding.{Finding}
 use Rattle.command_lines.specs.declared.gqlcheck.Format.{Format}
 use Rattle.gqlcheck_run.specs.Places.{BeginsAt}
 

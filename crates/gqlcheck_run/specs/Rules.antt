@@ -1,13 +1,13 @@
 -- The rules that words name.
+use Rattle.std.specs.List.{Contains, list_any, slice_split}
 use Rattle.std.specs.Prelude.{◌≡◌, ◌==◌, ◌&&◌, not, ◌++◌, ℕ, Bool, List, [], All, bytes_eq, Option, Some, None, Result}
 use Rattle.std.specs.Prelude.{Ok, Err}
-use Rattle.std.specs.List.{Contains, list_any, slice_split}
-use Rattle.command_lines.specs.declared.misuse.WordsError.{WordsError}
-use Rattle.command_lines.specs.declared.misuse.WordsError.TheVariants.{Memory, Usage}
 use Rattle.validation_rules.specs.RuleNames.{rule_name}
 use Rattle.validation_rules.specs.Selection.{has_rule}
-use Rattle.validation_rules.specs.declared.violations.Rule.{Rule}
 use Rattle.validation_rules.specs.declared.selection.RuleSet.{RuleSet}
+use Rattle.validation_rules.specs.declared.violations.Rule.{Rule}
+use Rattle.command_lines.specs.declared.misuse.WordsError.{WordsError}
+use Rattle.command_lines.specs.declared.misuse.WordsError.TheVariants.{Memory, Usage}
 use Rattle.gqlcheck_run.specs.declared.rules.Rules.{Rules}
 
 -- names that are joined by commas

@@ -1,6 +1,6 @@
 -- Results of a SARIF log (SARIF 2.1.0).
-use Rattle.std.specs.Prelude.{ℕ, Bool, true, false, eqb, List, [], ◌++◌, codes, drop, if◌then◌else◌}
 use Rattle.std.specs.List.{starts_with}
+use Rattle.std.specs.Prelude.{ℕ, Bool, true, false, eqb, List, [], ◌++◌, codes, drop, if◌then◌else◌}
 use Rattle.json.specs.Json.{Json, Members, array, item, member, no_items, no_members, object, string}
 use Rattle.percent_encoding.specs.Percent.{percent_encode}
 use Rattle.marked_lines.specs.Places.{column_number, line_number}

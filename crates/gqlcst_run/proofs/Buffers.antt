@@ -2,14 +2,14 @@
 use Rattle.std.proofs.Common.{◌≡◌, ℕ, ◌<◌, ◌⊎◌, Bool, true, false, inl, inr, List, [], ◌++◌, length, length-append, sym}
 use Rattle.std.proofs.Common.{ap, ◌∙◌, append_assoc, subst, arith}
 use Rattle.std.proofs.lemmas.List.{append-nil}
-use Rattle.byte_streams.specs.declared.fault.Fault.{Fault}
-use Rattle.byte_streams.specs.declared.fault.Fault.TheVariants.{Read, Utf8, Memory, Write}
-use Rattle.gqlcst_run.specs.declared.output_buffer.OutputBuffer.{OutputBuffer}
+use Rattle.byte_streams.proofs.Accounts.{moved_moved, taken_none, taken_all}
 use Rattle.byte_streams.specs.Devices.{Account, moved, stopped, failed}
 use Rattle.byte_streams.specs.Writing.{IsTaken, IsBroken, EndsWriting}
-use Rattle.gqlcst_run.specs.Passing.{IsPassed}
+use Rattle.byte_streams.specs.declared.fault.Fault.{Fault}
+use Rattle.byte_streams.specs.declared.fault.Fault.TheVariants.{Read, Utf8, Memory, Write}
 use Rattle.gqlcst_run.specs.Buffering.{Buffered, waiting, IsEmpty, HasTaken, IsPut, Puts, PutsSome, PutsAny}
-use Rattle.byte_streams.proofs.Accounts.{moved_moved, taken_none, taken_all}
+use Rattle.gqlcst_run.specs.Passing.{IsPassed}
+use Rattle.gqlcst_run.specs.declared.output_buffer.OutputBuffer.{OutputBuffer}
 
 -- where writing ends before the end, the bytes are broken off
 pub ends_broken : (fault : Fault) (bytes : List ℕ) (old new : Account) → EndsWriting fault bytes old new

@@ -1,17 +1,17 @@
 -- Printed forms, from their pieces.
 use Rattle.std.proofs.Common.{◌≡◌, ℕ, ◌+◌, Bool, true, false, List, [], ◌++◌, length, codes, true≢false, refl, sym, ap}
 use Rattle.std.proofs.Common.{◌∙◌, append_assoc, subst}
-use Rattle.std.specs.Prelude.{Option, Some, None, decimal, IsTrue}
 use Rattle.std.specs.Fmt.{◌++?◌, debug_str}
+use Rattle.std.specs.Prelude.{Option, Some, None, decimal, IsTrue}
 use Rattle.apollo_parser.specs.Diagnostics.{Subject, of_text, of_end, of_limit, Diagnostic, subject_text}
 use Rattle.apollo_parser.specs.Diagnostics.{is_end_subject, diagnostic_end}
-use Rattle.apollo_parser.specs.declared.TokenKind.{TokenKind}
-use Rattle.apollo_parser.specs.declared.TokenKind.TheVariants.{Eof}
 use Rattle.apollo_parser.specs.LexErrors.{lex_subject}
 use Rattle.apollo_parser.specs.Printed.{range_text, subject_shown, token_name, token_text}
-use Rattle.gqlcst_run.specs.Rendering.{IsForm, IsErrorForm}
-use Rattle.gqlcst_run.specs.Buffering.{Buffered, Puts}
+use Rattle.apollo_parser.specs.declared.TokenKind.{TokenKind}
+use Rattle.apollo_parser.specs.declared.TokenKind.TheVariants.{Eof}
 use Rattle.gqlcst_run.proofs.Buffers.{puts_then}
+use Rattle.gqlcst_run.specs.Buffering.{Buffered, Puts}
+use Rattle.gqlcst_run.specs.Rendering.{IsForm, IsErrorForm}
 
 pub end_shown : (subject : Subject) → is_end_subject subject ≡ true → codes "EOF" ≡ subject_shown subject
 end_shown (of_text text) e = absurd (true≢false (sym e))

@@ -1,16 +1,16 @@
 -- Items, printed one after the other.
 use Rattle.std.proofs.Common.{◌≡◌, ℕ, ◌+◌, ◌≤◌, Bool, true, false, List, [], ◌∷◌, ◌++◌, length, length-append, not}
 use Rattle.std.proofs.Common.{cond, refl, sym, ap, ◌∙◌, subst, append_assoc, arith}
-use Rattle.std.proofs.lemmas.List.Sums.{sum_by-append, count_by-le-length}
 use Rattle.std.proofs.lemmas.List.{append-nil}
+use Rattle.std.proofs.lemmas.List.Sums.{sum_by-append, count_by-le-length}
 use Rattle.apollo_parser.specs.Answers.{Answer, is_token}
-use Rattle.apollo_parser.specs.LexerAnswers.{error_answer}
 use Rattle.apollo_parser.specs.Diagnostics.{Diagnostic}
 use Rattle.apollo_parser.specs.LexErrors.{lex_subject, IsLexMessage}
-use Rattle.gqlcst_run.specs.Rendering.{line, AreLines, IsErrorForm, IsAnswerForm, error_count}
-use Rattle.gqlcst_run.specs.Buffering.{Buffered, Puts, PutsSome}
-use Rattle.gqlcst_run.proofs.Lines.{lines_none, lines-more}
+use Rattle.apollo_parser.specs.LexerAnswers.{error_answer}
 use Rattle.gqlcst_run.proofs.Buffers.{puts_nothing, puts_then}
+use Rattle.gqlcst_run.proofs.Lines.{lines_none, lines-more}
+use Rattle.gqlcst_run.specs.Buffering.{Buffered, Puts, PutsSome}
+use Rattle.gqlcst_run.specs.Rendering.{line, AreLines, IsErrorForm, IsAnswerForm, error_count}
 
 -- The first of all answers are printed, with this number of errors among them, and these are left.
 pub record ArePrinted (all left : List Answer) (errors : ℕ) (output : List ℕ) : Type 0 where

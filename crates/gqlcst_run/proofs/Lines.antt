@@ -1,11 +1,11 @@
 -- Lines, one after the other.
 use Rattle.std.proofs.Common.{◌≡◌, ℕ, ◌+◌, ◌<◌, List, [], ◌∷◌, ◌++◌, length, take, get_or, refl, sym, ap, subst, ◌∙◌}
-use Rattle.std.specs.List.{flat_map, AllZip}
-use Rattle.std.proofs.lemmas.List.{append-nil, take_more}
 use Rattle.std.proofs.lemmas.Grind.{flat_map-append}
-use Rattle.gqlcst_run.specs.Rendering.{line, AreLines}
-use Rattle.gqlcst_run.specs.Buffering.{Buffered, PutsSome}
+use Rattle.std.proofs.lemmas.List.{append-nil, take_more}
+use Rattle.std.specs.List.{flat_map, AllZip}
 use Rattle.gqlcst_run.proofs.Buffers.{puts_nothing}
+use Rattle.gqlcst_run.specs.Buffering.{Buffered, PutsSome}
+use Rattle.gqlcst_run.specs.Rendering.{line, AreLines}
 
 pub lines_none : {A : Type 0} (R : A → List ℕ → Type 0) → AreLines R [] []
 lines_none R = record { forms = []; each = tt; joined = refl }

@@ -1,17 +1,17 @@
 -- What each mode puts.
 use Rattle.std.proofs.Common.{◌≡◌, ℕ, List, sym, subst}
-use Rattle.apollo_parser.specs.Cut.{Cut}
-use Rattle.apollo_parser.specs.Reads.{items_of}
 use Rattle.apollo_parser.specs.Answers.{Answer, limited}
+use Rattle.apollo_parser.specs.Cut.{Cut}
 use Rattle.apollo_parser.specs.Diagnostics.{Diagnostic}
+use Rattle.apollo_parser.specs.Reads.{items_of}
+use Rattle.apollo_parser.specs.declared.Limits.{Limits}
 use Rattle.command_lines.specs.declared.gqlcst.Mode.{Mode}
 use Rattle.command_lines.specs.declared.gqlcst.Mode.TheVariants.{Check, Tokens, Tree}
-use Rattle.apollo_parser.specs.declared.Limits.{Limits}
-use Rattle.gqlcst_run.specs.declared.finding.Finding.{Finding}
-use Rattle.gqlcst_run.specs.Parsing.{finding_of, IsFound}
-use Rattle.gqlcst_run.specs.Rendering.{AreLines, IsAnswerForm, IsVerdict, error_count}
-use Rattle.gqlcst_run.specs.Program.{IsOutput}
 use Rattle.gqlcst_run.specs.Buffering.{Buffered, PutsSome, PutsAny}
+use Rattle.gqlcst_run.specs.Parsing.{finding_of, IsFound}
+use Rattle.gqlcst_run.specs.Program.{IsOutput}
+use Rattle.gqlcst_run.specs.Rendering.{AreLines, IsAnswerForm, IsVerdict, error_count}
+use Rattle.gqlcst_run.specs.declared.finding.Finding.{Finding}
 
 pub check_put : (mode : Mode) (limits : Limits) (text : List ℕ) (finding : Finding) (errors shown : List Diagnostic)
     (s t : Buffered) → mode ≡ Check

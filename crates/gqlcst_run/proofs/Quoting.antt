@@ -2,23 +2,23 @@
 use Rattle.std.proofs.Common.{◌≡◌, ◌≢◌, ℕ, zero, suc, ◌+◌, ◌-◌, ◌/◌, ◌%◌, ◌<◌, ◌≤◌, Bool, true, false, cond, List, []}
 use Rattle.std.proofs.Common.{◌∷◌, ◌++◌, length, get_or, take, drop, refl, sym, ap, ◌∙◌, append_assoc, subst}
 use Rattle.std.proofs.Common.{true≢false, arith}
-use borrow.Author.Tests.{eq-eqb, ne_eqb, ltb-true}
-use Rattle.std.specs.Prelude.{codes, Some, None, slice_index}
-use Rattle.std.specs.Bool.{MatchBool}
-use Rattle.std.specs.List.{prefix_len, flat_map, list_all}
-use Rattle.std.specs.Char.{is_ascii}
-use Rattle.std.specs.Str.{IsAscii, IsNotAscii}
-use Rattle.std.specs.Fmt.{digits, digit_glyph, debug_escape, debug_escape_letter, debug_str}
-use Rattle.std.proofs.lemmas.List.{append-nil, take-append-drop, take_rest}
-use Rattle.std.proofs.lemmas.List.Folds.{list_all-append}
-use Rattle.std.proofs.lemmas.Fmt.{hex_one_digit, hex_two_digits}
-use Rattle.std.proofs.lemmas.Grind.{flat_map-append}
 use Rattle.std.proofs.lemmas.Bool.{and_parts}
 use Rattle.std.proofs.lemmas.Bool.Decides.{nat_tests}
-use Rattle.gqlcst_run.specs.Rendering.{IsForm, IsFormAfter}
-use Rattle.gqlcst_run.specs.Quoted.{is_plain, is_control, IsEscaped}
-use Rattle.gqlcst_run.specs.Buffering.{Buffered, Puts, PutsSome, PutsAny}
+use Rattle.std.proofs.lemmas.Fmt.{hex_one_digit, hex_two_digits}
+use Rattle.std.proofs.lemmas.Grind.{flat_map-append}
+use Rattle.std.proofs.lemmas.List.{append-nil, take-append-drop, take_rest}
+use Rattle.std.proofs.lemmas.List.Folds.{list_all-append}
+use Rattle.std.specs.Bool.{MatchBool}
+use Rattle.std.specs.Char.{is_ascii}
+use Rattle.std.specs.Fmt.{digits, digit_glyph, debug_escape, debug_escape_letter, debug_str}
+use Rattle.std.specs.List.{prefix_len, flat_map, list_all}
+use Rattle.std.specs.Prelude.{codes, Some, None, slice_index}
+use Rattle.std.specs.Str.{IsAscii, IsNotAscii}
+use borrow.Author.Tests.{eq-eqb, ne_eqb, ltb-true}
 use Rattle.gqlcst_run.proofs.Buffers.{puts_nothing, puts_then}
+use Rattle.gqlcst_run.specs.Buffering.{Buffered, Puts, PutsSome, PutsAny}
+use Rattle.gqlcst_run.specs.Quoted.{is_plain, is_control, IsEscaped}
+use Rattle.gqlcst_run.specs.Rendering.{IsForm, IsFormAfter}
 
 -- a byte that is written as a letter after a backslash
 escape-letter : (b : ℕ) → debug_escape_letter b 34 ≢ 0 → debug_escape 34 b ≡ 92 ∷ debug_escape_letter b 34 ∷ []

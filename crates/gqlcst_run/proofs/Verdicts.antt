@@ -1,13 +1,13 @@
 -- What mode check puts, with errors and without.
 use Rattle.std.proofs.Common.{◌≡◌, ℕ, ◌<◌, List, [], ◌∷◌, ◌++◌, length, codes, map, refl, ap, arith, ◌∙◌, sym}
-use Rattle.std.specs.Prelude.{decimal}
-use Rattle.std.specs.List.{AllZip}
 use Rattle.std.proofs.lemmas.List.{length-map}
+use Rattle.std.specs.List.{AllZip}
+use Rattle.std.specs.Prelude.{decimal}
 use Rattle.apollo_parser.specs.Errors.{error_of}
 use Rattle.apollo_parser.specs.declared.BorrowedError.{BorrowedError}
-use Rattle.gqlcst_run.specs.Rendering.{line, AreLines, IsErrorForm, IsReport, IsVerdict}
-use Rattle.gqlcst_run.specs.Buffering.{Buffered, Puts, PutsSome}
 use Rattle.gqlcst_run.proofs.Buffers.{puts_then}
+use Rattle.gqlcst_run.specs.Buffering.{Buffered, Puts, PutsSome}
+use Rattle.gqlcst_run.specs.Rendering.{line, AreLines, IsErrorForm, IsReport, IsVerdict}
 
 pub clean_put : (errors : List BorrowedError) (s t : Buffered) → length errors ≡ 0 → Puts s (codes "clean\n") t
     → PutsSome (IsVerdict (map error_of errors)) s t

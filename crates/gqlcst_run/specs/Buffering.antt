@@ -2,8 +2,8 @@
 use Rattle.std.specs.Prelude.{◌≡◌, ℕ, Bool, true, false, List, [], ◌++◌, take, Result, Ok, Err}
 use Rattle.byte_streams.specs.Devices.{Account, moved}
 use Rattle.byte_streams.specs.Writing.{IsTaken, IsBroken, EndsWriting}
-use Rattle.gqlcst_run.specs.declared.output_buffer.OutputBuffer.{OutputBuffer}
 use Rattle.byte_streams.specs.declared.fault.Fault.{Fault}
+use Rattle.gqlcst_run.specs.declared.output_buffer.OutputBuffer.{OutputBuffer}
 
 -- a buffer, and the account of the writer that it goes to
 abbrev pub Buffered : Type 0

@@ -1,13 +1,13 @@
 -- What parsing finds in a text.
 use Rattle.std.specs.Prelude.{◌≡◌, ℕ, zero, suc, List, [], length, All, IsAscii}
-use Rattle.apollo_parser.specs.Cut.{Cut}
-use Rattle.apollo_parser.specs.Reads.{items_of}
 use Rattle.apollo_parser.specs.Answers.{limited}
-use Rattle.apollo_parser.specs.Tree.{Tree}
+use Rattle.apollo_parser.specs.Cut.{Cut}
 use Rattle.apollo_parser.specs.Derivation.{document}
-use Rattle.apollo_parser.specs.Sentence.{Sentence, Within}
 use Rattle.apollo_parser.specs.Diagnostics.{Diagnostic}
 use Rattle.apollo_parser.specs.Parsed.{ErrorsOf}
+use Rattle.apollo_parser.specs.Reads.{items_of}
+use Rattle.apollo_parser.specs.Sentence.{Sentence, Within}
+use Rattle.apollo_parser.specs.Tree.{Tree}
 use Rattle.apollo_parser.specs.declared.Limits.{Limits}
 use Rattle.gqlcst_run.specs.declared.finding.Finding.{Finding}
 use Rattle.gqlcst_run.specs.declared.finding.Finding.TheVariants.{Clean, Errors}

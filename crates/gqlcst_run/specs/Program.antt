@@ -1,24 +1,24 @@
 -- What a run of the program does, by the request in its words, and what it writes in each mode.
-use Rattle.std.specs.Prelude.{◌≡◌, ◌⊎◌, ℕ, List, [], Option, Some, None, Result}
 use Rattle.std.specs.List.{Contains}
+use Rattle.std.specs.Prelude.{◌≡◌, ◌⊎◌, ℕ, List, [], Option, Some, None, Result}
+use Rattle.apollo_parser.specs.Answers.{limited}
+use Rattle.apollo_parser.specs.Cut.{Cut}
+use Rattle.apollo_parser.specs.Diagnostics.{Diagnostic}
+use Rattle.apollo_parser.specs.Reads.{items_of}
+use Rattle.apollo_parser.specs.declared.Limits.{Limits}
 use Rattle.byte_streams.specs.Runs.{Reads, Writes}
 use Rattle.byte_streams.specs.declared.fault.Fault.{Fault}
-use Rattle.apollo_parser.specs.Cut.{Cut}
-use Rattle.apollo_parser.specs.Reads.{items_of}
-use Rattle.apollo_parser.specs.Answers.{limited}
-use Rattle.apollo_parser.specs.Diagnostics.{Diagnostic}
-use Rattle.gqlcst_run.specs.Parsing.{finding_of, IsFound}
-use Rattle.gqlcst_run.specs.Rendering.{AreLines, IsAnswerForm, IsVerdict, error_count}
 use Rattle.command_lines.specs.Gqlcst.{request_of}
 use Rattle.command_lines.specs.Streams.{OnlyExplains, OnlyPrints, OnlySays, Streams, no_memory}
-use Rattle.command_lines.specs.declared.information.Request.{Request}
-use Rattle.command_lines.specs.declared.information.Request.TheVariants.{Print, Process}
-use Rattle.command_lines.specs.declared.information.Information.{Information}
-use Rattle.command_lines.specs.declared.information.Information.TheVariants.{Help, Version}
 use Rattle.command_lines.specs.declared.gqlcst.Mode.{Mode}
 use Rattle.command_lines.specs.declared.gqlcst.Mode.TheVariants.{Check, Tokens, Tree}
-use Rattle.apollo_parser.specs.declared.Limits.{Limits}
+use Rattle.command_lines.specs.declared.information.Information.{Information}
+use Rattle.command_lines.specs.declared.information.Information.TheVariants.{Help, Version}
+use Rattle.command_lines.specs.declared.information.Request.{Request}
+use Rattle.command_lines.specs.declared.information.Request.TheVariants.{Print, Process}
 use Rattle.gqlcst_run.specs.Ending.{Says, status_of}
+use Rattle.gqlcst_run.specs.Parsing.{finding_of, IsFound}
+use Rattle.gqlcst_run.specs.Rendering.{AreLines, IsAnswerForm, IsVerdict, error_count}
 use Rattle.gqlcst_run.specs.declared.command.TheConstants.{HELP, PROGRAM, USAGE, VERSION}
 use Rattle.gqlcst_run.specs.declared.finding.Finding.{Finding}
 

@@ -1,8 +1,8 @@
 -- How a text is written between quotes.
-use Rattle.std.specs.Prelude.{◌≡◌, ℕ, Bool, true, ◌&&◌, ◌||◌, not, List, nat_lt, nat_le, ◌==◌}
-use Rattle.std.specs.List.{flat_map, list_all}
 use Rattle.std.specs.Char.{is_ascii}
 use Rattle.std.specs.Fmt.{debug_escape}
+use Rattle.std.specs.List.{flat_map, list_all}
+use Rattle.std.specs.Prelude.{◌≡◌, ℕ, Bool, true, ◌&&◌, ◌||◌, not, List, nat_lt, nat_le, ◌==◌}
 
 -- the byte is written as it is
 abbrev pub is_plain : ℕ → Bool

@@ -1,12 +1,12 @@
 -- What is written, line for line.
-use Rattle.std.specs.Prelude.{◌≡◌, ℕ, List, [], ◌∷◌, ◌++◌, length, codes, Option, Some, None, IfSome, count_by, not}
-use Rattle.std.specs.List.{flat_map, AllZip}
 use Rattle.std.specs.Fmt.{decimal}
-use Rattle.apollo_parser.specs.Cut.{Item}
+use Rattle.std.specs.List.{flat_map, AllZip}
+use Rattle.std.specs.Prelude.{◌≡◌, ℕ, List, [], ◌∷◌, ◌++◌, length, codes, Option, Some, None, IfSome, count_by, not}
 use Rattle.apollo_parser.specs.Answers.{Answer, gives, limit_at, is_token}
+use Rattle.apollo_parser.specs.Cut.{Item}
 use Rattle.apollo_parser.specs.Diagnostics.{Diagnostic}
-use Rattle.apollo_parser.specs.Printed.{token_text, error_text}
 use Rattle.apollo_parser.specs.LexErrors.{IsLexError}
+use Rattle.apollo_parser.specs.Printed.{token_text, error_text}
 use Rattle.apollo_parser.specs.declared.TokenKind.{TokenKind}
 
 -- a text and a line feed

@@ -2,12 +2,12 @@
 use Rattle.std.proofs.Common.{◌≡◌, ℕ, ◌<◌, Bool, List, [], ◌∷◌, length, arith, Result, Bor}
 use Rattle.std.specs.declared.io.Error.{Error}
 use Rattle.file_access.specs.Listing.{Listing}
+use Rattle.command_lines.specs.Words.{texts}
 use Rattle.command_lines.specs.declared.gqlfmt.Mode.{Mode}
 use Rattle.named_files.specs.Handling.{State, desk}
-use Rattle.command_lines.specs.Words.{texts}
-use Rattle.gqlfmt_run.specs.declared.job.Bounds.{Bounds}
 use Rattle.gqlfmt_run.specs.Folders.{HandlesPaths}
 use Rattle.gqlfmt_run.specs.Program.{Formats}
+use Rattle.gqlfmt_run.specs.declared.job.Bounds.{Bounds}
 
 module _ {S : Type 0} (lists : S → List ℕ → Listing → S → Type 0) (omits : S → List ℕ → Result Bool Error → S → Type 0)
     (reads : S → List ℕ → Result (List ℕ) Error → S → Type 0) (replaces : S → List ℕ → List ℕ → Bool → S → Type 0)

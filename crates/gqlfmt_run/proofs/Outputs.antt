@@ -2,11 +2,11 @@
 use Rattle.std.proofs.Common.{ℕ, List, sym, subst}
 use Rattle.command_lines.specs.declared.gqlfmt.Mode.{Mode}
 use Rattle.command_lines.specs.declared.gqlfmt.Mode.TheVariants.{Write, Check, Diff, Print}
+use Rattle.gqlfmt_run.specs.Formatting.{IsLaidOut}
+use Rattle.gqlfmt_run.specs.Input.{IsOutput, IsShown}
 use Rattle.gqlfmt_run.specs.declared.job.Bounds.{Bounds}
 use Rattle.gqlfmt_run.specs.declared.settlement.Settled.{Settled}
 use Rattle.gqlfmt_run.specs.declared.settlement.Settled.TheVariants.{Done, Found}
-use Rattle.gqlfmt_run.specs.Formatting.{IsLaidOut}
-use Rattle.gqlfmt_run.specs.Input.{IsOutput, IsShown}
 
 pub shown_output : (mode : Mode) (bounds : Bounds) (name source text output : List ℕ) (settled : Settled)
     → IsLaidOut bounds source text → IsShown mode name source text settled output

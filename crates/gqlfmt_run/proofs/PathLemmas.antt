@@ -8,10 +8,10 @@ use Rattle.command_lines.specs.declared.complaints.FileFault.TheVariants.{NotRea
 use Rattle.command_lines.specs.declared.gqlfmt.Mode.{Mode}
 use Rattle.command_lines.specs.declared.gqlfmt.Mode.TheVariants.{Write, Check, Diff, Print}
 use Rattle.named_files.specs.Handling as handling
-use Rattle.gqlfmt_run.specs.declared.job.Bounds.{Bounds}
-use Rattle.gqlfmt_run.specs.declared.settlement.Settled.{Settled}
 use Rattle.gqlfmt_run.specs.Input.{IsOutput}
 use Rattle.gqlfmt_run.specs.Paths.{HandlesFile}
+use Rattle.gqlfmt_run.specs.declared.job.Bounds.{Bounds}
+use Rattle.gqlfmt_run.specs.declared.settlement.Settled.{Settled}
 
 module _ {S : Type 0} (reads : S → List ℕ → Result (List ℕ) Error → S → Type 0)
     (replaces : S → List ℕ → List ℕ → Bool → S → Type 0) (bounds : Bounds) (path : List ℕ) where

@@ -1,10 +1,10 @@
 -- Going over the characters of a name, and over the bytes of a character.
 use Rattle.std.proofs.Common.{◌≡◌, ◌∙◌, ℕ, Bool, true, false, ◌||◌, List, [], ◌∷◌, ◌++◌, length, refl, sym, ap}
 use Rattle.std.proofs.Common.{append_assoc, append-nil, arith}
-use Rattle.std.specs.Prelude.{encode_utf8}
-use Rattle.std.specs.List.{flat_map, list_any}
-use Rattle.std.specs.Str.{IsUtf8, chars}
 use Rattle.std.proofs.lemmas.Str.{chars-nil, chars_past_char}
+use Rattle.std.specs.List.{flat_map, list_any}
+use Rattle.std.specs.Prelude.{encode_utf8}
+use Rattle.std.specs.Str.{IsUtf8, chars}
 use Rattle.gqlfmt_run.specs.Quoting.{is_escaped, quoted_char}
 
 nothing : (rest : List ℕ) → length rest ≡ 0 → rest ≡ []

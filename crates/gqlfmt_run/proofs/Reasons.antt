@@ -1,15 +1,15 @@
 -- Why a text is refused, in words.
 use Rattle.std.proofs.Common.{◌≡◌, ◌≢◌, ℕ, List, [], ◌∷◌, map, take, refl, sym, ap, ◌∙◌, arith, inl, inr}
+use Rattle.apollo_parser.proofs.OneParse.{one-parse}
 use Rattle.apollo_parser.specs.Diagnostics.{Diagnostic}
 use Rattle.apollo_parser.specs.Parsed.{Parsed}
 use Rattle.apollo_parser.specs.Promise.{Promise}
 use Rattle.apollo_parser.specs.declared.Limits.{Limits}
-use Rattle.apollo_parser.proofs.OneParse.{one-parse}
-use Rattle.first_errors.specs.Places.{shown_at}
+use Rattle.marked_lines.specs.Places.{BeginsWith, OfFirst, place}
 use Rattle.first_errors.proofs.Firsts.{first_shown}
+use Rattle.first_errors.specs.Places.{shown_at}
 use Rattle.formatter.specs.Finding.{AreFirstOf}
 use Rattle.formatter.specs.Formatted as format
-use Rattle.marked_lines.specs.Places.{BeginsWith, OfFirst, place}
 use Rattle.gqlfmt_run.specs.Complaints.{IsErrorReport, IsReason}
 use Rattle.gqlfmt_run.specs.Formatting.{HasErrors, IsRefused, IsRefusedFor, most_shown}
 use Rattle.gqlfmt_run.specs.declared.job.Bounds.{Bounds}

@@ -6,14 +6,14 @@ use Rattle.byte_streams.specs.Devices.{Account}
 use Rattle.byte_streams.specs.Writing.{EndsWriting}
 use Rattle.byte_streams.specs.declared.fault.Fault.{Fault}
 use Rattle.byte_streams.specs.declared.fault.Fault.TheVariants.{Read, Utf8, Memory, Write}
-use Rattle.gqlfmt_run.specs.declared.settlement.Settled.{Settled}
-use Rattle.gqlfmt_run.specs.declared.settlement.Settled.TheVariants.{Done, Found, Refused}
 use Rattle.command_lines.specs.Complaints.{Tells}
 use Rattle.command_lines.specs.declared.complaints.FileFault.{FileFault}
 use Rattle.gqlfmt_run.specs.Complaints.{IsSilent, Says, SaysFault, SaysFileFault, SaysOfFile, SaysReason}
 use Rattle.gqlfmt_run.specs.Complaints.{TellsOfFileAndCopy}
 use Rattle.gqlfmt_run.specs.declared.command.TheConstants.{PROGRAM}
 use Rattle.gqlfmt_run.specs.declared.job.Bounds.{Bounds}
+use Rattle.gqlfmt_run.specs.declared.settlement.Settled.{Settled}
+use Rattle.gqlfmt_run.specs.declared.settlement.Settled.TheVariants.{Done, Found, Refused}
 
 module _ (bounds : Bounds) (name : List ℕ) where
   -- what is said of a text while it is handled, and then at the end

@@ -2,11 +2,11 @@
 use Rattle.std.proofs.Common.{◌≡◌, ℕ, ◌*◌, ◌<◌, ◌≤◌, List, length, arith}
 use Rattle.std.proofs.Math.Nat.{mul-le-mul_left, mul-le-mul_right}
 use Rattle.formatter.specs.Lengths.{longest_layout}
+use Rattle.formatter.specs.LineEnds.{end_bytes}
 use Rattle.formatter.specs.declared.line_ends.LineEnd.{LineEnd}
 use Rattle.formatter.specs.declared.line_ends.LineEnd.TheVariants.{Lf, Crlf}
-use Rattle.formatter.specs.LineEnds.{end_bytes}
-use Rattle.gqlfmt_run.specs.declared.job.Bounds.{Bounds}
 use Rattle.gqlfmt_run.specs.Formatting.{HasLayout, IsTooLong, line_end_of, most_of, nesting_of}
+use Rattle.gqlfmt_run.specs.declared.job.Bounds.{Bounds}
 
 some-end : (end : LineEnd) → 1 ≤ length (end_bytes end)
 some-end Lf = omega arith

@@ -3,12 +3,10 @@ use Rattle.std.specs.Prelude.{◌≡◌, ◌⊎◌, ℕ, List, Result, Ok, Err}
 use Rattle.std.specs.declared.io.Error.{Error}
 use Rattle.apollo_parser.specs.Diagnostics.{Diagnostic}
 use Rattle.apollo_parser.specs.declared.Limits.{Limits}
+use Rattle.marked_lines.specs.Places.{BeginsWith, place}
+use Rattle.first_errors.specs.Places.{IsFirstErrorOf, shown_at}
 use Rattle.byte_streams.specs.Devices.{Account}
 use Rattle.byte_streams.specs.declared.fault.Fault.{Fault}
-use Rattle.first_errors.specs.Places.{IsFirstErrorOf, shown_at}
-use Rattle.gqlfmt_run.specs.declared.settlement.Settled.{Settled}
-use Rattle.gqlfmt_run.specs.declared.settlement.Settled.TheVariants.{Done, Found, Refused}
-use Rattle.marked_lines.specs.Places.{BeginsWith, place}
 use Rattle.command_lines.specs.Complaints.{Tells, TellsOfFile, line_about}
 use Rattle.command_lines.specs.Streams.{IsSaid}
 use Rattle.command_lines.specs.declared.complaints.FileFault.{FileFault}
@@ -17,6 +15,8 @@ use Rattle.gqlfmt_run.specs.Formatting.{HasErrors, HasOutgrown, IsTooLong}
 use Rattle.gqlfmt_run.specs.declared.command.TheConstants.{PROGRAM}
 use Rattle.gqlfmt_run.specs.declared.job.Bounds.{Bounds}
 use Rattle.gqlfmt_run.specs.declared.report.TheConstants.{COPY_ADVICE, OUTGROWN, TOO_LONG}
+use Rattle.gqlfmt_run.specs.declared.settlement.Settled.{Settled}
+use Rattle.gqlfmt_run.specs.declared.settlement.Settled.TheVariants.{Done, Found, Refused}
 
 -- ---- why a text is refused
 

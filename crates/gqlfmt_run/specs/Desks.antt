@@ -1,8 +1,8 @@
 -- What a run has before it, in the words of the definitions.
 use Rattle.byte_streams.specs.Devices.{Account}
-use Rattle.gqlfmt_run.specs.declared.desk.Desk.{Desk}
 use Rattle.named_files.specs.Handling as handling
 use Rattle.named_files.specs.Handling.{State}
+use Rattle.gqlfmt_run.specs.declared.desk.Desk.{Desk}
 
 -- the files, and what went through standard output and standard error, as the traits of these tell it
 abbrev pub desk_of : {F W E : Type 0} → (W → Account) → (E → Account) → Desk F W E → handling.Desk F

@@ -2,13 +2,13 @@
 use Rattle.std.specs.Prelude.{◌≡◌, ℕ, Bool, true, false, List, Result, Ok, Err}
 use Rattle.std.specs.declared.io.Error.{Error}
 use Rattle.file_access.specs.Listing.{Listing}
-use Rattle.command_lines.specs.declared.gqlfmt.Mode.{Mode}
-use Rattle.named_files.specs.Handling.{Desk, HandlesNamed, InTurn}
 use Rattle.command_lines.specs.Complaints.{TellsOfFile}
 use Rattle.command_lines.specs.declared.complaints.FileFault.TheVariants.{NotRead}
+use Rattle.command_lines.specs.declared.gqlfmt.Mode.{Mode}
+use Rattle.named_files.specs.Handling.{Desk, HandlesNamed, InTurn}
+use Rattle.gqlfmt_run.specs.Paths.{FormatsFound}
 use Rattle.gqlfmt_run.specs.declared.command.TheConstants.{PROGRAM}
 use Rattle.gqlfmt_run.specs.declared.job.Bounds.{Bounds}
-use Rattle.gqlfmt_run.specs.Paths.{FormatsFound}
 
 -- the files, as a trait tells what three of its calls do
 module _ {S : Type 0} (lists : S → List ℕ → Listing → S → Type 0)

@@ -4,21 +4,21 @@ use Rattle.std.specs.Prelude.{codes, string_bytes, Option, Some, None, Result, O
 use mathlib.Core.Logic.{inl, inr}
 use Rattle.document_grammar.specs.Derivation.{nest}
 use Rattle.apollo_parser.specs.Errors.{error_of}
+use Rattle.apollo_parser.specs.declared.Limits.{Limits}
 use Rattle.formatter.specs.Finding.{AreFirstOf}
 use Rattle.formatter.specs.Formatted as format
 use Rattle.formatter.specs.Lengths.{longest_layout}
+use Rattle.formatter.specs.LineEnds.{HasLineEnd, end_bytes, first_line_end}
 use Rattle.formatter.specs.Within.{IsFormattedWithin, IsOutgrown, HasCommentsAlone, AreCommentsWithin}
 use Rattle.formatter.specs.Within.{AreCommentsOutgrown}
-use Rattle.apollo_parser.specs.declared.Limits.{Limits}
 use Rattle.formatter.specs.declared.line_ends.LineEnd.{LineEnd}
 use Rattle.formatter.specs.declared.line_ends.LineEnd.TheVariants as end
-use Rattle.formatter.specs.LineEnds.{HasLineEnd, end_bytes, first_line_end}
 use Rattle.command_lines.specs.declared.gqlfmt.LineEndings.{LineEndings}
 use Rattle.command_lines.specs.declared.gqlfmt.LineEndings.TheVariants.{Lf, Crlf, Keep}
+use Rattle.gqlfmt_run.specs.Quoting.{head_name, quoted}
 use Rattle.gqlfmt_run.specs.declared.job.Bounds.{Bounds}
 use Rattle.gqlfmt_run.specs.declared.revision.Refusal.{Refusal}
 use Rattle.gqlfmt_run.specs.declared.revision.Refusal.TheVariants.{Errors, Outgrown, TooLong}
-use Rattle.gqlfmt_run.specs.Quoting.{head_name, quoted}
 
 -- How many bytes a formatted text may have: as many as are said, or else 64 MiB, or 16 for each byte of the source if
 -- these are more.

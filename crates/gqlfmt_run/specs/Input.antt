@@ -6,10 +6,10 @@ use Rattle.byte_streams.specs.declared.fault.Fault.{Fault}
 use Rattle.byte_streams.specs.declared.fault.Fault.TheVariants as fault
 use Rattle.command_lines.specs.declared.gqlfmt.Mode.{Mode}
 use Rattle.command_lines.specs.declared.gqlfmt.Mode.TheVariants.{Write, Check, Diff, Print}
+use Rattle.gqlfmt_run.specs.Formatting.{HasAnotherLayout, IsDiff, IsLaidOut, IsListing, IsRefused}
+use Rattle.gqlfmt_run.specs.declared.job.Bounds.{Bounds}
 use Rattle.gqlfmt_run.specs.declared.settlement.Settled.{Settled}
 use Rattle.gqlfmt_run.specs.declared.settlement.Settled.TheVariants.{Done, Found, Refused}
-use Rattle.gqlfmt_run.specs.declared.job.Bounds.{Bounds}
-use Rattle.gqlfmt_run.specs.Formatting.{HasAnotherLayout, IsDiff, IsLaidOut, IsListing, IsRefused}
 
 -- What is written of a text of this name, by the outcome for it. In the modes write and print that is the formatted
 -- text. In the modes check and diff it is nothing where the text has the layout. Where it has another one, it is the

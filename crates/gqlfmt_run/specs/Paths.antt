@@ -3,22 +3,22 @@ use Rattle.std.specs.Prelude.{◌≡◌, ◌⊎◌, ℕ, Bool, true, false, List
 use Rattle.std.specs.Str.{IsUtf8}
 use Rattle.std.specs.declared.io.Error.{Error}
 use Rattle.byte_streams.specs.Devices.{Account}
-use Rattle.byte_streams.specs.declared.fault.Fault.TheVariants.{Read, Utf8, Memory}
 use Rattle.byte_streams.specs.declared.fault.Fault.TheVariants as fault
-use Rattle.gqlfmt_run.specs.declared.job.Bounds.{Bounds}
+use Rattle.byte_streams.specs.declared.fault.Fault.TheVariants.{Read, Utf8, Memory}
+use Rattle.command_lines.specs.declared.complaints.FileFault.{FileFault}
+use Rattle.command_lines.specs.declared.complaints.FileFault.TheVariants.{NotRead, NotReplaced, Device}
 use Rattle.command_lines.specs.declared.gqlfmt.Mode.{Mode}
 use Rattle.command_lines.specs.declared.gqlfmt.Mode.TheVariants.{Write}
-use Rattle.gqlfmt_run.specs.declared.settlement.Settled.{Settled}
-use Rattle.gqlfmt_run.specs.declared.settlement.Settled.TheVariants.{Done, Found, Refused}
 use Rattle.named_files.specs.Finding.{FoundPath, file, unreadable, path_of}
 use Rattle.named_files.specs.Handling as handling
 use Rattle.named_files.specs.Handling.{Desk}
-use Rattle.command_lines.specs.declared.complaints.FileFault.{FileFault}
-use Rattle.command_lines.specs.declared.complaints.FileFault.TheVariants.{NotRead, NotReplaced, Device}
 use Rattle.gqlfmt_run.specs.Complaints.{SaysOfFile}
 use Rattle.gqlfmt_run.specs.Formatting.{IsLaidOut, IsRefused, IsChanged}
 use Rattle.gqlfmt_run.specs.Input.{IsOutput}
 use Rattle.gqlfmt_run.specs.Status.{status_of}
+use Rattle.gqlfmt_run.specs.declared.job.Bounds.{Bounds}
+use Rattle.gqlfmt_run.specs.declared.settlement.Settled.{Settled}
+use Rattle.gqlfmt_run.specs.declared.settlement.Settled.TheVariants.{Done, Found, Refused}
 
 -- the files, as a trait tells what its two calls do
 module _ {S : Type 0} (reads : S → List ℕ → Result (List ℕ) Error → S → Type 0)

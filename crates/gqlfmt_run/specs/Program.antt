@@ -4,6 +4,7 @@ use Rattle.std.specs.Prelude.{MatchBool, bytes_eq}
 use Rattle.std.specs.declared.io.Error.{Error}
 use Rattle.byte_streams.specs.Runs.{Reads, Writes}
 use Rattle.byte_streams.specs.declared.fault.Fault.{Fault}
+use Rattle.file_access.specs.Listing.{Listing}
 use Rattle.command_lines.specs.Complaints.{TellsOfFile}
 use Rattle.command_lines.specs.Gqlfmt.{line_endings_of, mode_of, most_output_of, name_of, request_of}
 use Rattle.command_lines.specs.Misuse.{IsAmong}
@@ -11,20 +12,19 @@ use Rattle.command_lines.specs.Options.{Given, limits_of}
 use Rattle.command_lines.specs.Streams.{Streams, OnlyPrints, OnlySays, OnlyExplains, no_memory}
 use Rattle.command_lines.specs.declared.complaints.FileFault.TheVariants.{NotRead}
 use Rattle.command_lines.specs.declared.gqlfmt.Mode.{Mode}
-use Rattle.gqlfmt_run.specs.declared.settlement.Settled.{Settled}
 use Rattle.command_lines.specs.declared.gqlfmt.TheConstants.{INPUT}
 use Rattle.command_lines.specs.declared.information.Information.{Information}
 use Rattle.command_lines.specs.declared.information.Information.TheVariants.{Help, Version}
 use Rattle.command_lines.specs.declared.information.Request.{Request}
 use Rattle.command_lines.specs.declared.information.Request.TheVariants.{Print, Process}
-use Rattle.gqlfmt_run.specs.declared.job.Bounds.{Bounds}
-use Rattle.gqlfmt_run.specs.declared.command.TheConstants.{PROGRAM, USAGE, HELP, VERSION}
-use Rattle.gqlfmt_run.specs.Status.{status_of}
-use Rattle.gqlfmt_run.specs.Complaints.{Says, SaysFault}
-use Rattle.gqlfmt_run.specs.Input.{IsOutput, PassesOn}
-use Rattle.file_access.specs.Listing.{Listing}
 use Rattle.named_files.specs.Handling.{State, desk, streams}
+use Rattle.gqlfmt_run.specs.Complaints.{Says, SaysFault}
 use Rattle.gqlfmt_run.specs.Folders.{HandlesPaths}
+use Rattle.gqlfmt_run.specs.Input.{IsOutput, PassesOn}
+use Rattle.gqlfmt_run.specs.Status.{status_of}
+use Rattle.gqlfmt_run.specs.declared.command.TheConstants.{PROGRAM, USAGE, HELP, VERSION}
+use Rattle.gqlfmt_run.specs.declared.job.Bounds.{Bounds}
+use Rattle.gqlfmt_run.specs.declared.settlement.Settled.{Settled}
 
 abbrev pub information_text : Information → List ℕ
 information_text Help = HELP.now

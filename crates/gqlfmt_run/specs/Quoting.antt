@@ -1,8 +1,8 @@
 -- Names in lines that other programs read, as git writes them: a name that would not come back from its line is in
 -- quotes, with C's escapes.
+use Rattle.std.specs.List.{flat_map, list_any, starts_with}
 use Rattle.std.specs.Prelude.{ℕ, ◌+◌, ◌/◌, ◌%◌, Bool, ◌==◌, ◌||◌, List, [], ◌∷◌, ◌++◌, codes, encode_utf8}
 use Rattle.std.specs.Prelude.{if◌then◌else◌, Option, Some, None, is_some}
-use Rattle.std.specs.List.{flat_map, list_any, starts_with}
 use Rattle.std.specs.Prelude.{eqb}
 use Rattle.std.specs.Str.{chars}
 use Rattle.marked_lines.specs.Escaping.{is_unseen}

@@ -2,8 +2,8 @@
 use Rattle.std.proofs.Common.{ℕ, List, Result, refl}
 use Rattle.std.specs.declared.io.Error.{Error}
 use Rattle.file_access.specs.Listing.{Listing}
-use Rattle.named_files.specs.Finding.{Lists, none, more}
 use Rattle.named_files.proofs.SearchLemmas.{lists_on}
+use Rattle.named_files.specs.Finding.{Lists, none, more}
 use Rattle.gqlls_program.specs.FolderDialogues.{Reads, FolderDialogue, dropped, kept, listed, located, nothing}
 use Rattle.gqlls_program.specs.FolderDialogues.{passed_over}
 use Rattle.gqlls_program.specs.declared.bounds.Bounded.{Bounded}

@@ -1,18 +1,18 @@
 -- A conversation in which files are read.
 use Rattle.std.specs.Prelude.{◌≡◌, ℕ, List, Option, Some, None, Result, Ok}
 use Rattle.std.specs.declared.io.Error.{Error}
-use Rattle.byte_streams.specs.Devices.{Account}
-use Rattle.byte_streams.specs.declared.fault.Fault.{Fault}
 use Rattle.json.specs.Json.{Json}
 use Rattle.apollo_parser.specs.declared.Limits.{Limits}
+use Rattle.byte_streams.specs.Devices.{Account}
+use Rattle.byte_streams.specs.declared.fault.Fault.{Fault}
+use Rattle.file_access.specs.Listing.{Listing}
 use Rattle.rpc_messages.specs.Steps.{Takes}
 use Rattle.rpc_messages.specs.declared.reply.Reply.{Reply}
 use Rattle.rpc_serving.specs.Serving.{EndsServing, IsServed}
-use Rattle.file_access.specs.Listing.{Listing}
 use Rattle.file_uris.specs.Uris.{uri_of}
 use Rattle.gqlls_server.specs.Conversation.{HandlesRequest, HandlesNotification}
-use Rattle.gqlls_server.specs.Dialogue.{Dialogue, SetsFile, initial_dialogue}
 use Rattle.gqlls_server.specs.Diagnostics.{KeepsFile}
+use Rattle.gqlls_server.specs.Dialogue.{Dialogue, SetsFile, initial_dialogue}
 
 -- a dialogue, and the files as they are by then
 pub record FolderDialogue (F : Type 0) : Type 0 where

@@ -1,6 +1,6 @@
 -- What a run of the program does, by the request in its words.
-use Rattle.std.specs.Prelude.{◌≡◌, ◌⊎◌, ℕ, List, codes, Option, Some, None, Result}
 use Rattle.std.specs.List.{Contains}
+use Rattle.std.specs.Prelude.{◌≡◌, ◌⊎◌, ℕ, List, codes, Option, Some, None, Result}
 use Rattle.std.specs.declared.io.Error.{Error}
 use Rattle.apollo_parser.specs.declared.Limits.{Limits}
 use Rattle.byte_streams.specs.declared.fault.Fault.{Fault}
@@ -8,10 +8,10 @@ use Rattle.byte_streams.specs.declared.fault.Fault.TheVariants.{Read, Utf8, Memo
 use Rattle.file_access.specs.Listing.{Listing}
 use Rattle.command_lines.specs.Gqlls.{request_of}
 use Rattle.command_lines.specs.Streams.{IsSaid, OnlyExplains, OnlyPrints, OnlySays, Streams, no_memory}
-use Rattle.command_lines.specs.declared.information.Request.{Request}
-use Rattle.command_lines.specs.declared.information.Request.TheVariants.{Print, Process}
 use Rattle.command_lines.specs.declared.information.Information.{Information}
 use Rattle.command_lines.specs.declared.information.Information.TheVariants.{Help, Version}
+use Rattle.command_lines.specs.declared.information.Request.{Request}
+use Rattle.command_lines.specs.declared.information.Request.TheVariants.{Print, Process}
 use Rattle.gqlls_program.specs.FolderDialogues.{Fails, Serves}
 use Rattle.gqlls_program.specs.declared.command.TheConstants.{HELP, PROGRAM, USAGE, VERSION}
 

@@ -1,7 +1,7 @@
 -- The answer to the first request.
 use Rattle.std.proofs.Common.{◌≡◌, refl, Bool, true, false, ℕ, List, [], ◌∷◌, ◌++◌, ap, append_assoc, ◌∙◌, drop}
-use Rattle.std.specs.List.{flat_map}
 use Rattle.std.proofs.lemmas.Grind.{flat_map-append}
+use Rattle.std.specs.List.{flat_map}
 use Rattle.std.specs.Prelude.{codes}
 use Rattle.json.specs.Json.{Json}
 use Rattle.json.specs.Token.{Token, begin_object, key, string}

@@ -2,11 +2,11 @@
 use Rattle.std.proofs.Common.{◌≡◌, List, [], ◌∷◌, ◌++◌, map, Option, Some, None, refl, sym, ap, ◌∙◌, Vec, append_assoc}
 use Rattle.std.proofs.Common.{append-nil}
 use Rattle.std.specs.Prelude.{option_map}
+use Rattle.json.proofs.Trees.{view-Array}
 use Rattle.json.specs.Find.{as_array}
 use Rattle.json.specs.Json.{Json}
 use Rattle.json.specs.Value.{items_of, value_view}
 use Rattle.json.specs.declared.value.Value.{Value, Array}
-use Rattle.json.proofs.Trees.{view-Array}
 use Rattle.gqlls_server.specs.Parameters.{both, each, list_of}
 
 list_back : (js : List Json) → js ≡ list_of (items_of js)

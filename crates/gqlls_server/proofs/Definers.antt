@@ -1,10 +1,10 @@
 -- The document whose definition of a name counts: the first of those that are left.
 use Rattle.std.proofs.Common.{◌≡◌, ℕ, ◌<◌, ◌≤◌, suc, Bool, true, false, List, ◌∷◌, length, map, drop, get_or, Option}
 use Rattle.std.proofs.Common.{Some, None, ap, refl, sym, ◌∙◌}
-use Rattle.std.specs.Prelude.{if◌then◌else◌}
-use Rattle.std.specs.List.{find}
 use Rattle.std.proofs.Math.Seq.{drop-cons}
 use Rattle.std.proofs.lemmas.List.{drop_all}
+use Rattle.std.specs.List.{find}
+use Rattle.std.specs.Prelude.{if◌then◌else◌}
 
 -- the document's own definition counts where there is one
 pub own_counts : (own : Bool) (uri : List ℕ) (other : Option (List ℕ)) → own ≡ true

@@ -1,12 +1,12 @@
 -- Documents of which no two have the same name.
 use Rattle.std.proofs.Common.{◌≡◌, ◌≢◌, ◌++◌, ◌∙◌, suc, zero, true, false, List, [], ◌∷◌, Less, String, ap, arith}
 use Rattle.std.proofs.Common.{is_eq, map, string_bytes, string_cmp, sym}
-use Rattle.std.specs.List.{All, AllByRecursion, AllPairs}
-use Rattle.std.specs.List.Sorted.{IsStrictlySortedBy}
 use Rattle.std.proofs.lemmas.List.Elements.{All-append, All-cons, All-map}
 use Rattle.std.proofs.lemmas.List.Kept.{AllPairs-cons}
 use Rattle.std.proofs.lemmas.Map.Text.{is_eq-slice_cmp}
 use Rattle.std.proofs.lemmas.Slice.Eq.{bytes_eq-Decides}
+use Rattle.std.specs.List.{All, AllByRecursion, AllPairs}
+use Rattle.std.specs.List.Sorted.{IsStrictlySortedBy}
 
 -- ---- pairs of a list's elements
 

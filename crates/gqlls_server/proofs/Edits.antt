@@ -1,18 +1,18 @@
 -- The edits of a rename, as they are written.
 use Rattle.std.proofs.Common.{◌≡◌, ◌≢◌, ℕ, List, [], ◌∷◌, ◌++◌, ap, append_assoc, map, refl, sym, ◌∙◌}
-use Rattle.std.specs.Prelude.{codes}
-use Rattle.std.specs.List.{flat_map}
 use Rattle.std.proofs.lemmas.List.Concat.{flat_map-cons}
 use Rattle.std.proofs.lemmas.List.Folds.{flat_map-map}
-use Rattle.apollo_tree.specs.Order.{Place, range_at}
-use Rattle.editor_answers.specs.Parts.{bounds}
-use Rattle.editor_answers.specs.Results.{change_tokens}
-use Rattle.editor_answers.specs.declared.span.Span.{Span}
+use Rattle.std.specs.List.{flat_map}
+use Rattle.std.specs.Prelude.{codes}
 use Rattle.json.specs.Json.{Members}
 use Rattle.json.specs.Token.{Token, begin_array, begin_object, end_array, end_object, key}
 use Rattle.json.specs.Tree.{items_tokens, json_tokens, members_tokens}
+use Rattle.apollo_tree.specs.Order.{Place, range_at}
 use Rattle.line_index.specs.declared.PositionEncoding.{PositionEncoding}
 use Rattle.editor_answers.proofs.Added.{added_after}
+use Rattle.editor_answers.specs.Parts.{bounds}
+use Rattle.editor_answers.specs.Results.{change_tokens}
+use Rattle.editor_answers.specs.declared.span.Span.{Span}
 use Rattle.gqlls_server.specs.Edits.{edit_tokens, edits_tokens, known_tokens, range_tokens}
 use Rattle.gqlls_server.specs.Renaming.{KnownFile, edit_of, edits_of, items_of, with_edits, workspace_edit}
 use Rattle.gqlls_server.specs.State.{known_of}

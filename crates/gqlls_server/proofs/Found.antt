@@ -2,11 +2,6 @@
 use Rattle.std.proofs.Common.{◌≡◌, ◌≢◌, ◌++◌, ◌∙◌, ℕ, suc, zero, Bool, true, false, List, ◌∷◌, Option, Some, None}
 use Rattle.std.proofs.Common.{BTreeMap, BTreeSet, String, ap, arith, inl, inr, map, refl, string_bytes, string_cmp}
 use Rattle.std.proofs.Common.{subst, sym}
-use Rattle.std.specs.Prelude.{◌↔◌, ◌&&◌, bytes_eq, is_some, not, option_map, unwrap_or}
-use Rattle.std.specs.BTreeMap.{IsOrdered, get_by_text}
-use Rattle.std.specs.BTreeSet.{contains_text}
-use Rattle.std.specs.List.{All, AllPairs, Contains}
-use Rattle.std.specs.String.{string_cmp_total}
 use Rattle.std.proofs.lemmas.Bool.{and_parts, cases_Bool}
 use Rattle.std.proofs.lemmas.List.{map-append}
 use Rattle.std.proofs.lemmas.List.Elements.{All-append, All-filter, All-map, All-weaker, filter_passes}
@@ -14,15 +9,20 @@ use Rattle.std.proofs.lemmas.List.Elements.{Contains-append_cases, Contains-appe
 use Rattle.std.proofs.lemmas.List.Kept.{AllPairs-cons, AllPairs-filter}
 use Rattle.std.proofs.lemmas.Map.Views.{All-found}
 use Rattle.std.proofs.lemmas.Slice.Eq.{bytes_eq-Decides}
+use Rattle.std.specs.BTreeMap.{IsOrdered, get_by_text}
+use Rattle.std.specs.BTreeSet.{contains_text}
+use Rattle.std.specs.List.{All, AllPairs, Contains}
+use Rattle.std.specs.Prelude.{◌↔◌, ◌&&◌, bytes_eq, is_some, not, option_map, unwrap_or}
+use Rattle.std.specs.String.{string_cmp_total}
+use Rattle.gqlls_server.proofs.Distinct.{names_differ, pairs_append, pairs_map}
+use Rattle.gqlls_server.proofs.Maps.{all_passed, fails, later, map_twice, some_from}
+use Rattle.gqlls_server.proofs.Own.{is_own_by, not_own, some_of}
 use Rattle.gqlls_server.specs.Dialogue.{IsOwn, Updates}
 use Rattle.gqlls_server.specs.Files.{OpenFile}
 use Rattle.gqlls_server.specs.Renaming.{AreKnown, AreParsed, IsKnown, KnownFile, named}
 use Rattle.gqlls_server.specs.State.{entries_that, entry_of, file_of, files, is_other, is_own, is_stored, names_in}
 use Rattle.gqlls_server.specs.State.{names_of}
 use Rattle.gqlls_server.specs.declared.documents.Document.{Document}
-use Rattle.gqlls_server.proofs.Distinct.{names_differ, pairs_append, pairs_map}
-use Rattle.gqlls_server.proofs.Maps.{all_passed, fails, later, map_twice, some_from}
-use Rattle.gqlls_server.proofs.Own.{is_own_by, not_own, some_of}
 
 -- the first, or a later one
 one_or_more : {B : Type 0} (x : B) (xs : List B) (b : B) {P : Type 0} → (x ≡ b → P) → (Contains xs b → P)

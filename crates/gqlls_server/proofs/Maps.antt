@@ -2,23 +2,23 @@
 use Rattle.std.proofs.Common.{◌≡◌, ℕ, suc, zero, Bool, true, false, List, [], ◌∷◌, map, Option, Some, None, option_map}
 use Rattle.std.proofs.Common.{nat_cmp, refl, sym, ap, ◌∙◌, ◌++◌, append_assoc, String, BTreeMap, BTreeSet, inl, inr}
 use Rattle.std.proofs.Common.{string_bytes, string_cmp, subst, arith}
-use Rattle.std.specs.Prelude.{◌↔◌, ◌⊎◌, cond, filter, is_some, not, unwrap_or}
-use Rattle.std.specs.List.{All, Contains}
-use Rattle.std.specs.Map.{lookup, values_of}
-use Rattle.std.specs.String.{string_cmp_total}
-use Rattle.std.specs.Cmp.Lexicographic.{slice_cmp}
-use Rattle.std.specs.Str.{bytes_eq}
-use Rattle.std.specs.BTreeMap.{IsOrdered, UpdatesBy, get_by_text, is_at, values}
-use Rattle.std.specs.BTreeSet.{contains_text}
-use Rattle.std.specs.Bool.{Decides}
 use Rattle.std.proofs.lemmas.List.Elements.{Contains-append_cases, Contains-append_left, Contains-append_right}
 use Rattle.std.proofs.lemmas.Map.{update_other}
 use Rattle.std.proofs.lemmas.Map.Text.{btree_map_updates_text, is_eq-slice_cmp}
 use Rattle.std.proofs.lemmas.Map.Views.{All-found}
 use Rattle.std.proofs.lemmas.Slice.Eq.{bytes_eq-Decides}
-use Rattle.gqlls_server.specs.declared.documents.Document.{Document}
+use Rattle.std.specs.BTreeMap.{IsOrdered, UpdatesBy, get_by_text, is_at, values}
+use Rattle.std.specs.BTreeSet.{contains_text}
+use Rattle.std.specs.Bool.{Decides}
+use Rattle.std.specs.Cmp.Lexicographic.{slice_cmp}
+use Rattle.std.specs.List.{All, Contains}
+use Rattle.std.specs.Map.{lookup, values_of}
+use Rattle.std.specs.Prelude.{◌↔◌, ◌⊎◌, cond, filter, is_some, not, unwrap_or}
+use Rattle.std.specs.Str.{bytes_eq}
+use Rattle.std.specs.String.{string_cmp_total}
 use Rattle.gqlls_server.specs.Dialogue.{Updates}
 use Rattle.gqlls_server.specs.State.{entries_beside, entries_that}
+use Rattle.gqlls_server.specs.declared.documents.Document.{Document}
 
 -- a test that decides a false fact is false
 pub refuted : {P : Type 0} (r : Bool) → Decides r P → ¬ P → r ≡ false

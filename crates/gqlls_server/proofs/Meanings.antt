@@ -1,11 +1,11 @@
 -- Names that have no meaning by their texts.
 use Rattle.std.proofs.Common.{◌≡◌, ℕ, Bool, true, false, List, [], ◌∷◌, Option, Some, None, ap, refl, subst, sym}
-use Rattle.std.specs.Prelude.{MatchOption, cond, if◌then◌else◌, is_some, unwrap_or, ⊤}
 use Rattle.std.specs.List.{find}
+use Rattle.std.specs.Prelude.{MatchOption, cond, if◌then◌else◌, is_some, unwrap_or, ⊤}
+use Rattle.json.specs.Json.{Json}
 use Rattle.apollo_tree.specs.Order.{Place}
 use Rattle.editor_answers.specs.Names.{identifier_at, meaning_at}
 use Rattle.editor_answers.specs.declared.names.Meaning.{Meaning}
-use Rattle.json.specs.Json.{Json}
 use Rattle.gqlls_server.specs.Renaming.{IsFailed, IsRenamed, IsRenamedAt, KnownFile, root_of}
 
 -- what a search finds passes its test

@@ -3,9 +3,9 @@ use Rattle.std.proofs.Common.{ℕ, Bool, List, Option, None, ◌∙◌, subst}
 use Rattle.json.specs.Json.{Json}
 use Rattle.rpc_messages.specs.declared.reply.Reply.{Reply}
 use Rattle.gqlls_server.specs.Conversation.{Publishes}
+use Rattle.gqlls_server.specs.Diagnostics.{IsDiagnosticsNotification, Notifies}
 use Rattle.gqlls_server.specs.Dialogue.{Dialogue, Sets, Updates}
 use Rattle.gqlls_server.specs.Files.{OpenFile}
-use Rattle.gqlls_server.specs.Diagnostics.{IsDiagnosticsNotification, Notifies}
 
 -- a change after another at the same name
 pub again : {A : Type 0} (uri : List ℕ) (first second : Option A) (old middle new : List ℕ → Option A)

@@ -1,15 +1,15 @@
 -- The files of open documents.
 use Rattle.std.proofs.Common.{◌≡◌, ◌≢◌, ◌∙◌, ℕ, Bool, true, false, List, [], ◌∷◌, Option, Some, None, nat_cmp, BTreeMap}
 use Rattle.std.proofs.Common.{BTreeSet, String, refl, string_cmp, sym, ap, subst, map, inl, inr}
-use Rattle.std.specs.Prelude.{◌||◌, ◌⊎◌, bytes_eq, cond, is_some, option_map, string_bytes, unwrap_or}
-use Rattle.std.specs.BTreeMap.{get_by_text, is_at, keys}
-use Rattle.std.specs.BTreeSet.{UpdatesBy, contains_text}
-use Rattle.std.specs.Cmp.Lexicographic.{slice_cmp}
-use Rattle.std.specs.List.{list_any}
 use Rattle.std.proofs.lemmas.Bool.{cases_Bool}
 use Rattle.std.proofs.lemmas.Map.Made.{is_some-lookup}
 use Rattle.std.proofs.lemmas.Map.Text.{btree_set_updates_text, is_eq-slice_cmp}
 use Rattle.std.proofs.lemmas.Slice.Eq.{bytes_eq-Decides}
+use Rattle.std.specs.BTreeMap.{get_by_text, is_at, keys}
+use Rattle.std.specs.BTreeSet.{UpdatesBy, contains_text}
+use Rattle.std.specs.Cmp.Lexicographic.{slice_cmp}
+use Rattle.std.specs.List.{list_any}
+use Rattle.std.specs.Prelude.{◌||◌, ◌⊎◌, bytes_eq, cond, is_some, option_map, string_bytes, unwrap_or}
 use Rattle.editor_validation.specs.Fragments.{Fragments}
 use Rattle.file_uris.specs.Uris.{normalized}
 use Rattle.gqlls_server.specs.Dialogue.{AreOthers, IsOwn, Updates}

@@ -1,20 +1,20 @@
 -- What is published of a document is a function of its text, its limits and the fragments of others.
 use Rattle.std.proofs.Common.{◌≡◌, ℕ, ℤ, Bool, List, Option, None, subst}
-use Rattle.std.specs.Prelude.{◌↔◌, MatchOption}
 use Rattle.std.specs.List.{Contains}
-use Rattle.apollo_parser.specs.Parsed.{Parsed}
+use Rattle.std.specs.Prelude.{◌↔◌, MatchOption}
 use Rattle.apollo_parser.proofs.OneParse.{one-parse}
+use Rattle.apollo_parser.specs.Parsed.{Parsed}
+use Rattle.formatter.specs.Comments.{HasNoDefinitions}
 use Rattle.editor_diagnostics.specs.Publication.{IsPublication}
 use Rattle.editor_diagnostics.specs.Remarks.{Remarked}
-use Rattle.editor_validation.specs.Fragments.{Fragments}
 use Rattle.editor_validation.proofs.SameRemarks.{same-remarks}
+use Rattle.editor_validation.specs.Fragments.{Fragments}
 use Rattle.embedded_documents.specs.Masked.{IsMasked}
 use Rattle.embedded_documents.specs.declared.scanner.HostLanguage.{HostLanguage}
-use Rattle.formatter.specs.Comments.{HasNoDefinitions}
+use Rattle.gqlls_server.specs.Diagnostics.{AreRemarksOf, IsDiagnosticsNotification}
 use Rattle.gqlls_server.specs.Files.{OpenFile}
 use Rattle.gqlls_server.specs.Parsing.{IsParse}
 use Rattle.gqlls_server.specs.Same.{HaveSameDiagnostics}
-use Rattle.gqlls_server.specs.Diagnostics.{AreRemarksOf, IsDiagnosticsNotification}
 
 -- the text that is parsed is the document's own
 own_text : (file : OpenFile) (source : List ℕ) (host : Option HostLanguage) → host ≡ None

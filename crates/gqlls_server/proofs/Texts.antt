@@ -3,10 +3,10 @@ use Rattle.std.proofs.Common.{◌≡◌, ℕ, ℤ, List, [], ◌∷◌, Option, 
 use Rattle.std.specs.Prelude.{fold}
 use Rattle.line_index.specs.Positions.{units}
 use Rattle.line_index.specs.declared.PositionEncoding.{PositionEncoding}
-use Rattle.editor_text.specs.Client.{changed, changed_all, replaced}
-use Rattle.editor_text.specs.declared.Change.{Change}
 use Rattle.editor_diagnostics.specs.Publication.{IsPublication}
 use Rattle.editor_diagnostics.specs.Remarks.{Remarked}
+use Rattle.editor_text.specs.Client.{changed, changed_all, replaced}
+use Rattle.editor_text.specs.declared.Change.{Change}
 use Rattle.gqlls_server.specs.Parameters.{client_edit}
 
 pub same_publication : (uri : List ℕ) (version : Option ℤ) (encoding units : PositionEncoding) (text source : List ℕ)

@@ -3,21 +3,21 @@ use Rattle.std.specs.Prelude.{◌≡◌, ◌≢◌, ℕ, ℤ, List, [], true, fa
 use lib.IntN.{pos, neg_ℤ}
 use Rattle.json.specs.Json as json
 use Rattle.json.specs.Json.{Json}
-use Rattle.editor_diagnostics.specs.Publication.{IsNoticeAbout}
-use Rattle.editor_validation.specs.Fragments.{Fragments}
 use Rattle.line_index.specs.declared.PositionEncoding.TheVariants.{Utf8}
 use Rattle.rpc_messages.specs.Messages.{IsResult}
 use Rattle.rpc_messages.specs.declared.reply.Reply.{Reply}
 use Rattle.rpc_messages.specs.declared.reply.Reply.TheVariants.{Nothing, Answer, Notice, Request, Exit}
+use Rattle.editor_diagnostics.specs.Publication.{IsNoticeAbout}
+use Rattle.editor_validation.specs.Fragments.{Fragments}
 use Rattle.gqlls_server.specs.Announcement.{IsAnnounced}
+use Rattle.gqlls_server.specs.Diagnostics.{IsDiagnosticsNotification, Notifies}
+use Rattle.gqlls_server.specs.Dialogue.{AreOthers, Dialogue, IsChanged, Sets, opened}
 use Rattle.gqlls_server.specs.Files.{OpenFile}
 use Rattle.gqlls_server.specs.Layout.{IsFormattingIn, IsRangeFormattingIn, IsRefusalOf}
 use Rattle.gqlls_server.specs.Parameters.{Edit, IsVersionIn, Offers, asks_before_renaming_in, edits_in, host_in}
 use Rattle.gqlls_server.specs.Parameters.{may_register_in, takes_related_in, text_in, uri_in}
 use Rattle.gqlls_server.specs.Registration.{IsRegistration}
 use Rattle.gqlls_server.specs.Renaming.{IsRenaming}
-use Rattle.gqlls_server.specs.Dialogue.{AreOthers, Dialogue, IsChanged, Sets, opened}
-use Rattle.gqlls_server.specs.Diagnostics.{IsDiagnosticsNotification, Notifies}
 use Rattle.gqlls_server.specs.declared.server.Stage.{Stage}
 use Rattle.gqlls_server.specs.declared.server.Stage.TheVariants.{New, Running, ShutDown}
 

@@ -1,16 +1,16 @@
 -- What is published of the documents that a client has open, and known of files that are not.
 use Rattle.std.specs.Prelude.{◌≡◌, ℕ, ℤ, Bool, List, [], Option, Some, None, length}
 use Rattle.apollo_parser.specs.Parsed.{Parsed}
+use Rattle.formatter.specs.Comments.{HasNoDefinitions}
+use Rattle.rpc_messages.specs.declared.reply.Reply.{Reply}
+use Rattle.rpc_messages.specs.declared.reply.Reply.TheVariants.{Nothing, Answer, Notice, Request, Exit}
 use Rattle.editor_diagnostics.specs.Publication.{IsPublication}
 use Rattle.editor_diagnostics.specs.Remarks.{Remarked}
 use Rattle.editor_validation.specs.Fragments.{Fragments}
 use Rattle.editor_validation.specs.Remarks.{AreRemarksOn}
-use Rattle.formatter.specs.Comments.{HasNoDefinitions}
 use Rattle.gqlls_server.specs.Dialogue.{Dialogue, SetsFile, opened}
 use Rattle.gqlls_server.specs.Files.{IsSource, OpenFile}
 use Rattle.gqlls_server.specs.Parsing.{IsParse, fragments_of}
-use Rattle.rpc_messages.specs.declared.reply.Reply.{Reply}
-use Rattle.rpc_messages.specs.declared.reply.Reply.TheVariants.{Nothing, Answer, Notice, Request, Exit}
 
 -- The remarks on a parse: on its errors, or if it has none on the rules of validation that the document breaks, and
 -- that the other documents with these fragments do not mend. Where the client takes related information, the first one

@@ -1,14 +1,14 @@
 -- What a client and the server have in common during a conversation.
+use Rattle.std.specs.List.{Contains}
 use Rattle.std.specs.Prelude.{◌≡◌, ◌≢◌, ◌↔◌, ◌⊎◌, ℕ, Bool, false, List, fold, Option, Some, None, is_some, option_map}
 use Rattle.std.specs.Prelude.{true}
-use Rattle.std.specs.List.{Contains}
 use Rattle.apollo_parser.specs.declared.Limits.{Limits}
 use Rattle.line_index.specs.Positions.{units}
 use Rattle.line_index.specs.declared.PositionEncoding.{PositionEncoding}
 use Rattle.line_index.specs.declared.PositionEncoding.TheVariants.{Utf16}
+use Rattle.editor_validation.specs.Fragments.{Fragments}
 use Rattle.editor_text.specs.Client.{replaced}
 use Rattle.embedded_documents.specs.declared.scanner.HostLanguage.{HostLanguage}
-use Rattle.editor_validation.specs.Fragments.{Fragments}
 use Rattle.file_uris.specs.Uris.{normalized}
 use Rattle.gqlls_server.specs.Files.{OpenFile}
 use Rattle.gqlls_server.specs.Parameters.{Edit}

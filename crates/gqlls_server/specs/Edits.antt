@@ -1,9 +1,9 @@
 -- How the edits of a rename are written.
-use Rattle.std.specs.Prelude.{ℕ, List, [], ◌∷◌, ◌++◌, map}
 use Rattle.std.specs.List.{flat_map}
-use Rattle.apollo_tree.specs.Order.{Place, range_at}
+use Rattle.std.specs.Prelude.{ℕ, List, [], ◌∷◌, ◌++◌, map}
 use Rattle.json.specs.Token.{Token, begin_array, end_array, key}
 use Rattle.json.specs.Tree.{json_tokens}
+use Rattle.apollo_tree.specs.Order.{Place, range_at}
 use Rattle.gqlls_server.specs.Renaming.{KnownFile, edit_of}
 use Rattle.gqlls_server.specs.State.{known_of}
 use Rattle.gqlls_server.specs.declared.documents.Known.{Known}

@@ -1,15 +1,15 @@
 -- The results of layouts.
+use Rattle.std.specs.List.{replace_range}
 use Rattle.std.specs.Prelude.{MatchOption, ◌≡◌, ◌≤◌, ◌⊎◌, ℕ, ℤ, List, [], ◌∷◌, ◌++◌, length, slice_range, string_bytes}
 use lib.IntN.{pos, neg_ℤ}
-use Rattle.std.specs.List.{replace_range}
 use Rattle.json.specs.Json.{Json, null}
 use Rattle.apollo_parser.specs.declared.Limits.{Limits}
-use Rattle.editor_text.specs.Answered.{AreEditsOf, IsEditedBy}
+use Rattle.line_index.specs.declared.PositionEncoding.{PositionEncoding}
 use Rattle.formatter.specs.Formatted.{IsDocument, MayExceed}
 use Rattle.formatter.specs.Within.{IsFormattedWithin, IsOutgrown}
-use Rattle.editor_text.specs.Client.{Opened}
-use Rattle.line_index.specs.declared.PositionEncoding.{PositionEncoding}
 use Rattle.rpc_messages.specs.Messages.{IsError, IsResult}
+use Rattle.editor_text.specs.Answered.{AreEditsOf, IsEditedBy}
+use Rattle.editor_text.specs.Client.{Opened}
 use Rattle.gqlls_server.specs.Files.{OpenFile}
 use Rattle.gqlls_server.specs.declared.layout.Layout.{Layout}
 use Rattle.gqlls_server.specs.declared.layout.Layout.TheVariants.{Text, Left, TooLong}

@@ -1,15 +1,15 @@
 -- What the parameters of a message say, where they are those of the Language Server Protocol 3.17.
+use Rattle.std.specs.Char.{is_digit}
+use Rattle.std.specs.Int.{w64}
+use Rattle.std.specs.List.{Contains, list_all}
+use Rattle.std.specs.Option.{option_zip}
 use Rattle.std.specs.Prelude.{◌≡◌, ℕ, ℤ, ◌^◌, Bool, ◌&&◌, false, nat_lt, if◌then◌else◌, List, [], ◌∷◌, codes}
 use Rattle.std.specs.Prelude.{filter_map, length, take, Option, Some, None, MatchOption, ok_or, option_and_then}
 use Rattle.std.specs.Prelude.{option_map, unwrap_or}
-use Rattle.std.specs.Option.{option_zip}
-use Rattle.std.specs.Char.{is_digit}
 use Rattle.std.specs.Str.{IsCharBoundary}
-use Rattle.std.specs.Int.{w64}
-use Rattle.std.specs.List.{Contains, list_all}
 use Rattle.std.specs.Str.Parse.{ParsesSigned, digits_value, without_leading_plus}
-use Rattle.json.specs.Json.{Json, string, Items, no_items, item}
 use Rattle.json.specs.Find.{as_array, as_bool, as_number, as_str, get, is_null}
+use Rattle.json.specs.Json.{Json, string, Items, no_items, item}
 use Rattle.lexical_grammar.specs.Characters.{is_name_continue, is_name_start}
 use Rattle.line_index.specs.Positions.{offset_of, units}
 use Rattle.line_index.specs.declared.Position.{Position}

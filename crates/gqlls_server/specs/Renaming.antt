@@ -1,19 +1,19 @@
 -- The answer to `textDocument/rename` (Language Server Protocol 3.17, "Rename Request"): where the known documents have
 -- a name, and the edits there.
+use Rattle.std.specs.List.{All, AllPairs, Contains, find}
 use Rattle.std.specs.Prelude.{◌≡◌, ◌≢◌, ◌↔◌, ◌⊎◌, ℕ, ◌||◌, not, Bool, true, if◌then◌else◌, List, [], ◌∷◌, Option, Some}
 use Rattle.std.specs.Prelude.{None, MatchOption, ⊤, bytes_eq, codes, MatchBool, is_some, map, option_map}
 use lib.IntN.{pos, neg_ℤ}
-use Rattle.std.specs.List.{All, AllPairs, Contains, find}
+use Rattle.json.specs.Json.{Items, Json, Members, array, item, member, no_items, no_members, object}
 use Rattle.apollo_tree.specs.Order.{Place, range_at}
+use Rattle.line_index.specs.declared.Position.{Position}
+use Rattle.rpc_messages.specs.Messages.{IsResult}
 use Rattle.editor_answers.specs.Names.{definition_elsewhere, definition_in, holds, identifier_at, meaning_at}
 use Rattle.editor_answers.specs.Names.{references_elsewhere, references_in}
 use Rattle.editor_answers.specs.Results.{change_value}
 use Rattle.editor_answers.specs.declared.names.NameKind.{NameKind}
 use Rattle.editor_answers.specs.declared.names.NameKind.TheVariants.{Operation, Fragment, Variable, «Type» as of_type}
 use Rattle.editor_answers.specs.declared.names.NameKind.TheVariants.{Directive}
-use Rattle.json.specs.Json.{Items, Json, Members, array, item, member, no_items, no_members, object}
-use Rattle.line_index.specs.declared.Position.{Position}
-use Rattle.rpc_messages.specs.Messages.{IsResult}
 use Rattle.gqlls_server.specs.Dialogue.{IsOwn}
 use Rattle.gqlls_server.specs.Files.{OpenFile}
 use Rattle.gqlls_server.specs.Layout.{IsRefusalOf}

@@ -1,13 +1,13 @@
 -- What a server keeps of a conversation.
-use Rattle.std.specs.Prelude.{◌≡◌, ◌↔◌, ◌⊎◌, ◌||◌, ◌&&◌, ℕ, Bool, false, List, Option, Some}
-use Rattle.std.specs.Prelude.{bytes_eq, filter, is_some, map, not, option_map, string_bytes, unwrap_or}
 use Rattle.std.specs.BTreeMap.{BTreeMap, get_by_text, keys}
 use Rattle.std.specs.BTreeSet.{BTreeSet, contains_text}
 use Rattle.std.specs.List.{Contains, list_any}
+use Rattle.std.specs.Prelude.{◌≡◌, ◌↔◌, ◌⊎◌, ◌||◌, ◌&&◌, ℕ, Bool, false, List, Option, Some}
+use Rattle.std.specs.Prelude.{bytes_eq, filter, is_some, map, not, option_map, string_bytes, unwrap_or}
 use Rattle.std.specs.declared.string.String.{String}
 use denote.Ref.{Bor}
-use Rattle.apollo_tree.specs.Order.{Place}
 use Rattle.json.specs.Json.{Json}
+use Rattle.apollo_tree.specs.Order.{Place}
 use Rattle.rpc_messages.specs.declared.reply.Reply.{Reply}
 use Rattle.editor_validation.specs.Fragments.{Fragments}
 use Rattle.file_uris.specs.Uris.{normalized}

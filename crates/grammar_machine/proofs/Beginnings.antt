@@ -4,33 +4,33 @@
 use Rattle.std.proofs.Common.{◌≡◌, ◌≢◌, ℕ, zero, suc, ◌<◌, Bool, true, false, cond, eqb, List, [], ◌∷◌, ◌++◌, length}
 use Rattle.std.proofs.Common.{map, Option, Some, None, IsUtf8, refl, sym, ap, ap₂, ◌∙◌, subst, inl, inr, eqb-true}
 use Rattle.std.proofs.Common.{ltb-true, append_assoc, arith}
-use Rattle.std.proofs.lemmas.Bool.{eqb-false}
-use Rattle.std.proofs.lemmas.Str.{IsUtf8-from_ascii}
 use Rattle.std.proofs.Math.Seq.{take-length}
+use Rattle.std.proofs.lemmas.Bool.{eqb-false}
+use Rattle.std.proofs.lemmas.List.{map-append}
+use Rattle.std.proofs.lemmas.Str.{IsUtf8-from_ascii}
+use Rattle.lexical_grammar.proofs.Cuts.{goes_on-by-words}
+use Rattle.lexical_grammar.proofs.Sound.{sound}
+use Rattle.lexical_grammar.proofs.Texts.{words-follow-text}
+use Rattle.lexical_grammar.specs.Begins.{IsWord, AreWords, spaced, ends_in_whitespace, feed}
+use Rattle.lexical_grammar.specs.Cut.{Item, Word, Cut, texts, is_significant_kind, Significant, are_tokens}
+use Rattle.lexical_grammar.specs.Reads.{token_at}
+use Rattle.lexical_grammar.specs.Tokens.{Tok}
 use Rattle.lexical_grammar.specs.declared.TokenKind.{TokenKind}
 use Rattle.lexical_grammar.specs.declared.TokenKind.TheVariants as kind
-use Rattle.lexical_grammar.specs.Tokens.{Tok}
-use Rattle.lexical_grammar.specs.Cut.{Item, Word, Cut, texts, is_significant_kind, Significant, are_tokens}
-use Rattle.lexical_grammar.specs.Begins.{IsWord, AreWords, spaced, ends_in_whitespace, feed}
-use Rattle.lexical_grammar.specs.Reads.{token_at}
-use Rattle.lexical_grammar.proofs.Sound.{sound}
-use Rattle.lexical_grammar.proofs.Cuts.{goes_on-by-words}
-use Rattle.lexical_grammar.proofs.Texts.{words-follow-text}
-use Rattle.document_grammar.specs.Tree.{Token, Tree, leaf}
-use Rattle.grammar_machine.specs.Table.{firsts}
-use Rattle.grammar_machine.proofs.generated.Samples.{spellings}
-use Rattle.document_grammar.specs.Derivation.{Sort, Spells}
-use Rattle.document_grammar.specs.Booleans.{◌and◌, ◌or◌}
-use Rattle.grammar_machine.specs.Machine.{holds, is_leaf, entries, fires, class, token, Ok, Frame, Reached}
-use Rattle.document_grammar.specs.Sentence.{leaf_number, token_of, Begins}
 use Rattle.document_grammar.proofs.Booleans.{false-true, or-c, either}
-use Rattle.grammar_machine.proofs.TableLemmas.{head-same, tail-same}
-use Rattle.grammar_machine.proofs.Endings.{spell}
-use Rattle.grammar_machine.proofs.Sound.{AllSpelt}
-use Rattle.grammar_machine.proofs.Worked.{all_ascii, is-ascii}
-use Rattle.grammar_machine.proofs.SentenceTheorems.{reached-begins}
-use Rattle.std.proofs.lemmas.List.{map-append}
+use Rattle.document_grammar.specs.Booleans.{◌and◌, ◌or◌}
+use Rattle.document_grammar.specs.Derivation.{Sort, Spells}
 use Rattle.document_grammar.specs.Kinds.{WHITESPACE, ERROR, DOCUMENT}
+use Rattle.document_grammar.specs.Sentence.{leaf_number, token_of, Begins}
+use Rattle.document_grammar.specs.Tree.{Token, Tree, leaf}
+use Rattle.grammar_machine.proofs.Endings.{spell}
+use Rattle.grammar_machine.proofs.SentenceTheorems.{reached-begins}
+use Rattle.grammar_machine.proofs.Sound.{AllSpelt}
+use Rattle.grammar_machine.proofs.TableLemmas.{head-same, tail-same}
+use Rattle.grammar_machine.proofs.Worked.{all_ascii, is-ascii}
+use Rattle.grammar_machine.proofs.generated.Samples.{spellings}
+use Rattle.grammar_machine.specs.Machine.{holds, is_leaf, entries, fires, class, token, Ok, Frame, Reached}
+use Rattle.grammar_machine.specs.Table.{firsts}
 
 -- The kind of the token that is listed for a leaf.
 kind_of : ℕ → TokenKind

@@ -1,24 +1,24 @@
 -- A tree of the tables keeps the rule on braces.
 use Rattle.std.proofs.Common.{◌≡◌, ℕ, ◌+◌, ◌-◌, ◌<◌, Bool, true, false, cond, not, eqb, ltb, List, [], ◌∷◌, get_or}
 use Rattle.std.proofs.Common.{refl, sym, ap, ◌∙◌, subst, arith, eqb-true, ltb-true}
-use Rattle.document_grammar.specs.Tree.{Tree, leaf, node, Forest, none, ◌▸◌, root}
-use Rattle.document_grammar.specs.Pattern.{member}
-use Rattle.document_grammar.specs.Kinds.{DOCUMENT, OPERATION_DEFINITION, SELECTION_SET}
-use Rattle.grammar_machine.specs.Table.{State, rows}
-use Rattle.grammar_machine.proofs.generated.Labels.{paths, labels}
-use Rattle.document_grammar.specs.Booleans.{◌and◌, ◌or◌}
-use Rattle.grammar_machine.specs.Machine.{is_leaf, at, ends, exit, arcs, has, target, target_in, state_arcs, state_ends}
-use Rattle.grammar_machine.specs.Machine.{state_exit, finish, walk, Ok, OkFrom}
-use Rattle.document_grammar.specs.Derivation.{kinds, Braced, Blocks, NoBlock, LacksBlock, StartsWithSelections, IsQuery}
-use Rattle.document_grammar.specs.Derivation.{BraceRule}
-use Rattle.grammar_machine.proofs.Checks.{all_arcs, every_state, every_arc, exits}
 use Rattle.document_grammar.proofs.Booleans.{false-true, and-l, and-r, or-r, or-false, or-false-l, or-false-r, or-assoc}
 use Rattle.document_grammar.proofs.Booleans.{or-none, same, same-bool, not-c, implies}
-use Rattle.grammar_machine.proofs.TableLemmas.{arcs-at, arc-test, exits-at, state-test}
-use Rattle.grammar_machine.proofs.Patterns.{all_kinds, label, shown}
+use Rattle.document_grammar.specs.Booleans.{◌and◌, ◌or◌}
+use Rattle.document_grammar.specs.Derivation.{kinds, Braced, Blocks, NoBlock, LacksBlock, StartsWithSelections, IsQuery}
+use Rattle.document_grammar.specs.Derivation.{BraceRule}
+use Rattle.document_grammar.specs.Kinds.{DOCUMENT, OPERATION_DEFINITION, SELECTION_SET}
+use Rattle.document_grammar.specs.Pattern.{member}
+use Rattle.document_grammar.specs.Tree.{Tree, leaf, node, Forest, none, ◌▸◌, root}
+use Rattle.grammar_machine.proofs.Checks.{all_arcs, every_state, every_arc, exits}
 use Rattle.grammar_machine.proofs.FromMachineTree.{kinds-at, show, shows, show-root, shown-root, node-symbols}
+use Rattle.grammar_machine.proofs.Patterns.{all_kinds, label, shown}
 use Rattle.grammar_machine.proofs.Rules.{label-test}
+use Rattle.grammar_machine.proofs.TableLemmas.{arcs-at, arc-test, exits-at, state-test}
+use Rattle.grammar_machine.proofs.generated.Labels.{paths, labels}
+use Rattle.grammar_machine.specs.Machine.{is_leaf, at, ends, exit, arcs, has, target, target_in, state_arcs, state_ends}
+use Rattle.grammar_machine.specs.Machine.{state_exit, finish, walk, Ok, OkFrom}
 use Rattle.grammar_machine.specs.Symbols.{TYPE}
+use Rattle.grammar_machine.specs.Table.{State, rows}
 
 -- whether a list of trees has what opens the block of a definition
 abbrev has_opener : List ℕ → Bool

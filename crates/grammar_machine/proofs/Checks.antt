@@ -1,12 +1,12 @@
 -- The tables' tests, each answered by computing.
 use Rattle.std.proofs.Common.{◌≡◌, ℕ, zero, suc, ◌+◌, ◌-◌, Bool, true, false, cond, not, eqb, List, [], ◌∷◌, get_or}
 use Rattle.std.proofs.Common.{bit_and, bit_or, refl}
-use Rattle.grammar_machine.specs.Table.{State, state, Entry, entry, rows, firsts}
-use Rattle.grammar_machine.proofs.generated.Follows.{follows}
 use Rattle.document_grammar.specs.Booleans.{◌and◌, ◌or◌}
+use Rattle.document_grammar.specs.Kinds.{DOCUMENT}
+use Rattle.grammar_machine.proofs.generated.Follows.{follows}
 use Rattle.grammar_machine.specs.Machine.{holds, is_leaf, at, ends, exit, arcs, entries, state_arcs, state_ends}
 use Rattle.grammar_machine.specs.Machine.{state_exit}
-use Rattle.document_grammar.specs.Kinds.{DOCUMENT}
+use Rattle.grammar_machine.specs.Table.{State, state, Entry, entry, rows, firsts}
 
 abbrev pub subset : ℕ → ℕ → Bool
 subset a b = eqb (bit_and a b) a

@@ -1,11 +1,11 @@
 -- Sets of classes, and which sets hold a class.
 use Rattle.std.proofs.Common.{◌≡◌, ◌≢◌, ℕ, ◌+◌, ◌-◌, ◌^◌, true, List, [], ◌∷◌, bit_and, bit_or, refl, arith, eqb-true}
-use Rattle.std.specs.Int.{bit_at}
 use Rattle.std.proofs.lemmas.Nat.Bits.{bit_at_and, bit_at_or, bit_at-lt, bit_at-pow_other}
-use Rattle.grammar_machine.specs.Machine.{holds}
+use Rattle.std.specs.Int.{bit_at}
 use Rattle.grammar_machine.proofs.Checks.{subset}
-use Rattle.grammar_machine.proofs.TableLemmas.{holds-subset}
 use Rattle.grammar_machine.proofs.Sound.{any}
+use Rattle.grammar_machine.proofs.TableLemmas.{holds-subset}
+use Rattle.grammar_machine.specs.Machine.{holds}
 
 -- Sets: of the listed classes, each once; of all others.
 abbrev pub only : List ℕ → ℕ

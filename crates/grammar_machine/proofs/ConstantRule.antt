@@ -1,22 +1,22 @@
 -- A tree of the tables keeps the rule on constants.
 use Rattle.std.proofs.Common.{◌≡◌, ◌≢◌, ℕ, zero, suc, ◌+◌, ◌^◌, Bool, true, false, cond, not, eqb, List, [], ◌∷◌, refl}
 use Rattle.std.proofs.Common.{subst, inl, inr, arith, bit_or}
-use Rattle.document_grammar.specs.Tree.{Tree, leaf, node, Forest, none, ◌▸◌, root}
-use Rattle.document_grammar.specs.Pattern.{member}
-use Rattle.document_grammar.specs.Kinds.{DOCUMENT, DIRECTIVES, VARIABLE, DEFAULT_VALUE}
-use Rattle.grammar_machine.specs.Table.{State, rows}
-use Rattle.grammar_machine.proofs.generated.Labels.{labels}
+use Rattle.document_grammar.proofs.Booleans.{false-true, and-l, and-r, and-i, not-c, either, implies}
 use Rattle.document_grammar.specs.Booleans.{◌and◌, ◌or◌}
-use Rattle.grammar_machine.specs.Machine.{holds, is_leaf, has, target, state_arcs, finish, Ok, OkFrom}
 use Rattle.document_grammar.specs.Derivation.{NoVariable, NoVariables, HasConstantDirectives, ConstantDirectives}
 use Rattle.document_grammar.specs.Derivation.{ConstantRule}
+use Rattle.document_grammar.specs.Kinds.{DOCUMENT, DIRECTIVES, VARIABLE, DEFAULT_VALUE}
+use Rattle.document_grammar.specs.Pattern.{member}
+use Rattle.document_grammar.specs.Tree.{Tree, leaf, node, Forest, none, ◌▸◌, root}
 use Rattle.grammar_machine.proofs.Checks.{all_arcs, all_from, every_arc}
-use Rattle.document_grammar.proofs.Booleans.{false-true, and-l, and-r, and-i, not-c, either, implies}
-use Rattle.grammar_machine.proofs.TableLemmas.{arc-test}
-use Rattle.grammar_machine.proofs.Patterns.{label, shown}
 use Rattle.grammar_machine.proofs.FromMachineTree.{show, shows, build, type_of, shown-root}
+use Rattle.grammar_machine.proofs.Patterns.{label, shown}
 use Rattle.grammar_machine.proofs.Rules.{labels-alone}
+use Rattle.grammar_machine.proofs.TableLemmas.{arc-test}
+use Rattle.grammar_machine.proofs.generated.Labels.{labels}
+use Rattle.grammar_machine.specs.Machine.{holds, is_leaf, has, target, state_arcs, finish, Ok, OkFrom}
 use Rattle.grammar_machine.specs.Symbols.{TYPE, BARE_SELECTIONS}
+use Rattle.grammar_machine.specs.Table.{State, rows}
 
 -- The symbols above a VARIABLE, as a set: a symbol joins it whose row has an arc to one of the set. Each step goes over
 -- the rows, from the last one to the first. The test of all arcs, below, shows that the steps are enough.

@@ -4,20 +4,20 @@ use Rattle.std.proofs.Common.{◌≡◌, ℕ, ◌+◌, ◌≤◌, max, List, [],
 use Rattle.std.proofs.Common.{eqb-true, true}
 use Rattle.document_grammar.proofs.Booleans.{either, false-true}
 use Rattle.document_grammar.proofs.Nested.{weight, weight-none, weight-no_value, uncounted, belows-append, belows-same}
-use Rattle.document_grammar.specs.Tree.{Token, Tree, leaf, node, Forest, none, ◌▸◌, ◌+++◌, root, Text}
-use Rattle.document_grammar.specs.Pattern.{member}
-use Rattle.document_grammar.specs.Kinds.{DOCUMENT, NAMED_TYPE, LIST_TYPE, NON_NULL_TYPE}
-use Rattle.grammar_machine.specs.Machine.{Frame, frame, Ok, OkFrom, target, finish, is_leaf}
-use Rattle.document_grammar.specs.Derivation.{nest, below, belows, counts}
-use Rattle.grammar_machine.proofs.Run.{Left, Upper}
-use Rattle.grammar_machine.proofs.generated.Labels.{labels}
-use Rattle.grammar_machine.proofs.Patterns.{label}
-use Rattle.grammar_machine.proofs.FromMachineTree.{show, shows, type_of, type-child, type-arc, type-end, labels-checked}
-use Rattle.grammar_machine.specs.Symbols.{TYPE}
 use Rattle.document_grammar.specs.Booleans.{◌and◌}
-use Rattle.grammar_machine.proofs.TableLemmas.{below-at}
-use Rattle.grammar_machine.proofs.Sound.{leaf-lt}
+use Rattle.document_grammar.specs.Derivation.{nest, below, belows, counts}
+use Rattle.document_grammar.specs.Kinds.{DOCUMENT, NAMED_TYPE, LIST_TYPE, NON_NULL_TYPE}
+use Rattle.document_grammar.specs.Pattern.{member}
+use Rattle.document_grammar.specs.Tree.{Token, Tree, leaf, node, Forest, none, ◌▸◌, ◌+++◌, root, Text}
 use Rattle.grammar_machine.proofs.Checks.{all_below}
+use Rattle.grammar_machine.proofs.FromMachineTree.{show, shows, type_of, type-child, type-arc, type-end, labels-checked}
+use Rattle.grammar_machine.proofs.Patterns.{label}
+use Rattle.grammar_machine.proofs.Run.{Left, Upper}
+use Rattle.grammar_machine.proofs.Sound.{leaf-lt}
+use Rattle.grammar_machine.proofs.TableLemmas.{below-at}
+use Rattle.grammar_machine.proofs.generated.Labels.{labels}
+use Rattle.grammar_machine.specs.Machine.{Frame, frame, Ok, OkFrom, target, finish, is_leaf}
+use Rattle.grammar_machine.specs.Symbols.{TYPE}
 
 -- A tree of the tables in the kinds as which its symbols are shown: the node of a type stays.
 abbrev mutual

@@ -1,15 +1,15 @@
 -- Each state of a row that can be reached has a list of trees that ends it: they are exhibited, and checked by
 -- computing.
 use Rattle.std.proofs.Common.{◌≡◌, ℕ, zero, suc, ◌+◌, ◌-◌, ◌^◌, Bool, true, cond, not, eqb, List, [], ◌∷◌, get_or, refl}
+use Rattle.document_grammar.specs.Booleans.{◌and◌, ◌or◌}
+use Rattle.document_grammar.specs.Kinds.{words, DOCUMENT, ERROR}
 use Rattle.document_grammar.specs.Tree.{Text, Tree, leaf, node, Forest, none, ◌▸◌, root}
-use Rattle.grammar_machine.specs.Table.{rows, firsts, name_leaves}
+use Rattle.grammar_machine.proofs.Checks.{subset, exits, all_entries, every_arc, all_below}
 use Rattle.grammar_machine.proofs.generated.Follows.{name_classes}
 use Rattle.grammar_machine.proofs.generated.Samples.{endings, spellings}
-use Rattle.document_grammar.specs.Booleans.{◌and◌, ◌or◌}
 use Rattle.grammar_machine.specs.Machine.{holds, is_leaf, at, ends, exit, arcs, has, target, entries, fires, class}
 use Rattle.grammar_machine.specs.Machine.{token, finish, text_eq}
-use Rattle.grammar_machine.proofs.Checks.{subset, exits, all_entries, every_arc, all_below}
-use Rattle.document_grammar.specs.Kinds.{words, DOCUMENT, ERROR}
+use Rattle.grammar_machine.specs.Table.{rows, firsts, name_leaves}
 
 abbrev plant : (ℕ → Tree) → List ℕ → Forest
 plant f [] = none

@@ -2,25 +2,25 @@
 use Rattle.std.proofs.Common.{◌≡◌, ℕ, ◌+◌, Bool, true, false, cond, not, eqb, List, [], ◌∷◌, refl, sym, ap, ap₂, ◌∙◌}
 use Rattle.std.proofs.Common.{subst, ◌⊎◌, inl, inr, true≢false, eqb-true}
 use Rattle.std.proofs.lemmas.Bool.{false_from_ne_true}
-use Rattle.document_grammar.specs.Tree.{Tree, leaf, node, Forest, none, ◌▸◌, root}
-use Rattle.document_grammar.specs.Pattern.{Pattern, any_of, nothing, ◌then◌, ◌or_else◌, many, member, Matches}
-use Rattle.grammar_machine.specs.Table.{State, rows}
-use Rattle.grammar_machine.proofs.generated.Labels.{labels}
-use Rattle.document_grammar.specs.Booleans.{◌and◌, ◌or◌}
-use Rattle.grammar_machine.specs.Machine.{is_leaf, at, ends, arcs, has, has_in, target, target_in, state_arcs, finish}
-use Rattle.grammar_machine.specs.Machine.{Ok, OkFrom}
-use Rattle.document_grammar.specs.Derivation.{kinds}
-use Rattle.grammar_machine.proofs.Checks.{exits}
 use Rattle.document_grammar.proofs.Booleans.{false-true, and-l, and-r, or-c, or-l, or-r, implies, either, eqb-refl}
 use Rattle.document_grammar.proofs.Booleans.{same-bool}
-use Rattle.grammar_machine.proofs.TableLemmas.{arcs-at, exits-at, state-test, text-same}
 use Rattle.document_grammar.proofs.Nullable.{nullable}
+use Rattle.document_grammar.specs.Booleans.{◌and◌, ◌or◌}
+use Rattle.document_grammar.specs.Derivation.{kinds}
+use Rattle.document_grammar.specs.Kinds.{VARIABLE, NAMED_TYPE, LIST_TYPE, NON_NULL_TYPE, DOCUMENT, SELECTION_SET}
+use Rattle.document_grammar.specs.Kinds.{DEFAULT_VALUE, FRAGMENT_NAME, ENUM_VALUE}
+use Rattle.document_grammar.specs.Pattern.{Pattern, any_of, nothing, ◌then◌, ◌or_else◌, many, member, Matches}
+use Rattle.document_grammar.specs.Tree.{Tree, leaf, node, Forest, none, ◌▸◌, root}
+use Rattle.grammar_machine.proofs.Checks.{exits}
 use Rattle.grammar_machine.proofs.Patterns.{deriv, pattern_eq, pattern_of, label, shown, all_kinds, any_arcs, constant}
 use Rattle.grammar_machine.proofs.Patterns.{begin_kinds, no_arc, is_live, agree_at, agree-checked, nullable-from}
 use Rattle.grammar_machine.proofs.Patterns.{from-deriv}
-use Rattle.document_grammar.specs.Kinds.{VARIABLE, NAMED_TYPE, LIST_TYPE, NON_NULL_TYPE, DOCUMENT, SELECTION_SET}
-use Rattle.document_grammar.specs.Kinds.{DEFAULT_VALUE, FRAGMENT_NAME, ENUM_VALUE}
+use Rattle.grammar_machine.proofs.TableLemmas.{arcs-at, exits-at, state-test, text-same}
+use Rattle.grammar_machine.proofs.generated.Labels.{labels}
+use Rattle.grammar_machine.specs.Machine.{is_leaf, at, ends, arcs, has, has_in, target, target_in, state_arcs, finish}
+use Rattle.grammar_machine.specs.Machine.{Ok, OkFrom}
 use Rattle.grammar_machine.specs.Symbols.{TYPE, BARE_SELECTIONS}
+use Rattle.grammar_machine.specs.Table.{State, rows}
 
 -- A type's node is shown as its child, or with `!` as a NON_NULL_TYPE.
 abbrev pub type_of : Forest → Tree

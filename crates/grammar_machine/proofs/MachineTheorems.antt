@@ -2,23 +2,23 @@
 use Rattle.std.proofs.Common.{◌≡◌, ℕ, Bool, true, false, not, List, [], ◌∷◌, ◌++◌, refl, sym, ◌∙◌, subst, append-nil}
 use Rattle.std.proofs.Common.{ap}
 use Rattle.std.proofs.lemmas.List.{append_cancel_right}
+use Rattle.document_grammar.proofs.Booleans.{and-l, and-r, not-c, false-true}
+use Rattle.document_grammar.specs.Booleans.{◌and◌, ◌or◌}
+use Rattle.document_grammar.specs.Kinds.{words, DOCUMENT, SELECTION_SET}
 use Rattle.document_grammar.specs.Tree.{Token, Tree, leaf, node, Forest, root}
-use Rattle.grammar_machine.specs.Table.{rows, firsts}
+use Rattle.grammar_machine.proofs.Checks.{exits, follow}
+use Rattle.grammar_machine.proofs.Endings.{ending, fillable}
+use Rattle.grammar_machine.proofs.Run.{next, same-tree, Left, left-stuck, left-done, reach-left, reach-other}
+use Rattle.grammar_machine.proofs.Sound.{reach-sound, reach-spent, spent, viable, Whole, path-ok, move-ends}
+use Rattle.grammar_machine.proofs.TableLemmas.{exits-at}
+use Rattle.grammar_machine.proofs.TwoTokenLookahead.{tree-run}
 use Rattle.grammar_machine.proofs.generated.Follows.{follows}
 use Rattle.grammar_machine.proofs.generated.Samples.{endings, spellings}
-use Rattle.document_grammar.specs.Booleans.{◌and◌, ◌or◌}
 use Rattle.grammar_machine.specs.Machine.{holds, is_leaf, at, ends, exit, arcs, has, target, entries, fires, close}
 use Rattle.grammar_machine.specs.Machine.{stuck, class, first, second, token, yield, yields, Ok, Run, Frame, frame}
 use Rattle.grammar_machine.specs.Machine.{Reach}
-use Rattle.grammar_machine.proofs.Checks.{exits, follow}
-use Rattle.document_grammar.proofs.Booleans.{and-l, and-r, not-c, false-true}
-use Rattle.grammar_machine.proofs.TableLemmas.{exits-at}
-use Rattle.grammar_machine.proofs.Run.{next, same-tree, Left, left-stuck, left-done, reach-left, reach-other}
-use Rattle.grammar_machine.proofs.TwoTokenLookahead.{tree-run}
-use Rattle.grammar_machine.proofs.Endings.{ending, fillable}
-use Rattle.grammar_machine.proofs.Sound.{reach-sound, reach-spent, spent, viable, Whole, path-ok, move-ends}
-use Rattle.document_grammar.specs.Kinds.{words, DOCUMENT, SELECTION_SET}
 use Rattle.grammar_machine.specs.Symbols.{TYPE, BARE_SELECTIONS}
+use Rattle.grammar_machine.specs.Table.{rows, firsts}
 
 -- A tree of the symbol `start_symbol` over the tokens `tokens`.
 abbrev pub Parse : ℕ → Tree → List Token → Type 0

@@ -1,12 +1,12 @@
 -- From a configuration the machine goes on in one way, to where it ends the root's node, whatever tokens are left
 -- there. The tree that it makes so nests as deep as each configuration on the way.
 use Rattle.std.proofs.Common.{◌≡◌, ℕ, ◌+◌, ◌≤◌, List, [], ◌∷◌, sym, ◌∙◌, subst, IsTrue, IsFalse, arith}
-use Rattle.document_grammar.specs.Tree.{Token, Tree, leaf, node, Forest, none, ◌▸◌, ◌+++◌}
 use Rattle.document_grammar.proofs.Booleans.{false-true}
+use Rattle.document_grammar.specs.Tree.{Token, Tree, leaf, node, Forest, none, ◌▸◌, ◌+++◌}
+use Rattle.grammar_machine.proofs.Depth.{depth, nesting_all, peak, peak-open, peak-close, peak-shift, peak-end}
+use Rattle.grammar_machine.proofs.Run.{next, go-close, go-stuck, close-stuck, go-inj}
 use Rattle.grammar_machine.specs.Machine.{is_leaf, exit, target, go, close, stuck, Frame, frame, Reach, start, shift}
 use Rattle.grammar_machine.specs.Machine.{open', closed}
-use Rattle.grammar_machine.proofs.Run.{next, go-close, go-stuck, close-stuck, go-inj}
-use Rattle.grammar_machine.proofs.Depth.{depth, nesting_all, peak, peak-open, peak-close, peak-shift, peak-end}
 
 pub data Makes : List Frame → List Token → Tree → Type 0 where
   made : {symbol state : ℕ} {forest : Forest} {rest : List Token} → next symbol state rest ≡ close

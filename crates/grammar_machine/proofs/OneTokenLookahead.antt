@@ -3,11 +3,11 @@
 -- these nodes open there.
 use Rattle.std.proofs.Common.{◌≡◌, ℕ, ◌+◌, true, List, [], ◌∷◌, ◌++◌, refl, sym, ◌∙◌, subst, IsTrue, append_assoc}
 use Rattle.document_grammar.specs.Tree.{Token, leaf, node, Forest, none, ◌▸◌, ◌+++◌}
-use Rattle.grammar_machine.specs.Machine.{holds, is_leaf, exit, target, go, move, first, second, Frame, frame, Reach}
-use Rattle.grammar_machine.specs.Machine.{shift, closed}
 use Rattle.grammar_machine.proofs.Run.{reach-other}
 use Rattle.grammar_machine.proofs.Sound.{any, second-any}
 use Rattle.grammar_machine.proofs.Steps.{closes, closes-move}
+use Rattle.grammar_machine.specs.Machine.{holds, is_leaf, exit, target, go, move, first, second, Frame, frame, Reach}
+use Rattle.grammar_machine.specs.Machine.{shift, closed}
 
 pub record Firm (start_symbol : ℕ) (tokens : List Token) (fs : List Frame) (rest : List Token) : Type 0 where
   pub before : List Token

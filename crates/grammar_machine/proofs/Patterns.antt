@@ -1,20 +1,20 @@
 -- The patterns' derivatives, and the test that the automata are those of the patterns.
 use Rattle.std.proofs.Common.{◌≡◌, ℕ, ◌+◌, ◌-◌, Bool, true, false, cond, not, eqb, ltb, List, [], ◌∷◌, ◌++◌, get_or}
 use Rattle.std.proofs.Common.{refl, sym, ap, ◌∙◌, subst, ◌⊎◌, inl, inr, true≢false, append_assoc}
+use Rattle.document_grammar.proofs.Booleans.{and-l, and-r, or-c, either}
+use Rattle.document_grammar.proofs.Nullable.{nullable, nullable-to}
+use Rattle.document_grammar.specs.Booleans.{◌and◌, ◌or◌}
+use Rattle.document_grammar.specs.Kinds.{OPERATION_DEFINITION, SELECTION_SET, VARIABLE, DEFAULT_VALUE, NAMED_TYPE}
+use Rattle.document_grammar.specs.Kinds.{LIST_TYPE, NON_NULL_TYPE, DOCUMENT, BANG}
 use Rattle.document_grammar.specs.Pattern.{Pattern, any_of, nothing, ◌then◌, ◌or_else◌, many, one, maybe, member}
 use Rattle.document_grammar.specs.Pattern.{Repeats, stop, again, Matches}
 use Rattle.document_grammar.specs.Rows.{Row, keyword_operation, bare_selections}
-use Rattle.grammar_machine.specs.Table.{State, rows}
-use Rattle.grammar_machine.proofs.generated.Labels.{paths, labels}
-use Rattle.document_grammar.specs.Booleans.{◌and◌, ◌or◌}
-use Rattle.grammar_machine.specs.Machine.{is_leaf, at, ends, exit, arcs, state_arcs, state_ends, text_eq}
-use Rattle.document_grammar.proofs.Nullable.{nullable, nullable-to}
 use Rattle.grammar_machine.proofs.Checks.{all_arcs, every_state, exits}
-use Rattle.document_grammar.proofs.Booleans.{and-l, and-r, or-c, either}
 use Rattle.grammar_machine.proofs.TableLemmas.{head-same, tail-same, no-cons}
-use Rattle.document_grammar.specs.Kinds.{OPERATION_DEFINITION, SELECTION_SET, VARIABLE, DEFAULT_VALUE, NAMED_TYPE}
-use Rattle.document_grammar.specs.Kinds.{LIST_TYPE, NON_NULL_TYPE, DOCUMENT, BANG}
+use Rattle.grammar_machine.proofs.generated.Labels.{paths, labels}
+use Rattle.grammar_machine.specs.Machine.{is_leaf, at, ends, exit, arcs, state_arcs, state_ends, text_eq}
 use Rattle.grammar_machine.specs.Symbols.{TYPE, SHORT_QUERY, BARE_SELECTIONS, NAME_FOR_ENUM}
+use Rattle.grammar_machine.specs.Table.{State, rows}
 
 -- One of two patterns; where nothing fits the one, the other.
 abbrev alt : Pattern → Pattern → Pattern

@@ -1,26 +1,26 @@
 -- A tree of the tables keeps the rules on leaves and names.
 use Rattle.std.proofs.Common.{◌≡◌, ◌≢◌, ℕ, ◌-◌, ◌<◌, ◌^◌, Bool, true, false, not, eqb, ltb, List, [], ◌∷◌, get_or, refl}
 use Rattle.std.proofs.Common.{sym, ap, ◌∙◌, subst, inl, inr, true≢false, append-nil, arith, eqb-true, lt-ltb}
-use Rattle.document_grammar.specs.Tree.{Text, Tree, leaf, node, Forest, none, ◌▸◌, root}
-use Rattle.document_grammar.specs.Pattern.{Pattern, any_of, one, Matches}
-use Rattle.document_grammar.specs.Rows.{Row, keyword_operation}
-use Rattle.grammar_machine.specs.Table.{rows, firsts, name_leaves}
-use Rattle.grammar_machine.proofs.generated.Labels.{paths, labels}
+use Rattle.document_grammar.proofs.Booleans.{false-true, and-l, and-r, or-c, either, implies, eqb-refl}
 use Rattle.document_grammar.specs.Booleans.{◌and◌, ◌or◌}
-use Rattle.grammar_machine.specs.Machine.{holds, is_leaf, at, arcs, has, entries, fires, class, word_class, text_eq}
-use Rattle.grammar_machine.specs.Machine.{token, Ok, OkFrom}
 use Rattle.document_grammar.specs.Derivation.{kinds, text, texts, Listed, LeafRule, NameRule, on_text, true_text}
 use Rattle.document_grammar.specs.Derivation.{false_text, null_text}
-use Rattle.grammar_machine.proofs.Checks.{all_entries, all_below, all_from}
-use Rattle.document_grammar.proofs.Booleans.{false-true, and-l, and-r, or-c, either, implies, eqb-refl}
-use Rattle.grammar_machine.proofs.TableLemmas.{zero-plus, all-from-at, text-same, tail-same, no-cons, below-at}
-use Rattle.grammar_machine.proofs.Sound.{fired, holds-one, leaf-lt}
-use Rattle.grammar_machine.proofs.Patterns.{derive_all, pattern_of, symbol_row, label}
-use Rattle.grammar_machine.proofs.FromMachineTree.{show, shows, row-shown, show-root}
 use Rattle.document_grammar.specs.Kinds.{words, OPERATION_DEFINITION, SELECTION_SET, FRAGMENT_NAME, ENUM_VALUE}
 use Rattle.document_grammar.specs.Kinds.{VARIABLE, DEFAULT_VALUE, DOCUMENT, IDENT, STRING}
+use Rattle.document_grammar.specs.Pattern.{Pattern, any_of, one, Matches}
+use Rattle.document_grammar.specs.Rows.{Row, keyword_operation}
+use Rattle.document_grammar.specs.Tree.{Text, Tree, leaf, node, Forest, none, ◌▸◌, root}
+use Rattle.grammar_machine.proofs.Checks.{all_entries, all_below, all_from}
+use Rattle.grammar_machine.proofs.FromMachineTree.{show, shows, row-shown, show-root}
+use Rattle.grammar_machine.proofs.Patterns.{derive_all, pattern_of, symbol_row, label}
+use Rattle.grammar_machine.proofs.Sound.{fired, holds-one, leaf-lt}
+use Rattle.grammar_machine.proofs.TableLemmas.{zero-plus, all-from-at, text-same, tail-same, no-cons, below-at}
+use Rattle.grammar_machine.proofs.generated.Labels.{paths, labels}
+use Rattle.grammar_machine.specs.Machine.{holds, is_leaf, at, arcs, has, entries, fires, class, word_class, text_eq}
+use Rattle.grammar_machine.specs.Machine.{token, Ok, OkFrom}
 use Rattle.grammar_machine.specs.Symbols.{TYPE, SHORT_QUERY, IDENT_FOR_FRAGMENT, IDENT_FOR_ENUM, NAME_FOR_FRAGMENT}
 use Rattle.grammar_machine.specs.Symbols.{NAME_FOR_ENUM, BARE_SELECTIONS}
+use Rattle.grammar_machine.specs.Table.{rows, firsts, name_leaves}
 
 -- A test of each symbol and its label.
 pub label-test : (t : ℕ → ℕ → Bool) → all_from 0 labels t ≡ true → (symbol : ℕ) → t symbol 0 ≡ true

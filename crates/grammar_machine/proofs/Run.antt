@@ -2,13 +2,13 @@
 -- is the left part of every run over its tokens.
 use Rattle.std.proofs.Common.{◌≡◌, ℕ, ◌+◌, Bool, true, false, List, [], ◌∷◌, ◌++◌, refl, sym, ap, ap₂, ◌∙◌, subst}
 use Rattle.std.proofs.Common.{IsTrue, IsFalse, append_assoc, append-nil, add-zero}
+use Rattle.document_grammar.proofs.Booleans.{false-true}
 use Rattle.document_grammar.proofs.Built.{forest-none}
 use Rattle.document_grammar.specs.Tree.{Token, Tree, leaf, node, Forest, none, ◌▸◌, ◌+++◌, root}
+use Rattle.grammar_machine.proofs.TableLemmas.{head-same, tail-same}
 use Rattle.grammar_machine.specs.Machine.{is_leaf, exit, target, Move, go, close, stuck, move, first, second, token}
 use Rattle.grammar_machine.specs.Machine.{yield, yields, finish, walk, Run, RunFrom, Frame, frame, Reach, start, shift}
 use Rattle.grammar_machine.specs.Machine.{open', closed}
-use Rattle.document_grammar.proofs.Booleans.{false-true}
-use Rattle.grammar_machine.proofs.TableLemmas.{head-same, tail-same}
 
 abbrev pub is_stuck : Move → Bool
 is_stuck (go child) = false

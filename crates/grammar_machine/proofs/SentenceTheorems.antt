@@ -1,21 +1,21 @@
 -- The theorems on sentences, for each sort of them.
 use Rattle.std.proofs.Common.{◌≡◌, ℕ, List, [], ◌∷◌, ◌++◌, map, sym, ap, ◌∙◌, subst, take, refl, ap₂}
-use Rattle.document_grammar.specs.Sentence.{token_of, Sentence}
-use Rattle.document_grammar.proofs.Texts.{one-cut}
+use Rattle.std.proofs.lemmas.List.{append_cancel_right}
 use Rattle.lexical_grammar.specs.Cut.{Item, Significant}
-use Rattle.document_grammar.specs.Tree.{Token, Tree, node, Forest}
-use Rattle.grammar_machine.specs.Machine.{first, yield, yields, opening, close, Frame, frame, Reach, Reached, IsStuck}
-use Rattle.document_grammar.specs.Derivation.{Sort, Spells, Yield, Terminal, word, terminals}
+use Rattle.document_grammar.proofs.Texts.{one-cut}
 use Rattle.document_grammar.specs.Beginnings.{Starts}
-use Rattle.grammar_machine.proofs.Run.{next}
+use Rattle.document_grammar.specs.Derivation.{Sort, Spells, Yield, Terminal, word, terminals}
+use Rattle.document_grammar.specs.Sentence.{token_of, Sentence}
+use Rattle.document_grammar.specs.Tree.{Token, Tree, node, Forest}
 use Rattle.grammar_machine.proofs.FromMachineTree.{show}
-use Rattle.grammar_machine.proofs.ShownDerivation.{show-yield, parse-sentence}
-use Rattle.grammar_machine.proofs.ToMachineTree.{derivation-read}
 use Rattle.grammar_machine.proofs.MachineTheorems.{Parse, one-tree, done, done-all, Fault, no-fault, no-leaf, can-end}
 use Rattle.grammar_machine.proofs.MachineTheorems.{fault}
+use Rattle.grammar_machine.proofs.Run.{next}
+use Rattle.grammar_machine.proofs.ShownDerivation.{show-yield, parse-sentence}
 use Rattle.grammar_machine.proofs.Sound.{AllSpelt, viable, spent, reach-spent}
 use Rattle.grammar_machine.proofs.Starts.{opens, opens-by, first-same, read, next_two, after-two}
-use Rattle.std.proofs.lemmas.List.{append_cancel_right}
+use Rattle.grammar_machine.proofs.ToMachineTree.{derivation-read}
+use Rattle.grammar_machine.specs.Machine.{first, yield, yields, opening, close, Frame, frame, Reach, Reached, IsStuck}
 
 -- The start symbol for the tokens.
 abbrev pub start_symbol : Sort → List Token → ℕ

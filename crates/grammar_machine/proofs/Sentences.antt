@@ -1,29 +1,29 @@
 -- Worked texts: sentences with the nesting of their derivations, near misses that are not, and tokens that start no
 -- sentence.
 use Rattle.std.proofs.Common.{ℕ, List, [], ◌∷◌, refl}
-use Prim.Native.String.{String}
 use Rattle.std.specs.Prelude.{codes}
 use Rattle.std.specs.Str.{chars}
+use Prim.Native.String.{String}
 use Rattle.lexical_grammar.specs.Reads.{items_from}
-use Rattle.document_grammar.specs.Tree.{Token, leaf, node, none, ◌▸◌}
+use Rattle.document_grammar.specs.Beginnings.{Starts}
+use Rattle.document_grammar.specs.Booleans.{◌and◌, ◌or◌}
+use Rattle.document_grammar.specs.Derivation.{document, selections, type, word, end}
 use Rattle.document_grammar.specs.Kinds.{L_PAREN, R_PAREN, L_CURLY, R_CURLY, IDENT, STRING, query_KW, fragment_KW}
 use Rattle.document_grammar.specs.Kinds.{on_KW, extend_KW, type_KW, words, DOCUMENT, OPERATION_DEFINITION}
 use Rattle.document_grammar.specs.Kinds.{SELECTION_SET, FIELD, NAME, UNION_TYPE_DEFINITION, union_KW, NON_NULL_TYPE}
 use Rattle.document_grammar.specs.Kinds.{LIST_TYPE, NAMED_TYPE, L_BRACK, R_BRACK, BANG}
 use Rattle.document_grammar.specs.Pattern.{member}
-use Rattle.grammar_machine.specs.Table.{rows, firsts}
-use Rattle.grammar_machine.proofs.generated.Samples.{spellings}
-use Rattle.grammar_machine.proofs.generated.Labels.{labels}
-use Rattle.document_grammar.specs.Derivation.{document, selections, type, word, end}
-use Rattle.document_grammar.specs.Beginnings.{Starts}
-use Rattle.document_grammar.specs.Booleans.{◌and◌, ◌or◌}
-use Rattle.grammar_machine.specs.Machine.{holds, is_leaf, at, ends, exit, arcs, has, target, entries, fires, move}
-use Rattle.grammar_machine.specs.Machine.{class, first, second}
 use Rattle.document_grammar.specs.Sentence.{Sentence}
+use Rattle.document_grammar.specs.Tree.{Token, leaf, node, none, ◌▸◌}
 use Rattle.grammar_machine.proofs.Endings.{spell}
 use Rattle.grammar_machine.proofs.Patterns.{label}
 use Rattle.grammar_machine.proofs.Worked.{walked, tree_read, is_read, is_refused, refused, AllWorked, NoSentences}
 use Rattle.grammar_machine.proofs.Worked.{works, fails, all_work, all_fail, is-sentence, all-worked, no-sentences}
+use Rattle.grammar_machine.proofs.generated.Labels.{labels}
+use Rattle.grammar_machine.proofs.generated.Samples.{spellings}
+use Rattle.grammar_machine.specs.Machine.{holds, is_leaf, at, ends, exit, arcs, has, target, entries, fires, move}
+use Rattle.grammar_machine.specs.Machine.{class, first, second}
+use Rattle.grammar_machine.specs.Table.{rows, firsts}
 
 -- All that reading computes with, under one name.
 unfoldable running : Unit {0}

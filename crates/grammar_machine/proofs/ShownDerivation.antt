@@ -1,30 +1,30 @@
 -- A tree of the tables is shown as a derivation, with the tokens of the tree.
 use Rattle.std.proofs.Common.{◌≡◌, ℕ, ◌+◌, Bool, true, false, cond, not, eqb, ltb, List, [], ◌∷◌, ◌++◌, refl, sym, ap}
 use Rattle.std.proofs.Common.{ap₂, ◌∙◌, subst, inl, inr, true≢false, eqb-true, append-nil}
-use Rattle.document_grammar.specs.Tree.{Text, Token, Tree, leaf, node, Forest, none, ◌▸◌, root}
-use Rattle.document_grammar.specs.Pattern.{Pattern, member, Matches}
-use Rattle.document_grammar.specs.Rows.{Row, bare_selections}
-use Rattle.document_grammar.specs.Kinds.{DOCUMENT, SELECTION_SET, L_CURLY, IDENT, STRING, WHITESPACE}
-use Rattle.document_grammar.specs.Choices.{Types, is_ignored}
-use Rattle.grammar_machine.specs.Table.{firsts, name_leaves}
-use Rattle.grammar_machine.proofs.generated.Labels.{paths, labels}
+use Rattle.document_grammar.proofs.Booleans.{false-true, and-l, and-r, or-c, not-c, either}
 use Rattle.document_grammar.specs.Booleans.{◌and◌, ◌or◌}
-use Rattle.grammar_machine.specs.Machine.{holds, is_leaf, target, opening, entries, fires, class, yield, yields, token}
-use Rattle.grammar_machine.specs.Machine.{finish, Ok, OkFrom, Path}
+use Rattle.document_grammar.specs.Choices.{Types, is_ignored}
 use Rattle.document_grammar.specs.Derivation.{kinds, Fits, AllFit, BareBy, Sort, document, selections, type, Derivation}
 use Rattle.document_grammar.specs.Derivation.{Spells, Yield, Yields}
+use Rattle.document_grammar.specs.Kinds.{DOCUMENT, SELECTION_SET, L_CURLY, IDENT, STRING, WHITESPACE}
+use Rattle.document_grammar.specs.Pattern.{Pattern, member, Matches}
+use Rattle.document_grammar.specs.Rows.{Row, bare_selections}
+use Rattle.document_grammar.specs.Tree.{Text, Token, Tree, leaf, node, Forest, none, ◌▸◌, root}
+use Rattle.grammar_machine.proofs.BraceRule.{brace-rule}
 use Rattle.grammar_machine.proofs.Checks.{all_below}
-use Rattle.document_grammar.proofs.Booleans.{false-true, and-l, and-r, or-c, not-c, either}
-use Rattle.grammar_machine.proofs.TableLemmas.{below-at}
-use Rattle.grammar_machine.proofs.Sound.{leaf-lt}
-use Rattle.grammar_machine.proofs.Patterns.{label, shown, pattern_of, symbol_row}
+use Rattle.grammar_machine.proofs.ConstantRule.{constant-rule, no-bare-selections}
 use Rattle.grammar_machine.proofs.FromMachineTree.{show, shows, build, type_of, row-shown, show-root, shown-root}
 use Rattle.grammar_machine.proofs.FromMachineTree.{node-symbols, labels-checked}
+use Rattle.grammar_machine.proofs.Patterns.{label, shown, pattern_of, symbol_row}
 use Rattle.grammar_machine.proofs.Rules.{labels-alone, name-rule, leaf-rule, start-pattern, symbol-row}
-use Rattle.grammar_machine.specs.Symbols.{TYPE, BARE_SELECTIONS}
-use Rattle.grammar_machine.proofs.ConstantRule.{constant-rule, no-bare-selections}
-use Rattle.grammar_machine.proofs.BraceRule.{brace-rule}
+use Rattle.grammar_machine.proofs.Sound.{leaf-lt}
+use Rattle.grammar_machine.proofs.TableLemmas.{below-at}
 use Rattle.grammar_machine.proofs.TypeRule.{type-fits}
+use Rattle.grammar_machine.proofs.generated.Labels.{paths, labels}
+use Rattle.grammar_machine.specs.Machine.{holds, is_leaf, target, opening, entries, fires, class, yield, yields, token}
+use Rattle.grammar_machine.specs.Machine.{finish, Ok, OkFrom, Path}
+use Rattle.grammar_machine.specs.Symbols.{TYPE, BARE_SELECTIONS}
+use Rattle.grammar_machine.specs.Table.{firsts, name_leaves}
 
 node-fits : (symbol : ℕ) (forest : Forest) → Ok (node symbol forest) → eqb symbol BARE_SELECTIONS ≡ false
     → AllFit (shows forest)

@@ -3,25 +3,25 @@ use Rattle.std.proofs.Common.{◌≡◌, ℕ, ◌+◌, ◌-◌, ◌^◌, ◌<◌
 use Rattle.std.proofs.Common.{sym, ap, ◌∙◌, subst, ◌⊎◌, inl, inr, append_assoc, append-nil, arith, add-zero, eqb-true}
 use Rattle.std.proofs.Common.{ltb-true, ◌≢◌}
 use Rattle.std.proofs.lemmas.Bool.{eqb-false}
-use Rattle.std.specs.Int.{bit_at}
 use Rattle.std.proofs.lemmas.Nat.Bits.{bit_at-pow_other}
-use Rattle.document_grammar.specs.Tree.{Text, Token, Tree, leaf, node, Forest, none, ◌▸◌, ◌+++◌, root}
-use Rattle.grammar_machine.specs.Table.{Entry, name_leaves, token_kinds}
-use Rattle.grammar_machine.proofs.generated.Follows.{name_classes}
+use Rattle.std.specs.Int.{bit_at}
+use Rattle.document_grammar.proofs.Booleans.{false-true, and-l, and-r, and-i, or-c, or-l, or-r, not-c, either, eqb-refl}
+use Rattle.document_grammar.proofs.Built.{forest-none}
 use Rattle.document_grammar.specs.Booleans.{◌and◌, ◌or◌}
+use Rattle.document_grammar.specs.Kinds.{words, DOCUMENT, IDENT, ERROR}
+use Rattle.document_grammar.specs.Tree.{Text, Token, Tree, leaf, node, Forest, none, ◌▸◌, ◌+++◌, root}
+use Rattle.grammar_machine.proofs.Checks.{subset, exits, all_entries, leaf-checked, leaf_entry}
+use Rattle.grammar_machine.proofs.Endings.{ending, okb, okb_from, fillable, fill_test, fill-checked, leaf_test}
+use Rattle.grammar_machine.proofs.Endings.{leaf-classes-checked, word_tests, words-checked, spell}
+use Rattle.grammar_machine.proofs.Run.{go-close, go-stuck, close-stuck, go-inj}
+use Rattle.grammar_machine.proofs.TableLemmas.{any-with, any-entry, any-more, begun_by, fires-any, text-same}
+use Rattle.grammar_machine.proofs.TableLemmas.{holds-subset, holds-disjoint, arc-test, exits-at, below-at}
+use Rattle.grammar_machine.proofs.generated.Follows.{name_classes}
 use Rattle.grammar_machine.specs.Machine.{holds, is_leaf, ends, exit, arcs, has, target, entries, fires, fires_in}
 use Rattle.grammar_machine.specs.Machine.{has_in, choose, go, close, move, class, word_class, text_eq, first, second}
 use Rattle.grammar_machine.specs.Machine.{token, yield, yields, finish, walk, Ok, OkFrom, Path, Frame, frame, Reach}
 use Rattle.grammar_machine.specs.Machine.{start, shift, open', closed}
-use Rattle.grammar_machine.proofs.Checks.{subset, exits, all_entries, leaf-checked, leaf_entry}
-use Rattle.document_grammar.proofs.Booleans.{false-true, and-l, and-r, and-i, or-c, or-l, or-r, not-c, either, eqb-refl}
-use Rattle.grammar_machine.proofs.TableLemmas.{any-with, any-entry, any-more, begun_by, fires-any, text-same}
-use Rattle.grammar_machine.proofs.TableLemmas.{holds-subset, holds-disjoint, arc-test, exits-at, below-at}
-use Rattle.grammar_machine.proofs.Run.{go-close, go-stuck, close-stuck, go-inj}
-use Rattle.document_grammar.proofs.Built.{forest-none}
-use Rattle.grammar_machine.proofs.Endings.{ending, okb, okb_from, fillable, fill_test, fill-checked, leaf_test}
-use Rattle.grammar_machine.proofs.Endings.{leaf-classes-checked, word_tests, words-checked, spell}
-use Rattle.document_grammar.specs.Kinds.{words, DOCUMENT, IDENT, ERROR}
+use Rattle.grammar_machine.specs.Table.{Entry, name_leaves, token_kinds}
 
 -- What a move says of the row.
 pub choose-has : (l : List (ℕ × ℕ)) (e : Bool) (near far child : ℕ) → choose l e near far ≡ go child

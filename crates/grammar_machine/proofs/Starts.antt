@@ -1,20 +1,20 @@
 -- Lists of terminals, and the start symbol that the first token chooses.
 use Rattle.std.proofs.Common.{◌≡◌, ℕ, true, false, eqb, List, [], ◌∷◌, ◌++◌, refl, ap₂, subst, inl, inr, eqb-true}
 use Rattle.std.proofs.lemmas.Bool.{eqb-false, true_from_ne_false, false_from_ne_true}
-use Rattle.document_grammar.specs.Tree.{Token, Tree, none}
-use Rattle.grammar_machine.specs.Table.{rows, firsts}
-use Rattle.document_grammar.specs.Derivation.{Sort, document, selections, type, Terminal, word, end, terminals}
-use Rattle.document_grammar.specs.Booleans.{◌and◌, ◌or◌}
-use Rattle.grammar_machine.specs.Machine.{holds, is_leaf, at, ends, arcs, entries, first, second, opening, start}
 use Rattle.document_grammar.proofs.Booleans.{either}
-use Rattle.grammar_machine.proofs.TableLemmas.{tail-same}
+use Rattle.document_grammar.specs.Booleans.{◌and◌, ◌or◌}
+use Rattle.document_grammar.specs.Derivation.{Sort, document, selections, type, Terminal, word, end, terminals}
+use Rattle.document_grammar.specs.Kinds.{SELECTION_SET, L_CURLY}
+use Rattle.document_grammar.specs.Tree.{Token, Tree, none}
+use Rattle.grammar_machine.proofs.Classes.{holds-but, only, but}
+use Rattle.grammar_machine.proofs.MachineTheorems.{begins_parse, Parse, document-begins, fragments-begin, never-stuck}
 use Rattle.grammar_machine.proofs.Sound.{any, first-any, second-any}
 use Rattle.grammar_machine.proofs.Steps.{sticks, sticks-move}
-use Rattle.grammar_machine.proofs.MachineTheorems.{begins_parse, Parse, document-begins, fragments-begin, never-stuck}
-use Rattle.grammar_machine.proofs.Classes.{holds-but, only, but}
+use Rattle.grammar_machine.proofs.TableLemmas.{tail-same}
 use Rattle.grammar_machine.proofs.ToMachineTree.{Opens}
-use Rattle.document_grammar.specs.Kinds.{SELECTION_SET, L_CURLY}
+use Rattle.grammar_machine.specs.Machine.{holds, is_leaf, at, ends, arcs, entries, first, second, opening, start}
 use Rattle.grammar_machine.specs.Symbols.{BARE_SELECTIONS}
+use Rattle.grammar_machine.specs.Table.{rows, firsts}
 
 -- Each start symbol begins a parse.
 pub opens : (sort : Sort) (a : ℕ) → begins_parse (opening sort a) ≡ true

@@ -2,13 +2,13 @@
 -- of classes that hold the next token and the one after it.
 use Rattle.std.proofs.Common.{◌≡◌, ℕ, Bool, true, false, cond, not, eqb, List, [], ◌∷◌, refl, sym, ◌∙◌, inl, inr}
 use Rattle.std.proofs.Common.{true≢false, eqb-true}
-use Rattle.grammar_machine.specs.Table.{Entry}
-use Rattle.document_grammar.specs.Booleans.{◌and◌, ◌or◌}
-use Rattle.grammar_machine.specs.Machine.{holds, ends, arcs, entries, fires, fires_in, choose, go, close, stuck, move}
-use Rattle.grammar_machine.proofs.Checks.{subset, disjoint, all_entries, any_entries}
 use Rattle.document_grammar.proofs.Booleans.{and-l, and-r, and-i, or-c, or-l, or-r, or-false, and-false-l, and-false-r}
 use Rattle.document_grammar.proofs.Booleans.{not-c, either}
+use Rattle.document_grammar.specs.Booleans.{◌and◌, ◌or◌}
+use Rattle.grammar_machine.proofs.Checks.{subset, disjoint, all_entries, any_entries}
 use Rattle.grammar_machine.proofs.TableLemmas.{any-more, no-entry, begun_by, fires-any, holds-subset, holds-disjoint}
+use Rattle.grammar_machine.specs.Machine.{holds, ends, arcs, entries, fires, fires_in, choose, go, close, stuck, move}
+use Rattle.grammar_machine.specs.Table.{Entry}
 
 -- No token pair of the sets begins `child`.
 abbrev pub misses : ℕ → ℕ → ℕ → Bool

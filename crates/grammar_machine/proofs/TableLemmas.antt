@@ -3,18 +3,18 @@ use Rattle.std.proofs.Common.{◌≡◌, ◌≢◌, ℕ, zero, suc, ◌+◌, ◌
 use Rattle.std.proofs.Common.{[], ◌∷◌, get_or, bit_or, refl, sym, ap, ap₂, subst, ◌⊎◌, inl, inr, true≢false, eqb-true}
 use Rattle.std.proofs.Common.{ltb-false, arith}
 use Rattle.std.proofs.lemmas.Bool.{eqb-false}
-use Rattle.std.specs.Int.{bit_at}
 use Rattle.std.proofs.lemmas.Nat.Bits.{bit_at_and, bit_at_or, bit_at-lt, bit_at-zero}
-use Rattle.document_grammar.specs.Booleans.{◌and◌, ◌or◌}
+use Rattle.std.specs.Int.{bit_at}
 use Rattle.document_grammar.proofs.Booleans.{and-l, and-r, and-i, or-c, or-l, or-r, or-false, implies, either}
+use Rattle.document_grammar.specs.Booleans.{◌and◌, ◌or◌}
+use Rattle.document_grammar.specs.Kinds.{DOCUMENT}
 use Rattle.document_grammar.specs.Tree.{Text, Tree, leaf, node, Forest, none, ◌▸◌, root}
-use Rattle.grammar_machine.specs.Table.{State, state, Entry, entry, rows}
+use Rattle.grammar_machine.proofs.Checks.{subset, disjoint, entries_mask, all_entries, any_entries, row_of, all_ends}
+use Rattle.grammar_machine.proofs.Checks.{exits, all_arcs, all_from, all_rows, every_state, every_arc, all_below}
 use Rattle.grammar_machine.specs.Machine.{holds, fires_in, text_eq, is_leaf, at, ends, exit, arcs, has, target, dead}
 use Rattle.grammar_machine.specs.Machine.{state_arcs, state_ends, state_exit, has_in, target_in, finish, walk, Ok}
 use Rattle.grammar_machine.specs.Machine.{OkFrom}
-use Rattle.grammar_machine.proofs.Checks.{subset, disjoint, entries_mask, all_entries, any_entries, row_of, all_ends}
-use Rattle.grammar_machine.proofs.Checks.{exits, all_arcs, all_from, all_rows, every_state, every_arc, all_below}
-use Rattle.document_grammar.specs.Kinds.{DOCUMENT}
+use Rattle.grammar_machine.specs.Table.{State, state, Entry, entry, rows}
 
 -- A test that holds of each number below n.
 pub below-at : (t : ℕ → Bool) (n leaf_symbol : ℕ) → leaf_symbol < n → all_below n t ≡ true → t leaf_symbol ≡ true

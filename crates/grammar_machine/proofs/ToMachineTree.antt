@@ -3,43 +3,43 @@ use Rattle.std.proofs.Common.{◌≡◌, ◌≢◌, ℕ, ◌+◌, ◌<◌, Bool,
 use Rattle.std.proofs.Common.{sym, ap, ap₂, ◌∙◌, subst, ◌⊎◌, inl, inr, true≢false, arith, eqb-true, append-nil}
 use Rattle.std.proofs.Common.{ltb-true, ltb-false, ◌≤◌}
 use Rattle.std.proofs.lemmas.Bool.{eqb-false, false_from_ne_true}
+use Rattle.document_grammar.proofs.Booleans.{false-true, and-l, and-r, or-c, or-l, or-r, or-false, or-false-l}
+use Rattle.document_grammar.proofs.Booleans.{or-false-r, not-c, either, same, same-bool, implies, eqb-refl}
 use Rattle.document_grammar.proofs.Keywords.{all_words, listed-at}
-use Rattle.document_grammar.specs.Tree.{Text, Tree, leaf, node, Forest, none, ◌▸◌, root}
-use Rattle.document_grammar.specs.Pattern.{Pattern, any_of, one, member, Matches}
-use Rattle.document_grammar.specs.Rows.{Row, keyword_operation}
-use Rattle.document_grammar.specs.Kinds.{words, WHITESPACE, ERROR, DOCUMENT, OPERATION_DEFINITION, SELECTION_SET, NAME}
-use Rattle.document_grammar.specs.Kinds.{FRAGMENT_NAME, DIRECTIVES, VARIABLE, DEFAULT_VALUE, ENUM_VALUE, NON_NULL_TYPE}
-use Rattle.document_grammar.specs.Kinds.{IDENT, STRING}
-use Rattle.document_grammar.specs.Choices.{Types}
-use Rattle.grammar_machine.specs.Table.{rows, firsts, name_leaves, token_kinds}
-use Rattle.grammar_machine.proofs.generated.Samples.{endings, spellings}
-use Rattle.grammar_machine.proofs.generated.Labels.{paths, labels}
+use Rattle.document_grammar.proofs.Nullable.{nullable-to}
 use Rattle.document_grammar.specs.Booleans.{◌and◌, ◌or◌}
-use Rattle.grammar_machine.specs.Machine.{holds, is_leaf, at, ends, exit, arcs, has, has_in, target, entries, fires}
-use Rattle.grammar_machine.specs.Machine.{class, word_class, text_eq, token, finish, Ok, OkFrom}
+use Rattle.document_grammar.specs.Choices.{Types}
 use Rattle.document_grammar.specs.Derivation.{kinds, text, texts, LeafRule, NameRule, on_text, true_text, false_text}
 use Rattle.document_grammar.specs.Derivation.{null_text, NoVariable, NoVariables, HasConstantDirectives}
 use Rattle.document_grammar.specs.Derivation.{ConstantDirectives, ConstantRule, LacksBlock, NotBefore, BraceRule}
 use Rattle.document_grammar.specs.Derivation.{IsQuery, Fits, AllFit, BareBy, Sort, document, selections, type}
 use Rattle.document_grammar.specs.Derivation.{Derivation}
+use Rattle.document_grammar.specs.Kinds.{words, WHITESPACE, ERROR, DOCUMENT, OPERATION_DEFINITION, SELECTION_SET, NAME}
+use Rattle.document_grammar.specs.Kinds.{FRAGMENT_NAME, DIRECTIVES, VARIABLE, DEFAULT_VALUE, ENUM_VALUE, NON_NULL_TYPE}
+use Rattle.document_grammar.specs.Kinds.{IDENT, STRING}
+use Rattle.document_grammar.specs.Pattern.{Pattern, any_of, one, member, Matches}
+use Rattle.document_grammar.specs.Rows.{Row, keyword_operation}
+use Rattle.document_grammar.specs.Tree.{Text, Tree, leaf, node, Forest, none, ◌▸◌, root}
+use Rattle.grammar_machine.proofs.BraceRule.{document-arc, finish-lacks}
 use Rattle.grammar_machine.proofs.Checks.{every_arc, all_below}
-use Rattle.document_grammar.proofs.Booleans.{false-true, and-l, and-r, or-c, or-l, or-r, or-false, or-false-l}
-use Rattle.document_grammar.proofs.Booleans.{or-false-r, not-c, either, same, same-bool, implies, eqb-refl}
-use Rattle.grammar_machine.proofs.TableLemmas.{text-same, arc-test, head-same, tail-same, no-cons, below-at}
 use Rattle.grammar_machine.proofs.Endings.{ending, fillable}
-use Rattle.grammar_machine.proofs.Sound.{leaf-lt, fill-after, fill-start, fillable-ok}
-use Rattle.document_grammar.proofs.Nullable.{nullable-to}
-use Rattle.grammar_machine.proofs.Patterns.{all_kinds, deriv, pattern_of, symbol_row, type_row, label, shown, any_arcs}
-use Rattle.grammar_machine.proofs.Patterns.{constant, agree_at, to-deriv, first-kind, never-none, pattern_eq}
 use Rattle.grammar_machine.proofs.FromMachineTree.{kinds-at, pattern-same, show, shows, type_of, show-root, Live, agree}
 use Rattle.grammar_machine.proofs.FromMachineTree.{agree-ends, agree-arc, agree-kind, has-live, ends-live, leaf-no-type}
 use Rattle.grammar_machine.proofs.FromMachineTree.{node-symbols, labels-checked}
-use Rattle.grammar_machine.proofs.BraceRule.{document-arc, finish-lacks}
-use Rattle.grammar_machine.proofs.TypeRule.{type-first, type-pattern}
-use Rattle.grammar_machine.proofs.ShownDerivation.{bare-pattern}
+use Rattle.grammar_machine.proofs.Patterns.{all_kinds, deriv, pattern_of, symbol_row, type_row, label, shown, any_arcs}
+use Rattle.grammar_machine.proofs.Patterns.{constant, agree_at, to-deriv, first-kind, never-none, pattern_eq}
 use Rattle.grammar_machine.proofs.Rules.{start-pattern, keyword-class}
+use Rattle.grammar_machine.proofs.ShownDerivation.{bare-pattern}
+use Rattle.grammar_machine.proofs.Sound.{leaf-lt, fill-after, fill-start, fillable-ok}
+use Rattle.grammar_machine.proofs.TableLemmas.{text-same, arc-test, head-same, tail-same, no-cons, below-at}
+use Rattle.grammar_machine.proofs.TypeRule.{type-first, type-pattern}
+use Rattle.grammar_machine.proofs.generated.Labels.{paths, labels}
+use Rattle.grammar_machine.proofs.generated.Samples.{endings, spellings}
+use Rattle.grammar_machine.specs.Machine.{holds, is_leaf, at, ends, exit, arcs, has, has_in, target, entries, fires}
+use Rattle.grammar_machine.specs.Machine.{class, word_class, text_eq, token, finish, Ok, OkFrom}
 use Rattle.grammar_machine.specs.Symbols.{TYPE, SHORT_QUERY, IDENT_FOR_FRAGMENT, IDENT_FOR_ENUM, NAME_FOR_FRAGMENT}
 use Rattle.grammar_machine.specs.Symbols.{NAME_FOR_ENUM, BARE_SELECTIONS, DIRECTIVES_CONST, OBJECT_FIELD_CONST}
+use Rattle.grammar_machine.specs.Table.{rows, firsts, name_leaves, token_kinds}
 
 -- Symbols in constant places, and of names that refuse some words, with the nodes that hold them.
 abbrev in_constant : ℕ → Bool

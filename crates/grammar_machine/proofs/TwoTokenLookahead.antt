@@ -2,22 +2,22 @@
 use Rattle.std.proofs.Common.{◌≡◌, ℕ, ◌+◌, Bool, true, false, not, eqb, List, [], ◌∷◌, ◌++◌, refl, sym, ap, ◌∙◌, subst}
 use Rattle.std.proofs.Common.{◌⊎◌, inl, inr, true≢false, append_assoc, eqb-true, ltb-true}
 use Rattle.std.proofs.lemmas.Bool.{false_from_ne_true}
-use Rattle.document_grammar.specs.Tree.{Text, Token, Tree, leaf, node, Forest, none, ◌▸◌, root}
-use Rattle.grammar_machine.specs.Table.{Entry}
+use Rattle.document_grammar.proofs.Booleans.{false-true, and-l, and-r, and-i, or-c, or-l, or-r, or-false, and-false-l}
+use Rattle.document_grammar.proofs.Booleans.{and-false-r, implies, not-c, either}
 use Rattle.document_grammar.specs.Booleans.{◌and◌, ◌or◌}
-use Rattle.grammar_machine.specs.Machine.{holds, is_leaf, at, ends, exit, arcs, has, target, entries, fires, fires_in}
-use Rattle.grammar_machine.specs.Machine.{has_in, target_in, choose, go, close, move, class, first, second, token}
-use Rattle.grammar_machine.specs.Machine.{yield, yields, finish, walk, Ok, OkFrom, Run, RunFrom}
+use Rattle.document_grammar.specs.Kinds.{DOCUMENT}
+use Rattle.document_grammar.specs.Tree.{Text, Token, Tree, leaf, node, Forest, none, ◌▸◌, root}
 use Rattle.grammar_machine.proofs.Checks.{subset, disjoint, entries_mask, arcs_mask, follow, exits, all_arcs}
 use Rattle.grammar_machine.proofs.Checks.{all_entries, any_entries, state_begins, follow_test, close_test, clear}
 use Rattle.grammar_machine.proofs.Checks.{differ, choice_arcs, choice_test, covered, first_arc, first_test, leaf_entry}
 use Rattle.grammar_machine.proofs.Checks.{follow-checked, close-checked, choice-checked, first-checked, leaf-checked}
-use Rattle.document_grammar.proofs.Booleans.{false-true, and-l, and-r, and-i, or-c, or-l, or-r, or-false, and-false-l}
-use Rattle.document_grammar.proofs.Booleans.{and-false-r, implies, not-c, either}
 use Rattle.grammar_machine.proofs.TableLemmas.{any-with, any-entry, any-more, no-entry, begun_by, fires-any, holds-mask}
 use Rattle.grammar_machine.proofs.TableLemmas.{holds-subset, holds-disjoint, holds-or, arcs-at, row-test, state-test}
 use Rattle.grammar_machine.proofs.TableLemmas.{arc-test, exits-at, below-at}
-use Rattle.document_grammar.specs.Kinds.{DOCUMENT}
+use Rattle.grammar_machine.specs.Machine.{holds, is_leaf, at, ends, exit, arcs, has, target, entries, fires, fires_in}
+use Rattle.grammar_machine.specs.Machine.{has_in, target_in, choose, go, close, move, class, first, second, token}
+use Rattle.grammar_machine.specs.Machine.{yield, yields, finish, walk, Ok, OkFrom, Run, RunFrom}
+use Rattle.grammar_machine.specs.Table.{Entry}
 
 -- The second token of a list fits an entry.
 abbrev second_fits : Bool → ℕ → List Token → Bool

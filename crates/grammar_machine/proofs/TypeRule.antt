@@ -2,21 +2,21 @@
 -- which fits its row.
 use Rattle.std.proofs.Common.{◌≡◌, ℕ, ◌+◌, true, eqb, List, ◌∷◌, ◌++◌, refl, sym, ap₂, ◌∙◌, subst, inl, inr, arith}
 use Rattle.std.proofs.Common.{eqb-true}
-use Rattle.document_grammar.specs.Tree.{Tree, Forest, none, ◌▸◌, root}
+use Rattle.document_grammar.proofs.Booleans.{false-true}
+use Rattle.document_grammar.specs.Booleans.{◌and◌, ◌or◌}
+use Rattle.document_grammar.specs.Derivation.{kinds, NameRule, ConstantRule, BraceRule, Fits, AllFit}
+use Rattle.document_grammar.specs.Kinds.{DOCUMENT, NON_NULL_TYPE}
 use Rattle.document_grammar.specs.Pattern.{Pattern, member, Matches}
 use Rattle.document_grammar.specs.Rows.{Row}
-use Rattle.document_grammar.specs.Kinds.{DOCUMENT, NON_NULL_TYPE}
-use Rattle.grammar_machine.specs.Table.{rows}
-use Rattle.grammar_machine.proofs.generated.Labels.{paths, labels}
-use Rattle.document_grammar.specs.Booleans.{◌and◌, ◌or◌}
-use Rattle.grammar_machine.specs.Machine.{is_leaf, at, arcs, has, target, finish, Ok, OkFrom}
-use Rattle.document_grammar.specs.Derivation.{kinds, NameRule, ConstantRule, BraceRule, Fits, AllFit}
+use Rattle.document_grammar.specs.Tree.{Tree, Forest, none, ◌▸◌, root}
 use Rattle.grammar_machine.proofs.Checks.{all_arcs, exits}
-use Rattle.document_grammar.proofs.Booleans.{false-true}
-use Rattle.grammar_machine.proofs.TableLemmas.{tail-same, no-cons, arcs-at, exits-at}
-use Rattle.grammar_machine.proofs.Patterns.{label, pattern_of, symbol_row, type_row}
 use Rattle.grammar_machine.proofs.FromMachineTree.{type-end, show, shows, type_of, row-shown, node-symbols}
+use Rattle.grammar_machine.proofs.Patterns.{label, pattern_of, symbol_row, type_row}
+use Rattle.grammar_machine.proofs.TableLemmas.{tail-same, no-cons, arcs-at, exits-at}
+use Rattle.grammar_machine.proofs.generated.Labels.{paths, labels}
+use Rattle.grammar_machine.specs.Machine.{is_leaf, at, arcs, has, target, finish, Ok, OkFrom}
 use Rattle.grammar_machine.specs.Symbols.{TYPE}
+use Rattle.grammar_machine.specs.Table.{rows}
 
 type-arcs : all_arcs (arcs TYPE 0) (λ k q. exits k (λ x. eqb (q + x) 1)) ≡ true
 unfolding arcs at rows exits is_leaf ◌and◌ ◌or◌

@@ -2,29 +2,29 @@
 use Rattle.std.proofs.Common.{◌≡◌, ℕ, zero, suc, ◌+◌, Bool, true, false, cond, List, [], ◌∷◌, ◌++◌, refl, sym, ◌∙◌}
 use Rattle.std.proofs.Common.{subst, inl, inr, true≢false, append-nil, eqb, ltb, not, map, ap, eqb-true, ltb-true}
 use Rattle.std.proofs.lemmas.List.{append_cancel_right}
-use Rattle.document_grammar.specs.Tree.{Token, Tree, leaf, node, Forest, none, ◌▸◌, ◌+++◌}
-use Rattle.document_grammar.specs.Derivation.{Sort, Spells, nest}
-use Rattle.document_grammar.specs.Beginnings.{Starts}
-use Rattle.document_grammar.specs.Booleans.{◌or◌, ◌and◌}
-use Rattle.grammar_machine.specs.Machine.{is_leaf, exit, target, Move, go, close, stuck, first, yields, Frame, frame}
-use Rattle.grammar_machine.specs.Machine.{Reach, start, shift, open', closed}
-use Rattle.document_grammar.proofs.Booleans.{either, or-c, and-l, and-r, not-c, false-true}
-use Rattle.grammar_machine.proofs.Run.{is_stuck, next}
-use Rattle.grammar_machine.proofs.FromMachineTree.{show}
-use Rattle.grammar_machine.proofs.Sound.{reach-sound}
-use Rattle.grammar_machine.proofs.MachineTheorems.{fault, no-leaf}
-use Rattle.grammar_machine.proofs.Starts.{opens, read, next_two}
-use Rattle.grammar_machine.proofs.SentenceTheorems.{start_symbol, FaultIn, Ended, sound, sound-all, accepts, not-starts}
-use Rattle.std.specs.Prelude.{codes}
-use Prim.Native.String.{String}
-use Rattle.std.specs.Str.{IsAscii}
 use Rattle.std.proofs.lemmas.Str.{IsUtf8-from_ascii}
 use Rattle.std.proofs.lemmas.Str.Ascii.{IsAscii-nil, IsAscii-cons}
+use Rattle.std.specs.Prelude.{codes}
+use Rattle.std.specs.Str.{IsAscii}
+use Prim.Native.String.{String}
+use Rattle.lexical_grammar.proofs.TheCut.{is-cut}
 use Rattle.lexical_grammar.specs.Cut.{Item, Cut, Significant, are_tokens}
 use Rattle.lexical_grammar.specs.Reads.{items_of}
-use Rattle.lexical_grammar.proofs.TheCut.{is-cut}
-use Rattle.document_grammar.specs.Sentence.{token_of, Sentence}
+use Rattle.document_grammar.proofs.Booleans.{either, or-c, and-l, and-r, not-c, false-true}
 use Rattle.document_grammar.proofs.Texts.{one-cut}
+use Rattle.document_grammar.specs.Beginnings.{Starts}
+use Rattle.document_grammar.specs.Booleans.{◌or◌, ◌and◌}
+use Rattle.document_grammar.specs.Derivation.{Sort, Spells, nest}
+use Rattle.document_grammar.specs.Sentence.{token_of, Sentence}
+use Rattle.document_grammar.specs.Tree.{Token, Tree, leaf, node, Forest, none, ◌▸◌, ◌+++◌}
+use Rattle.grammar_machine.proofs.FromMachineTree.{show}
+use Rattle.grammar_machine.proofs.MachineTheorems.{fault, no-leaf}
+use Rattle.grammar_machine.proofs.Run.{is_stuck, next}
+use Rattle.grammar_machine.proofs.SentenceTheorems.{start_symbol, FaultIn, Ended, sound, sound-all, accepts, not-starts}
+use Rattle.grammar_machine.proofs.Sound.{reach-sound}
+use Rattle.grammar_machine.proofs.Starts.{opens, read, next_two}
+use Rattle.grammar_machine.specs.Machine.{is_leaf, exit, target, Move, go, close, stuck, first, yields, Frame, frame}
+use Rattle.grammar_machine.specs.Machine.{Reach, start, shift, open', closed}
 
 abbrev Config : Type 0
 Config = List Frame × List Token

@@ -1,13 +1,13 @@
 -- The machine that reads a list of significant tokens by the rows, with two tokens of lookahead.
+use Rattle.std.specs.Int.{bit_at}
 use Rattle.std.specs.Prelude.{◌≡◌, ℕ, ◌+◌, ◌-◌, Bool, true, false, cond, eqb, ltb, List, [], ◌∷◌, ◌++◌, get_or, IsTrue}
 use Rattle.std.specs.Prelude.{IsFalse}
-use Rattle.std.specs.Int.{bit_at}
 use Rattle.document_grammar.specs.Booleans.{◌and◌, ◌or◌}
-use Rattle.document_grammar.specs.Tree.{Text, Token, Tree, leaf, node, Forest, none, ◌▸◌, ◌+++◌, root}
 use Rattle.document_grammar.specs.Derivation.{Sort, document, selections, type}
-use Rattle.grammar_machine.specs.Table.{State, state, Entry, entry, rows, firsts, name_leaves, token_kinds}
 use Rattle.document_grammar.specs.Kinds.{ERROR, L_CURLY, IDENT, words, SELECTION_SET, DOCUMENT}
+use Rattle.document_grammar.specs.Tree.{Text, Token, Tree, leaf, node, Forest, none, ◌▸◌, ◌+++◌, root}
 use Rattle.grammar_machine.specs.Symbols.{TYPE, BARE_SELECTIONS}
+use Rattle.grammar_machine.specs.Table.{State, state, Entry, entry, rows, firsts, name_leaves, token_kinds}
 
 -- Sets of classes are numbers: bit `a` says that the class `a` is in it.
 unfoldable pub holds : ℕ → ℕ → Bool

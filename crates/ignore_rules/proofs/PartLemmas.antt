@@ -1,10 +1,10 @@
 -- The parts of a text, one after another.
 use Rattle.std.proofs.Common.{◌≡◌, ℕ, suc, ◌+◌, ◌<◌, ◌≤◌, Bool, List, [], ◌∷◌, length, take, drop, Option, Some, None}
 use Rattle.std.proofs.Common.{Bor, refl, ap, arith, inl, inr, subst, ltb}
-use Rattle.std.specs.Prelude.{◌==◌, MatchOption}
 use Rattle.std.proofs.lemmas.Bool.{cases_Bool, ltb-true, ltb-false}
 use Rattle.std.proofs.lemmas.List.Splits.{slice_split_first}
 use Rattle.std.specs.List.{position, position_or_len, slice_split, onto_first}
+use Rattle.std.specs.Prelude.{◌==◌, MatchOption}
 use Rattle.ignore_rules.specs.Parts.{parts}
 
 -- what is left of a text, if anything is, and its parts

@@ -2,10 +2,10 @@
 use Rattle.std.proofs.Common.{◌≡◌, ℕ, suc, Bool, true, false, List, [], ◌∷◌, ◌++◌, drop, length, Option, Some, None}
 use Rattle.std.proofs.Common.{refl, sym, ap, ◌∙◌, append_assoc, append-nil}
 use Rattle.std.specs.Prelude.{option_map}
-use Rattle.ignore_rules.specs.declared.pattern.Range.{Range}
 use Rattle.ignore_rules.specs.Fits.{Sign, none_of, one_of}
 use Rattle.ignore_rules.specs.Reading.{Front, IsPut, closes_at, ends_name, is_inverse, joined, range_in, ranges_in}
 use Rattle.ignore_rules.specs.Reading.{set_in, sign_in, signs_in, with_range}
+use Rattle.ignore_rules.specs.declared.pattern.Range.{Range}
 
 with_one : (before : List Range) (range : Range) (rest : Option (Front (List Range)))
     → option_map (joined before) (option_map (with_range range) rest) ≡ option_map (joined (before ++ range ∷ [])) rest

@@ -1,7 +1,7 @@
 -- Rules, one after another.
 use Rattle.std.proofs.Common.{◌≡◌, ℕ, List, [], ◌∷◌, ◌++◌, map, Option, Some, None, sym, ap, ◌∙◌, append_assoc}
-use Rattle.std.specs.List.{cons_option, filter_map}
 use Rattle.std.proofs.lemmas.List.{map-append}
+use Rattle.std.specs.List.{cons_option, filter_map}
 use Rattle.ignore_rules.specs.Fits.{Sign}
 use Rattle.ignore_rules.specs.Lines.{Rule, rule_of}
 

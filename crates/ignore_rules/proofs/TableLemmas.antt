@@ -2,10 +2,10 @@
 use Rattle.std.proofs.Common.{◌≡◌, ℕ, zero, suc, ◌+◌, ◌-◌, ◌<◌, ◌≤◌, ◌≢◌, Bool, true, false, List, [], ◌∷◌, length}
 use Rattle.std.proofs.Common.{drop, get_or, set, map, ◌⊎◌, refl, sym, ap, ◌∙◌, subst, arith, inl, inr, get_or-set_other}
 use Rattle.std.proofs.Common.{get_or-set_same, below_more, ◌&&◌, ◌||◌, not}
+use Rattle.std.proofs.Math.Bool.{and-false}
 use Rattle.std.proofs.lemmas.Bool.{cases_eq, cases_lt, eq-eqb, ne_eqb}
 use Rattle.std.proofs.lemmas.Bool.Decides.{nat_tests}
 use Rattle.std.proofs.lemmas.List.{at_drop_all, at_drop_more, drop-drop, drop_more, length-drop}
-use Rattle.std.proofs.Math.Bool.{and-false}
 use Rattle.std.specs.Prelude.{◌==◌}
 use Rattle.ignore_rules.specs.Fits.{Sign, byte, one, one_of, none_of, many, folders, nothing, takes, after_byte}
 use Rattle.ignore_rules.specs.Fits.{after_bytes, after_slash, after_sign, fits}

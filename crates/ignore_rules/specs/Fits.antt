@@ -1,6 +1,6 @@
 -- Which paths a pattern fits (gitignore(5), "PATTERN FORMAT").
-use Rattle.std.specs.Prelude.{◌==◌, ◌&&◌, ◌||◌, not, nat_le, ℕ, Bool, false, List, [], ◌∷◌, length}
 use Rattle.std.specs.List.{list_any}
+use Rattle.std.specs.Prelude.{◌==◌, ◌&&◌, ◌||◌, not, nat_le, ℕ, Bool, false, List, [], ◌∷◌, length}
 use Rattle.ignore_rules.specs.declared.pattern.Range.{Range}
 use Rattle.ignore_rules.specs.declared.pattern.Sign as declared
 use Rattle.ignore_rules.specs.declared.pattern.Sign.TheVariants as sign

@@ -1,10 +1,10 @@
 -- What the rules of an ignore file leave out (gitignore(5), "PATTERN FORMAT").
 use Rattle.std.specs.Prelude.{◌==◌, ◌&&◌, ◌||◌, ◌++◌, not, ℕ, Bool, true, false, List, [], ◌∷◌, map, Option, Some, None}
 use Rattle.std.specs.Prelude.{if◌then◌else◌}
-use Rattle.ignore_rules.specs.declared.rules.Rules.{Rules}
 use Rattle.ignore_rules.specs.Fits.{fits}
 use Rattle.ignore_rules.specs.Lines.{Rule, as_rule}
 use Rattle.ignore_rules.specs.Paths.{inner_path}
+use Rattle.ignore_rules.specs.declared.rules.Rules.{Rules}
 
 abbrev pub as_rules : {A : Type 0} → Rules A → List Rule
 as_rules rules = map as_rule rules.rules.items

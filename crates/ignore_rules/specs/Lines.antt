@@ -1,12 +1,12 @@
 -- The lines of an ignore file (gitignore(5), "PATTERN FORMAT").
+use Rattle.std.specs.List.{starts_with, ends_with, list_any, suffix_len}
 use Rattle.std.specs.Prelude.{◌==◌, ◌++◌, ◌+◌, ◌-◌, ◌%◌, eqb, ℕ, Bool, true, false, List, [], ◌∷◌, length, take, drop}
 use Rattle.std.specs.Prelude.{map, codes, Option, Some, None, filter_map, if◌then◌else◌}
-use Rattle.std.specs.List.{starts_with, ends_with, list_any, suffix_len}
-use Rattle.ignore_rules.specs.declared.lines.Rule as declared
 use Rattle.ignore_rules.specs.Fits.{Sign, byte, folders, as_sign}
-use Rattle.ignore_rules.specs.Paths.{before_names, inner_path}
 use Rattle.ignore_rules.specs.Parts.{parts}
+use Rattle.ignore_rules.specs.Paths.{before_names, inner_path}
 use Rattle.ignore_rules.specs.Reading.{signs_of}
+use Rattle.ignore_rules.specs.declared.lines.Rule as declared
 
 -- A pattern's rule: whether it takes back what rules before it leave out, and whether it is about folders alone.
 pub record Rule : Type 0 where

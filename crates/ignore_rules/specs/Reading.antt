@@ -1,10 +1,10 @@
 -- The signs of a pattern, by its bytes (gitignore(5), "PATTERN FORMAT"; sets of bytes as in glob(7)).
+use Rattle.std.specs.List.{starts_with}
 use Rattle.std.specs.Prelude.{◌≡◌, ◌==◌, ◌&&◌, ◌||◌, ◌++◌, not, eqb, ℕ, zero, suc, Bool, true, false, List, [], ◌∷◌}
 use Rattle.std.specs.Prelude.{length, drop, codes, bytes_eq, Option, Some, None, option_map, option_and_then}
 use Rattle.std.specs.Prelude.{if◌then◌else◌}
-use Rattle.std.specs.List.{starts_with}
-use Rattle.ignore_rules.specs.declared.pattern.Range.{Range}
 use Rattle.ignore_rules.specs.Fits.{Sign, byte, one, one_of, none_of, many, folders, nothing}
+use Rattle.ignore_rules.specs.declared.pattern.Range.{Range}
 
 -- something at the beginning of a text, and what follows it
 pub record Front (X : Type 0) : Type 0 where

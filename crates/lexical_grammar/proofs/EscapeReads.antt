@@ -1,23 +1,23 @@
 -- An escape at the front of a text, form by form: how long it is, and which character it represents.
 use Rattle.std.proofs.Common.{◌≡◌, ℕ, ◌+◌, ◌-◌, ◌<◌, ◌≤◌, Bool, true, false, cond, List, [], ◌∷◌, length, take, drop}
 use Rattle.std.proofs.Common.{min, nat_lt, Some, None, refl, sym, ap, ◌∙◌, subst, inl, inr, arith, length-append}
-use Rattle.std.specs.Prelude.{slice_index, is_some, ◌&&◌, encode_utf8}
-use Rattle.std.specs.Char.{IsScalar}
-use Rattle.std.specs.Char.Utf16.{is_high_surrogate, is_low_surrogate, surrogate_pair_char}
-use Rattle.std.specs.List.{list_all, prefix_len}
-use lib.Utf8.{scalar}
 use Rattle.std.proofs.lemmas.Bool.{and_parts, cases_lt, lt-ltb, false_from_ne_true}
 use Rattle.std.proofs.lemmas.Bool.Decides.{nat_tests}
 use Rattle.std.proofs.lemmas.List.{take_rest}
-use Rattle.lexical_grammar.specs.Characters.{is_hex_digit}
-use Rattle.lexical_grammar.specs.Strings.{hex_value, begins, escaped_character}
-use Rattle.lexical_grammar.specs.Reads.{begins_fixed_escape, fixed_value, begins_braced_escape, braced_digits_len}
-use Rattle.lexical_grammar.specs.Reads.{string_character_len, string_character_value}
-use Rattle.lexical_grammar.specs.Escapes.{IsFixedValue, IsEscape}
-use Rattle.lexical_grammar.proofs.Runs.{run-passes}
+use Rattle.std.specs.Char.{IsScalar}
+use Rattle.std.specs.Char.Utf16.{is_high_surrogate, is_low_surrogate, surrogate_pair_char}
+use Rattle.std.specs.List.{list_all, prefix_len}
+use Rattle.std.specs.Prelude.{slice_index, is_some, ◌&&◌, encode_utf8}
+use lib.Utf8.{scalar}
 use Rattle.lexical_grammar.proofs.HexReads.{rest-digits, scalar-least, second-fails}
+use Rattle.lexical_grammar.proofs.Runs.{run-passes}
 use Rattle.lexical_grammar.proofs.StringReads.{no_brace}
 use Rattle.lexical_grammar.proofs.StringSound.{begins-is, fixed-front, character-sound}
+use Rattle.lexical_grammar.specs.Characters.{is_hex_digit}
+use Rattle.lexical_grammar.specs.Escapes.{IsFixedValue, IsEscape}
+use Rattle.lexical_grammar.specs.Reads.{begins_fixed_escape, fixed_value, begins_braced_escape, braced_digits_len}
+use Rattle.lexical_grammar.specs.Reads.{string_character_len, string_character_value}
+use Rattle.lexical_grammar.specs.Strings.{hex_value, begins, escaped_character}
 
 -- a text that begins with a backslash
 slashed : (P : List ℕ → Type 0) (text : List ℕ) → slice_index text 0 ≡ 92 → ((bs : List ℕ) → P (92 ∷ bs)) → P text

@@ -1,22 +1,22 @@
 -- Tokens that may follow one another directly are the cut of their joined texts.
 use Rattle.std.proofs.Common.{inl, inr, ◌≡◌, ℕ, ◌+◌, ◌≢◌, true, false, List, [], ◌∷◌, ◌++◌, length, Some, refl, sym, ap}
 use Rattle.std.proofs.Common.{subst, arith, get_or, eqb}
-use Rattle.std.specs.Prelude.{not, bytes_eq}
 use Rattle.std.proofs.lemmas.Bool.{and_parts, cases_Bool}
 use Rattle.std.proofs.lemmas.Bool.Decides.{nat_tests}
-use Rattle.lexical_grammar.specs.declared.TokenKind.{TokenKind}
-use Rattle.lexical_grammar.specs.declared.TokenKind.TheVariants.{Whitespace, Comment, Name, StringValue, Int, Float}
-use Rattle.lexical_grammar.specs.Characters.{is_name_continue}
-use Rattle.lexical_grammar.specs.Tokens.{Tok}
-use Rattle.lexical_grammar.specs.Strings.{begins}
-use Rattle.lexical_grammar.specs.Cut.{may_follow, Stands, CutFrom, Cut, Word, texts, are_tokens}
-use Rattle.lexical_grammar.specs.Begins.{is_whitespace}
-use Rattle.lexical_grammar.specs.Reads.{blanks_len}
-use Rattle.lexical_grammar.proofs.TokenReads.{goes_on}
-use Rattle.lexical_grammar.proofs.Standing.{stands, read}
+use Rattle.std.specs.Prelude.{not, bytes_eq}
 use Rattle.lexical_grammar.proofs.Cuts.{tok-some, before-others, not-blank, follow-end}
+use Rattle.lexical_grammar.proofs.Standing.{stands, read}
+use Rattle.lexical_grammar.proofs.TokenReads.{goes_on}
+use Rattle.lexical_grammar.specs.Begins.{is_whitespace}
+use Rattle.lexical_grammar.specs.Characters.{is_name_continue}
+use Rattle.lexical_grammar.specs.Cut.{may_follow, Stands, CutFrom, Cut, Word, texts, are_tokens}
 use Rattle.lexical_grammar.specs.Edges.{edge_of, may_touch, touches, AreTokens, are_apart, joined, items_at}
 use Rattle.lexical_grammar.specs.Kept.{kept_word, kept, Kept, Holds}
+use Rattle.lexical_grammar.specs.Reads.{blanks_len}
+use Rattle.lexical_grammar.specs.Strings.{begins}
+use Rattle.lexical_grammar.specs.Tokens.{Tok}
+use Rattle.lexical_grammar.specs.declared.TokenKind.{TokenKind}
+use Rattle.lexical_grammar.specs.declared.TokenKind.TheVariants.{Whitespace, Comment, Name, StringValue, Int, Float}
 
 -- what follows the token is allowed
 follows-byte : (kind next : TokenKind) (text : List ℕ) (b : ℕ) (after : List ℕ)

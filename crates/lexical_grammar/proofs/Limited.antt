@@ -1,14 +1,14 @@
 -- What a limited reader of items answers: the first items, as many as are allowed, and where there are more the limit.
 use Rattle.std.proofs.Common.{◌≡◌, ℕ, zero, suc, ◌<◌, ◌≤◌, true, List, [], ◌∷◌, ◌++◌, length, take, Option, Some, None}
 use Rattle.std.proofs.Common.{refl, sym, ap, ◌∙◌, arith, subst}
-use Rattle.std.specs.Prelude.{map}
 use Rattle.std.specs.List.{list_all}
-use Rattle.lexical_grammar.specs.declared.TokenKind.{TokenKind}
-use Rattle.lexical_grammar.specs.declared.TokenKind.TheVariants.{Eof}
-use Rattle.lexical_grammar.specs.Tokens.{Tok}
-use Rattle.lexical_grammar.specs.Cut.{Item, IsItem, CutFrom, Cut, texts}
+use Rattle.std.specs.Prelude.{map}
 use Rattle.lexical_grammar.specs.Answers.{Answer, gives, limit_at, limited, is_given, is_end, IsTokenText, IsItemText}
 use Rattle.lexical_grammar.specs.Answers.{IsLast, AreAnswers, answers_text}
+use Rattle.lexical_grammar.specs.Cut.{Item, IsItem, CutFrom, Cut, texts}
+use Rattle.lexical_grammar.specs.Tokens.{Tok}
+use Rattle.lexical_grammar.specs.declared.TokenKind.{TokenKind}
+use Rattle.lexical_grammar.specs.declared.TokenKind.TheVariants.{Eof}
 
 pub limited-end : (allowed : ℕ) → limited allowed [] ≡ []
 limited-end zero = refl

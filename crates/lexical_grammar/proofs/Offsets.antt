@@ -2,12 +2,12 @@
 use Rattle.std.proofs.Common.{◌≡◌, ℕ, ◌+◌, ◌<◌, List, [], ◌∷◌, ◌++◌, length, take, drop, Option, Some, None, refl, sym}
 use Rattle.std.proofs.Common.{ap, ◌∙◌, subst, arith, length-append, length-drop, length-take-le}
 use Rattle.std.proofs.lemmas.List.{take-append-drop, take_at, drop_at, drop-drop}
-use Rattle.lexical_grammar.specs.declared.TokenKind.{TokenKind}
+use Rattle.lexical_grammar.proofs.Agree.{bad-some}
+use Rattle.lexical_grammar.proofs.Cuts.{tok-some, texts-append, item-before}
+use Rattle.lexical_grammar.proofs.Standing.{one_token}
 use Rattle.lexical_grammar.specs.Cut.{Stands, Item, IsItem, CutFrom, Cut, texts}
 use Rattle.lexical_grammar.specs.TokensAt.{TokenAt, StandsAs, StandsIn}
-use Rattle.lexical_grammar.proofs.Standing.{one_token}
-use Rattle.lexical_grammar.proofs.Cuts.{tok-some, texts-append, item-before}
-use Rattle.lexical_grammar.proofs.Agree.{bad-some}
+use Rattle.lexical_grammar.specs.declared.TokenKind.{TokenKind}
 
 -- the bytes from an offset on, in two parts
 parts : (source : List ℕ) (offset n : ℕ) → take n (drop offset source) ++ drop (offset + n) source ≡ drop offset source

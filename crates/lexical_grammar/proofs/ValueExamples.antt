@@ -2,9 +2,9 @@
 use Rattle.std.proofs.Common.{◌≡◌, [], ◌∷◌, ◌++◌, refl}
 use Rattle.std.specs.Prelude.{codes, pos, negsuc, encode_utf8}
 use lib.Utf8.{encode}
+use Rattle.lexical_grammar.specs.Reads.{quoted_value}
 use Rattle.lexical_grammar.specs.Strings.{StringCharacter, Quoted, none, one_more, pair, BlockString, escaped, closing}
 use Rattle.lexical_grammar.specs.Values.{Lines, Block, block_string_value, IntOf}
-use Rattle.lexical_grammar.specs.Reads.{quoted_value}
 
 -- LF, CR and CR LF end lines
 four-lines : Lines (codes "\n\r\r\n") ≡ [] ∷ [] ∷ [] ∷ [] ∷ []

@@ -1,17 +1,17 @@
 -- Which tokens may follow one another directly, with nothing between them. It depends on how the first ends and the
 -- next begins with: a comment goes on to the end of its line, a name takes in letters and digits, a number is followed
 -- by no letter, and one more quote after the empty string begins a block string.
+use Rattle.std.specs.List.{AllByRecursion, flat_map}
 use Rattle.std.specs.Prelude.{ℕ, ◌+◌, Bool, true, not, ◌&&◌, ◌||◌, ◌==◌, List, [], ◌∷◌, Some, length, slice_index}
 use Rattle.std.specs.Prelude.{if◌then◌else◌, bytes_eq}
-use Rattle.std.specs.List.{AllByRecursion, flat_map}
+use Rattle.lexical_grammar.specs.Begins.{is_whitespace}
+use Rattle.lexical_grammar.specs.Characters.{is_line_terminator, is_name_continue, is_name_start, is_digit}
+use Rattle.lexical_grammar.specs.Cut.{Item, Word, end_at}
+use Rattle.lexical_grammar.specs.Tokens.{Tok}
 use Rattle.lexical_grammar.specs.declared.TokenKind.{TokenKind}
 use Rattle.lexical_grammar.specs.declared.TokenKind.TheVariants as token
 use Rattle.lexical_grammar.specs.declared.edge.Edge.{Edge}
 use Rattle.lexical_grammar.specs.declared.edge.Edge.TheVariants as edge
-use Rattle.lexical_grammar.specs.Characters.{is_line_terminator, is_name_continue, is_name_start, is_digit}
-use Rattle.lexical_grammar.specs.Tokens.{Tok}
-use Rattle.lexical_grammar.specs.Cut.{Item, Word, end_at}
-use Rattle.lexical_grammar.specs.Begins.{is_whitespace}
 
 -- what a text ends with when its last token is this one
 abbrev pub edge_of : TokenKind → List ℕ → Edge

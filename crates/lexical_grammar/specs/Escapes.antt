@@ -1,6 +1,6 @@
 -- Escapes, as they are read at the front of a text.
-use Rattle.std.specs.Prelude.{◌≡◌, ℕ, ◌<◌, ◌≤◌, true, false, List, length, Option, Some, None, encode_utf8}
 use Rattle.std.specs.Char.{digit_value}
+use Rattle.std.specs.Prelude.{◌≡◌, ℕ, ◌<◌, ◌≤◌, true, false, List, length, Option, Some, None, encode_utf8}
 use Rattle.lexical_grammar.specs.Characters.{is_hex_digit}
 use Rattle.lexical_grammar.specs.Reads.{begins_fixed_escape, fixed_value, string_character_len, string_character_value}
 

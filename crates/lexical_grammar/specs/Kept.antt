@@ -1,10 +1,10 @@
 -- What a change of layout keeps: the significant tokens and the comments. White space and commas are what it may
 -- change.
-use Rattle.std.specs.Prelude.{◌≡◌, ℕ, Bool, true, List, [], ◌∷◌, Option, Some, None, if◌then◌else◌}
 use Rattle.std.specs.List.{flat_map}
+use Rattle.std.specs.Prelude.{◌≡◌, ℕ, Bool, true, List, [], ◌∷◌, Option, Some, None, if◌then◌else◌}
+use Rattle.lexical_grammar.specs.Cut.{Item, Word, Cut, is_significant_kind, are_tokens}
 use Rattle.lexical_grammar.specs.declared.TokenKind.{TokenKind}
 use Rattle.lexical_grammar.specs.declared.TokenKind.TheVariants as token
-use Rattle.lexical_grammar.specs.Cut.{Item, Word, Cut, is_significant_kind, are_tokens}
 
 -- significant tokens and comments
 abbrev pub is_kept_kind : TokenKind → Bool

@@ -1,7 +1,7 @@
 -- Which token is at a byte of a text, whatever the text is cut into.
 use Rattle.std.specs.Prelude.{◌≡◌, ℕ, ◌+◌, ◌<◌, ◌≤◌, List, length, take, drop, Option, Some, None}
-use Rattle.lexical_grammar.specs.declared.TokenKind.{TokenKind}
 use Rattle.lexical_grammar.specs.Cut.{Item, Stands}
+use Rattle.lexical_grammar.specs.declared.TokenKind.{TokenKind}
 
 -- the n bytes of the text at the offset are a token of the kind
 pub record TokenAt (source : List ℕ) (offset : ℕ) (kind : TokenKind) (n : ℕ) : Type 0 where

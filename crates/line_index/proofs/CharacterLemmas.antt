@@ -1,20 +1,20 @@
 -- Characters and their units, in an encoding.
 use Rattle.std.proofs.Common.{◌⊎◌, ◌≡◌, ℕ, ◌+◌, ◌-◌, ◌/◌, ◌%◌, ◌<◌, ◌≤◌, true, false, List, [], ◌∷◌, ◌++◌, length, refl}
 use Rattle.std.proofs.Common.{sym, ap, ◌∙◌, subst, inl, inr, arith, eqb, ltb, length-append}
-use Rattle.std.specs.Prelude.{slice_index}
-use Rattle.std.specs.List.{flat_map}
-use lib.Utf8.{encode, encodes, scalar, scalars, scalar_cases}
-use Rattle.std.specs.Char.Escape.{encode_utf16}
 use Rattle.std.proofs.lemmas.Bool.{cases_Bool, ltb-true, ltb-false, and_parts}
 use Rattle.std.proofs.lemmas.Bool.Decides.{nat_tests}
-use Rattle.std.proofs.lemmas.List.Sums.{sum_by-append}
 use Rattle.std.proofs.lemmas.List.Concat.{flat_map-cons}
+use Rattle.std.proofs.lemmas.List.Sums.{sum_by-append}
+use Rattle.std.specs.Char.Escape.{encode_utf16}
+use Rattle.std.specs.List.{flat_map}
+use Rattle.std.specs.Prelude.{slice_index}
+use lib.Utf8.{encode, encodes, scalar, scalars, scalar_cases}
 use Rattle.lexical_grammar.specs.Characters.{is_line_terminator}
+use Rattle.line_index.proofs.WalkLemmas.{Quiet, Quiet-append, Tail}
 use Rattle.line_index.specs.Columns.{utf16_units, utf16_len}
 use Rattle.line_index.specs.Positions.{units_of, continues}
 use Rattle.line_index.specs.declared.PositionEncoding.{PositionEncoding}
 use Rattle.line_index.specs.declared.PositionEncoding.TheVariants.{Utf8, Utf16}
-use Rattle.line_index.proofs.WalkLemmas.{Quiet, Quiet-append, Tail}
 
 high : (x : ℕ) → 14 ≤ x → is_line_terminator x ≡ false
 high x h = grind (arith, nat_tests)

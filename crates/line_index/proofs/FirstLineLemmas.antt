@@ -1,18 +1,18 @@
 -- The first lines of a text, and of another that is the same up to an offset.
 use Rattle.std.proofs.Common.{◌≡◌, ℕ, zero, suc, ◌+◌, ◌-◌, ◌<◌, ◌≤◌, max, List, length, take, drop}
 use Rattle.std.proofs.Common.{refl, sym, ap, ◌∙◌, subst, inl, inr, arith, ltb, not, eqb, true, false, Bool}
-use Rattle.std.specs.Prelude.{slice_index, slice_range, take_while, ◌||◌, ◌&&◌, if◌then◌else◌}
-use Rattle.std.specs.List.Sorted.{IsPartitionPoint}
-use Rattle.std.specs.Str.{IsUtf8}
 use Rattle.std.proofs.lemmas.Bool.{cases_lt, ltb-true}
 use Rattle.std.proofs.lemmas.List.{get_or-take, length-take}
+use Rattle.std.specs.List.Sorted.{IsPartitionPoint}
+use Rattle.std.specs.Prelude.{slice_index, slice_range, take_while, ◌||◌, ◌&&◌, if◌then◌else◌}
+use Rattle.std.specs.Str.{IsUtf8}
 use Rattle.lexical_grammar.specs.Characters.{is_line_terminator}
-use Rattle.line_index.specs.Lines.{begins_line, line_at, line_start}
-use Rattle.line_index.specs.Columns.{utf16_len, utf16_units}
-use Rattle.line_index.specs.LineStarts.{AreFirstStarts}
 use Rattle.line_index.proofs.LineLemmas.{same-start}
 use Rattle.line_index.proofs.MarkLemmas.{Room, room-fits, room-full}
 use Rattle.line_index.proofs.OffsetLemmas.{IsLine, line-of}
+use Rattle.line_index.specs.Columns.{utf16_len, utf16_units}
+use Rattle.line_index.specs.LineStarts.{AreFirstStarts}
+use Rattle.line_index.specs.Lines.{begins_line, line_at, line_start}
 
 -- the line that begins at an offset
 pub line-from : (text part line : List ℕ) (s number : ℕ) → IsUtf8 text → s ≤ length text → line_start text s ≡ s

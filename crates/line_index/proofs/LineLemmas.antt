@@ -1,21 +1,21 @@
 -- Lines by their offsets.
 use Rattle.std.proofs.Common.{◌≡◌, ℕ, zero, suc, ◌+◌, ◌-◌, ◌<◌, ◌≤◌, true, false, not, List, length, take, drop, refl}
 use Rattle.std.proofs.Common.{sym, ap, ◌∙◌, subst, inl, inr, arith, eqb, eqb-true, leb, get_or, Some, None, length-drop}
-use Rattle.std.specs.Prelude.{slice_index, ◌&&◌, ◌||◌}
-use Rattle.std.specs.List.Sorted.{IsNonDecreasing, IsPartitionPoint}
 use Rattle.std.proofs.lemmas.Bool.{cases_Bool, cases_lt, false_from_ne_true, and_parts, or_left, leb-true, leb-false}
 use Rattle.std.proofs.lemmas.Bool.{not_from_false, not_from_true}
 use Rattle.std.proofs.lemmas.Bool.Decides.{nat_tests}
 use Rattle.std.proofs.lemmas.List.{take_all, take_rest, get_or-drop, get_or_past, get_or_read}
 use Rattle.std.proofs.lemmas.List.Sorted.{IsNonDecreasingBy-from_default}
-use Rattle.std.specs.Str.{IsUtf8, IsCharBoundary}
-use Rattle.std.specs.List.{take_while, prefix_len}
-use Rattle.std.proofs.lemmas.Str.{IsCharBoundary-after_ascii, IsCharBoundary-start}
 use Rattle.std.proofs.lemmas.List.Sums.{prefix_len_is}
+use Rattle.std.proofs.lemmas.Str.{IsCharBoundary-after_ascii, IsCharBoundary-start}
+use Rattle.std.specs.List.{take_while, prefix_len}
+use Rattle.std.specs.List.Sorted.{IsNonDecreasing, IsPartitionPoint}
+use Rattle.std.specs.Prelude.{slice_index, ◌&&◌, ◌||◌}
+use Rattle.std.specs.Str.{IsUtf8, IsCharBoundary}
 use Rattle.memchr.specs.Find.{IsFirstByte, is_byte2}
 use Rattle.lexical_grammar.specs.Characters.{is_line_terminator}
-use Rattle.line_index.specs.Lines.{begins_line, line_at, line_start}
 use Rattle.line_index.specs.LineStarts.{AreStarts, IsNextStart}
+use Rattle.line_index.specs.Lines.{begins_line, line_at, line_start}
 
 -- one offset further
 begun : (text : List ℕ) (k : ℕ) → begins_line text (suc k) ≡ true

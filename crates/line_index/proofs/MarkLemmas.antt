@@ -1,20 +1,20 @@
 -- The sums of weights before an offset, from the marks; and the offset at which the units of UTF-16 reach a number.
 use Rattle.std.proofs.Common.{◌⊎◌, ◌≡◌, ℕ, ◌+◌, ◌-◌, ◌*◌, ◌/◌, ◌<◌, ◌≤◌, max, List, [], ◌∷◌, ◌++◌, length, take, drop}
 use Rattle.std.proofs.Common.{refl, ap, ◌∙◌, subst, inl, inr, arith, get_or, length-append, length-drop}
-use Rattle.std.specs.Prelude.{Bool, true, false, ◌==◌, slice_index, slice_range}
-use Rattle.std.specs.List.{sum_by}
-use Rattle.std.specs.List.Sorted.{IsNonDecreasing}
-use Rattle.std.specs.Str.{IsUtf8, IsCharBoundary}
-use Rattle.std.proofs.lemmas.Str.{IsUtf8-take}
+use Rattle.std.proofs.Math.Seq.{take-add, get_or-append_seam}
 use Rattle.std.proofs.lemmas.Bool.{cases_lt}
 use Rattle.std.proofs.lemmas.Bool.Decides.{nat_tests}
 use Rattle.std.proofs.lemmas.List.{get_or_append_left, get_or-take, get_or-drop, length-take, take-take}
-use Rattle.std.proofs.lemmas.List.Sums.{sum_by-append}
 use Rattle.std.proofs.lemmas.List.Sorted.{IsNonDecreasingBy-from_default}
-use Rattle.std.proofs.Math.Seq.{take-add, get_or-append_seam}
+use Rattle.std.proofs.lemmas.List.Sums.{sum_by-append}
+use Rattle.std.proofs.lemmas.Str.{IsUtf8-take}
+use Rattle.std.specs.List.{sum_by}
+use Rattle.std.specs.List.Sorted.{IsNonDecreasing}
+use Rattle.std.specs.Prelude.{Bool, true, false, ◌==◌, slice_index, slice_range}
+use Rattle.std.specs.Str.{IsUtf8, IsCharBoundary}
+use Rattle.line_index.proofs.ColumnLemmas.{utf16_len-le}
 use Rattle.line_index.specs.Columns.{utf16_units, utf16_len}
 use Rattle.line_index.specs.Marks.{AreMarks}
-use Rattle.line_index.proofs.ColumnLemmas.{utf16_len-le}
 
 -- as the code tests for marks
 pub no-marks : (marks : List ℕ) (empty : Bool) → empty ≡ (length marks == 0) → empty ≡ true → length marks ≡ 0

@@ -2,26 +2,26 @@
 use Rattle.std.proofs.Common.{◌≡◌, ℕ, zero, suc, ◌+◌, ◌-◌, ◌<◌, ◌≤◌, Bool, true, false, not, List, [], ◌∷◌, ◌++◌}
 use Rattle.std.proofs.Common.{length, take, drop, refl, sym, ap, ◌∙◌, subst, inl, inr, arith, get_or, length-append}
 use Rattle.std.proofs.Common.{length-drop}
-use Rattle.std.specs.Prelude.{slice_index, slice_range}
-use Rattle.std.specs.Str.{IsUtf8, IsCharBoundary}
-use Rattle.std.specs.List.{prefix_len}
-use lib.Utf8.{encode, encodes, scalar, scalars}
 use Rattle.std.proofs.lemmas.Bool.{cases_Bool, cases_lt}
 use Rattle.std.proofs.lemmas.Bool.Decides.{nat_tests}
 use Rattle.std.proofs.lemmas.List.{get_or-drop, get_or-append-add, get_or_append_left, get_or_read, length-take}
 use Rattle.std.proofs.lemmas.List.Sums.{prefix_len-le-length}
 use Rattle.std.proofs.lemmas.Str.{IsUtf8-between, IsCharBoundary-end, IsCharBoundary-before_ascii}
+use Rattle.std.specs.List.{prefix_len}
+use Rattle.std.specs.Prelude.{slice_index, slice_range}
+use Rattle.std.specs.Str.{IsUtf8, IsCharBoundary}
+use lib.Utf8.{encode, encodes, scalar, scalars}
 use Rattle.lexical_grammar.specs.Characters.{is_line_terminator}
-use Rattle.line_index.specs.Lines.{begins_line, line_at, line_start, line_text}
+use Rattle.line_index.proofs.CharacterLemmas.{begins-of, fresh, utf8-units, wide}
+use Rattle.line_index.proofs.ColumnLemmas.{utf16_len-le}
+use Rattle.line_index.proofs.LineLemmas.{start-boundary, start-le}
+use Rattle.line_index.proofs.TextLemmas.{found-offset, quiet-front, cursor-quiet, start-begins, start-line, some-unit}
 use Rattle.line_index.specs.Columns.{utf16_len, utf16_units}
 use Rattle.line_index.specs.LineStarts.{AreStarts}
+use Rattle.line_index.specs.Lines.{begins_line, line_at, line_start, line_text}
 use Rattle.line_index.specs.Positions.{units, continues, lines_of, units_before, whole, width, IsCursor}
 use Rattle.line_index.specs.declared.PositionEncoding.{PositionEncoding}
 use Rattle.line_index.specs.declared.PositionEncoding.TheVariants.{Utf8, Utf16}
-use Rattle.line_index.proofs.LineLemmas.{start-boundary, start-le}
-use Rattle.line_index.proofs.ColumnLemmas.{utf16_len-le}
-use Rattle.line_index.proofs.CharacterLemmas.{begins-of, fresh, utf8-units, wide}
-use Rattle.line_index.proofs.TextLemmas.{found-offset, quiet-front, cursor-quiet, start-begins, start-line, some-unit}
 
 -- a line: where it begins, and where the text of it ends
 pub record IsLine (text : List ℕ) (start end line : ℕ) : Type 0 where

@@ -1,20 +1,20 @@
 -- The offset of a position, among the characters of a text.
 use Rattle.std.proofs.Common.{◌≡◌, ℕ, zero, suc, ◌+◌, ◌-◌, ◌<◌, ◌≤◌, true, false, List, [], ◌∷◌, ◌++◌, length, refl}
 use Rattle.std.proofs.Common.{sym, ap, ◌∙◌, subst, inl, inr, arith, eqb, length-append}
+use Rattle.std.proofs.lemmas.Bool.{cases_Bool, and_parts}
+use Rattle.std.proofs.lemmas.Grind.{flat_map-append}
+use Rattle.std.proofs.lemmas.List.Concat.{flat_map-cons}
 use Rattle.std.specs.Prelude.{slice_index}
 use lib.Utf8.{encode, encodes, scalar, scalars}
-use Rattle.std.proofs.lemmas.Bool.{cases_Bool, and_parts}
-use Rattle.std.proofs.lemmas.List.Concat.{flat_map-cons}
-use Rattle.std.proofs.lemmas.Grind.{flat_map-append}
 use Rattle.lexical_grammar.specs.Characters.{is_line_terminator}
+use Rattle.line_index.proofs.CharacterLemmas.{all_units, quiet-of, one-of, begins-of, QuietAll, fresh, first-feed}
+use Rattle.line_index.proofs.CharacterLemmas.{utf8-units}
+use Rattle.line_index.proofs.WalkLemmas.{walk, Quiet, walk-inside, walk-past, walk-lines, walk-step, walk-terminator}
+use Rattle.line_index.proofs.WalkLemmas.{at-cons, begins-rest, begins-past, at-past, positive, whole-past, whole-first}
 use Rattle.line_index.specs.Lines.{begins_line, line_at}
 use Rattle.line_index.specs.Positions.{units_of, ends_line, whole}
 use Rattle.line_index.specs.declared.PositionEncoding.{PositionEncoding}
 use Rattle.line_index.specs.declared.PositionEncoding.TheVariants.{Utf8}
-use Rattle.line_index.proofs.WalkLemmas.{walk, Quiet, walk-inside, walk-past, walk-lines, walk-step, walk-terminator}
-use Rattle.line_index.proofs.WalkLemmas.{at-cons, begins-rest, begins-past, at-past, positive, whole-past, whole-first}
-use Rattle.line_index.proofs.CharacterLemmas.{all_units, quiet-of, one-of, begins-of, QuietAll, fresh, first-feed}
-use Rattle.line_index.proofs.CharacterLemmas.{utf8-units}
 
 -- what follows an offset in a line with this much room: the end of the text, the end of the line, or a character that
 -- is wider

@@ -1,27 +1,27 @@
 -- The offset of a position in a text.
 use Rattle.std.proofs.Common.{◌≡◌, ℕ, zero, suc, ◌+◌, ◌-◌, ◌<◌, ◌≤◌, true, false, not, List, [], ◌∷◌, ◌++◌, length}
 use Rattle.std.proofs.Common.{take, drop, refl, sym, ap, ◌∙◌, subst, inl, inr, arith, eqb, length-append, length-drop}
-use Rattle.std.specs.Prelude.{slice_index, slice_range, ◌&&◌, ◌||◌}
-use Rattle.std.specs.Str.{IsUtf8, IsCharBoundary}
-use Rattle.std.specs.List.{flat_map}
-use lib.Utf8.{encode, encodes, scalar, scalars}
+use Rattle.std.proofs.Math.Seq.{take-add}
 use Rattle.std.proofs.lemmas.Bool.{cases_Bool, cases_lt, and_parts, false_from_ne_true}
 use Rattle.std.proofs.lemmas.Bool.Decides.{nat_tests}
+use Rattle.std.proofs.lemmas.Grind.{flat_map-append}
 use Rattle.std.proofs.lemmas.List.{take-append-drop, drop-drop, get_or-drop, get_or-take, get_or-append-add}
 use Rattle.std.proofs.lemmas.List.{length-take, take_all, get_or_past}
 use Rattle.std.proofs.lemmas.List.Concat.{flat_map-cons}
-use Rattle.std.proofs.lemmas.Grind.{flat_map-append}
-use Rattle.std.proofs.Math.Seq.{take-add}
 use Rattle.std.proofs.lemmas.Str.{encodes-append, chars-encodes, IsUtf8-take, IsUtf8-drop, IsUtf8-between}
+use Rattle.std.specs.List.{flat_map}
+use Rattle.std.specs.Prelude.{slice_index, slice_range, ◌&&◌, ◌||◌}
+use Rattle.std.specs.Str.{IsUtf8, IsCharBoundary}
+use lib.Utf8.{encode, encodes, scalar, scalars}
 use Rattle.lexical_grammar.specs.Characters.{is_line_terminator}
+use Rattle.line_index.proofs.CharacterLemmas.{all_units, begins-of, quiet-of, one-of, utf16-length, utf8-units}
+use Rattle.line_index.proofs.PositionLemmas.{Stops, lands, scalars-both, feed-same, ends-same}
+use Rattle.line_index.proofs.WalkLemmas.{walk, walk-is, walk-lines, Quiet, whole-here, at-cons, at-past}
 use Rattle.line_index.specs.Lines.{begins_line, line_at, line_start}
 use Rattle.line_index.specs.Positions.{units, units_of, continues, ends_line, lines_of, units_before, whole, width}
 use Rattle.line_index.specs.Positions.{IsCursor}
 use Rattle.line_index.specs.declared.PositionEncoding.{PositionEncoding}
 use Rattle.line_index.specs.declared.PositionEncoding.TheVariants.{Utf8, Utf16}
-use Rattle.line_index.proofs.WalkLemmas.{walk, walk-is, walk-lines, Quiet, whole-here, at-cons, at-past}
-use Rattle.line_index.proofs.CharacterLemmas.{all_units, begins-of, quiet-of, one-of, utf16-length, utf8-units}
-use Rattle.line_index.proofs.PositionLemmas.{Stops, lands, scalars-both, feed-same, ends-same}
 
 -- a text that spells these characters
 spelled-units : (e : PositionEncoding) (cs : List ℕ) → scalars cs ≡ true → units e (encodes cs) ≡ all_units e cs

@@ -1,10 +1,10 @@
 -- The lines of a list of units, in one walk over it.
 use Rattle.std.proofs.Common.{◌≡◌, ℕ, zero, suc, ◌+◌, ◌-◌, ◌<◌, ◌≤◌, min, Bool, true, false, cond, List, [], ◌∷◌, ◌++◌}
 use Rattle.std.proofs.Common.{length, refl, sym, ap, ◌∙◌, inl, inr, arith, eqb, zero-add}
-use Rattle.std.specs.Prelude.{slice_index}
-use Rattle.std.specs.List.{position_or_len}
 use Rattle.std.proofs.lemmas.Bool.{cases_Bool}
 use Rattle.std.proofs.lemmas.Bool.Decides.{nat_tests}
+use Rattle.std.specs.List.{position_or_len}
+use Rattle.std.specs.Prelude.{slice_index}
 use Rattle.lexical_grammar.specs.Characters.{is_line_terminator}
 use Rattle.line_index.specs.Lines.{begins_line, line_at}
 use Rattle.line_index.specs.Positions.{ends_line, in_front, lines_of, units_before, whole, continues}

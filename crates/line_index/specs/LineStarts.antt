@@ -1,10 +1,10 @@
 -- The list of all line starts.
 use Rattle.std.specs.Prelude.{◌≡◌, ℕ, ◌+◌, ◌<◌, ◌≤◌, List, length, slice_index}
 use Rattle.std.specs.Str.{IsUtf8}
-use Rattle.line_index.specs.Lines.{line_at, line_start}
 use Rattle.line_index.specs.Columns.{weight}
-use Rattle.line_index.specs.declared.Counted.TheVariants.{Characters, Utf16Units}
+use Rattle.line_index.specs.Lines.{line_at, line_start}
 use Rattle.line_index.specs.Marks.{AreMarks}
+use Rattle.line_index.specs.declared.Counted.TheVariants.{Characters, Utf16Units}
 
 -- These are the offsets up to `end` at which a line begins, in order.
 pub record AreStarts (text : List ℕ) (end : ℕ) (starts : List ℕ) : Type 0 where

@@ -1,17 +1,17 @@
 -- What a position of the Language Server Protocol means to a client, which has its text as a list of lines, and each
 -- line as a list of units: bytes of UTF-8 or units of UTF-16. A position is the number of a line, and a column that
 -- counts units.
-use Rattle.std.specs.Prelude.{ℕ, zero, suc, ◌+◌, Bool, true, ◌||◌, ◌&&◌, ◌==◌, not, if◌then◌else◌, List, [], ◌∷◌}
-use Rattle.std.specs.Prelude.{length, min, slice_index, encode_utf8, ◌≡◌}
-use Rattle.std.specs.List.{flat_map, position_or_len}
 use Rattle.std.specs.Char.Escape.{encode_utf16}
 use Rattle.std.specs.Int.{is_in_range}
+use Rattle.std.specs.List.{flat_map, position_or_len}
+use Rattle.std.specs.Prelude.{ℕ, zero, suc, ◌+◌, Bool, true, ◌||◌, ◌&&◌, ◌==◌, not, if◌then◌else◌, List, [], ◌∷◌}
+use Rattle.std.specs.Prelude.{length, min, slice_index, encode_utf8, ◌≡◌}
 use Rattle.std.specs.Str.{chars, IsCharBoundary}
 use Rattle.lexical_grammar.specs.Characters.{is_line_terminator}
+use Rattle.line_index.specs.Columns.{utf16_len}
 use Rattle.line_index.specs.declared.Position.{Position}
 use Rattle.line_index.specs.declared.PositionEncoding.{PositionEncoding}
 use Rattle.line_index.specs.declared.PositionEncoding.TheVariants.{Utf8, Utf16}
-use Rattle.line_index.specs.Columns.{utf16_len}
 
 -- the units of a character, and those of a text
 abbrev pub units_of : PositionEncoding → ℕ → List ℕ

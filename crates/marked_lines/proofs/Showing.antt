@@ -1,9 +1,9 @@
 -- Going over the characters of a text.
 use Rattle.std.proofs.Common.{◌≡◌, ◌∙◌, ℕ, List, [], ◌∷◌, ◌++◌, length, refl, sym, ap, append_assoc, append-nil, arith}
-use Rattle.std.specs.Prelude.{encode_utf8, encode_utf8_all}
-use Rattle.std.specs.List.{flat_map}
-use Rattle.std.specs.Str.{IsUtf8, chars}
 use Rattle.std.proofs.lemmas.Str.{chars-nil, chars_past_char, encodes-append}
+use Rattle.std.specs.List.{flat_map}
+use Rattle.std.specs.Prelude.{encode_utf8, encode_utf8_all}
+use Rattle.std.specs.Str.{IsUtf8, chars}
 use Rattle.marked_lines.specs.Escaping.{shown, shown_char}
 
 nothing : (rest : List ℕ) → length rest ≡ 0 → rest ≡ []

@@ -1,9 +1,9 @@
 -- Items that are handled one after the other.
 use Rattle.std.proofs.Common.{◌≡◌, ℕ, ◌+◌, ◌<◌, List, [], ◌∷◌, ◌++◌, length, take, get_or, map}
 use Rattle.std.proofs.Common.{max, refl, sym, ap, ◌∙◌, subst, arith}
-use Rattle.std.specs.Ordering.{ord_max, nat_cmp}
 use Rattle.std.proofs.lemmas.Bool.Decides.{nat_tests}
 use Rattle.std.proofs.lemmas.List.{take_more, map-append}
+use Rattle.std.specs.Ordering.{ord_max, nat_cmp}
 use Rattle.named_files.specs.Handling.{InTurn}
 
 ord_max-nat : (a b : ℕ) → ord_max nat_cmp a b ≡ max a b

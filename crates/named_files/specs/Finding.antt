@@ -1,13 +1,13 @@
 -- The files that a path names: those below it where it is a folder's.
-use Rattle.std.specs.Prelude.{◌≡◌, ◌++◌, ℕ, List, [], ◌∷◌, Option, Some, None, string_bytes, if◌then◌else◌}
 use Rattle.std.specs.List.{filter_map}
+use Rattle.std.specs.Prelude.{◌≡◌, ◌++◌, ℕ, List, [], ◌∷◌, Option, Some, None, string_bytes, if◌then◌else◌}
 use Rattle.std.specs.declared.io.Error.{Error}
 use Rattle.file_access.specs.Listing.{Entry, Listing, unlisted, no_folder, entries}
 use Rattle.file_access.specs.declared.listing.Kind.{Kind}
 use Rattle.file_access.specs.declared.listing.Kind.TheVariants as kind
+use Rattle.named_files.specs.Names.{is_hidden, is_of_others, is_graphql, path_in}
 use Rattle.named_files.specs.declared.search.Named.{Named}
 use Rattle.named_files.specs.declared.search.Named.TheVariants as variant
-use Rattle.named_files.specs.Names.{is_hidden, is_of_others, is_graphql, path_in}
 
 -- A path where there is a file, where there may be a folder, or where something could not be read.
 pub data FoundPath : Type 0 where

@@ -5,11 +5,11 @@ use Rattle.byte_streams.specs.Devices.{Account}
 use Rattle.byte_streams.specs.Runs.{Writes}
 use Rattle.byte_streams.specs.declared.fault.Fault.TheVariants.{Read, Memory}
 use Rattle.file_access.specs.Listing.{Listing}
-use Rattle.named_files.specs.Finding.{FoundPath, IsNamed, Lists}
 use Rattle.command_lines.specs.Complaints.{Tells}
 use Rattle.command_lines.specs.Streams.{Streams}
 use Rattle.command_lines.specs.declared.complaints.FileFault.{FileFault}
 use Rattle.command_lines.specs.declared.complaints.FileFault.TheVariants.{NotRead, NotReplaced, Device}
+use Rattle.named_files.specs.Finding.{FoundPath, IsNamed, Lists}
 
 -- The files, and what went through standard output and standard error.
 pub record Desk (S : Type 0) : Type 0 where

@@ -1,6 +1,6 @@
 -- Which names in a folder are looked at, and the paths that they have.
-use Rattle.std.specs.Prelude.{◌++◌, ◌||◌, ℕ, Bool, eqb, List, codes, bytes_eq, if◌then◌else◌}
 use Rattle.std.specs.List.{starts_with, ends_with}
+use Rattle.std.specs.Prelude.{◌++◌, ◌||◌, ℕ, Bool, eqb, List, codes, bytes_eq, if◌then◌else◌}
 
 abbrev pub is_hidden : List ℕ → Bool
 is_hidden name = starts_with eqb name (codes ".")

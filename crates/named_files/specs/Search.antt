@@ -1,10 +1,10 @@
 -- How far a search for files has come.
 use Rattle.std.specs.Prelude.{◌≡◌, ◌++◌, ℕ, List, map, reverse, string_bytes}
 use Rattle.file_access.specs.Listing.{Listing}
+use Rattle.named_files.specs.Finding.{FoundPath, file, folder, unreadable, Finds, as_named}
 use Rattle.named_files.specs.declared.search.FoundPath.{FoundPath as WaitingPath}
 use Rattle.named_files.specs.declared.search.FoundPath.TheVariants as found_path
 use Rattle.named_files.specs.declared.search.Search.{Search}
-use Rattle.named_files.specs.Finding.{FoundPath, file, folder, unreadable, Finds, as_named}
 
 abbrev pub as_found_path : {A : Type 0} → WaitingPath A → FoundPath
 as_found_path (found_path.File path) = file (string_bytes path)

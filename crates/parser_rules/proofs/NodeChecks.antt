@@ -1,43 +1,43 @@
 -- Each node's rule, checked by computing: the one place where a wrong rule fails. What is refused there is named with
 -- its node.
 use Rattle.std.proofs.Common.{◌≡◌, ℕ, ◌*◌, zero, suc, Bool, true, false, cond, List, [], ◌∷◌, refl}
-use Rattle.document_grammar.specs.declared.kind.SyntaxKind.TheVariants as kind
+use Rattle.document_grammar.proofs.Nested.{weight}
+use Rattle.document_grammar.specs.Booleans.{◌and◌, ◌or◌}
 use Rattle.document_grammar.specs.Kinds.{DOCUMENT}
 use Rattle.document_grammar.specs.Pattern.{member}
 use Rattle.document_grammar.specs.Rows.{Row}
-use Rattle.document_grammar.specs.Booleans.{◌and◌, ◌or◌}
-use Rattle.grammar_machine.proofs.generated.Labels.{labels}
-use Rattle.grammar_machine.specs.Table.{rows, firsts}
-use Rattle.grammar_machine.specs.Machine.{is_leaf, at, ends, exit, arcs, target, entries}
+use Rattle.document_grammar.specs.declared.kind.SyntaxKind.TheVariants as kind
 use Rattle.grammar_machine.proofs.Checks.{exits, row_of}
-use Rattle.grammar_machine.proofs.Steps.{goes, closes, sticks}
 use Rattle.grammar_machine.proofs.Patterns.{label}
-use Rattle.parser_rules.specs.declared.constness.Constness.TheVariants.{Const, NotConst}
-use Rattle.parser_rules.specs.Nodes.{Node, Arguments, Argument, Directives, Directive, ListValue, ObjectValue}
-use Rattle.parser_rules.specs.Nodes.{ObjectField, symbol, Document, Definition}
 use Rattle.grammar_machine.proofs.Sound.{any}
-use Rattle.parser_rules.specs.RuleLanguage.{Rule, Seq, When, While, Nested, Typed, Call, Ready}
-use Rattle.parser_rules.specs.Rules.{inside, body}
+use Rattle.grammar_machine.proofs.Steps.{goes, closes, sticks}
+use Rattle.grammar_machine.proofs.generated.Labels.{labels}
+use Rattle.grammar_machine.specs.Machine.{is_leaf, at, ends, exit, arcs, target, entries}
+use Rattle.grammar_machine.specs.Table.{rows, firsts}
+use Rattle.parser_rules.proofs.leaves.LeafCheck.{belongs, anything, leaf_check}
+use Rattle.parser_rules.proofs.lookahead.FirstSets.{first_of, first_in, second_of, looks, inlined}
+use Rattle.parser_rules.proofs.lookahead.Split.{split, divide}
+use Rattle.parser_rules.proofs.nesting.LevelCheck.{at_first, level_check}
+use Rattle.parser_rules.proofs.nesting.TokenCheck.{untaken, token_check}
+use Rattle.parser_rules.proofs.recovery.RecoveryCheck.{pop_check, row_check, tidy_check, of_row, leaf_of_row, unknown}
+use Rattle.parser_rules.proofs.recovery.RecoveryCheck.{any_token}
+use Rattle.parser_rules.proofs.reports.LimitCheck.{unknown as unknown_token, limit_check}
 use Rattle.parser_rules.proofs.runs.Fuel.{rules_deep, rules_deep_for_sizes}
 use Rattle.parser_rules.proofs.runs.Progress.{consuming}
-use Rattle.parser_rules.proofs.lookahead.Split.{split, divide}
-use Rattle.parser_rules.proofs.lookahead.FirstSets.{first_of, first_in, second_of, looks, inlined}
+use Rattle.parser_rules.proofs.runs.Walk.{walk, checks, checks_with, always}
+use Rattle.parser_rules.proofs.sizes.SizeCheck.{walk as size_walk, saved, pays_for_itself, root_pays, PaysForAll}
+use Rattle.parser_rules.proofs.sizes.SizeCheck.{element_rates, report_rates}
 use Rattle.parser_rules.proofs.soundness.TableCheck.{counts_itself, covered, turns, levels_agree, leaf_of}
 use Rattle.parser_rules.proofs.soundness.TableCheck.{may_be_cut_off, may_lack_block, exit_is_right, takes_token}
 use Rattle.parser_rules.proofs.soundness.TableCheck.{ends_at, after_inlined, child_begins, child_while_stuck, child_at}
 use Rattle.parser_rules.proofs.soundness.TableCheck.{may_report_limit, enters_level, after_type, type_at, may_report}
 use Rattle.parser_rules.proofs.soundness.TableCheck.{is_node, keeps_to_table, node_may_end, follows_table}
 use Rattle.parser_rules.proofs.soundness.TableCheck.{document_may_end, part_may_end, document_follows, turns_follow}
-use Rattle.parser_rules.proofs.leaves.LeafCheck.{belongs, anything, leaf_check}
-use Rattle.parser_rules.proofs.nesting.LevelCheck.{at_first, level_check}
-use Rattle.parser_rules.proofs.nesting.TokenCheck.{untaken, token_check}
-use Rattle.parser_rules.proofs.reports.LimitCheck.{unknown as unknown_token, limit_check}
-use Rattle.document_grammar.proofs.Nested.{weight}
-use Rattle.parser_rules.proofs.runs.Walk.{walk, checks, checks_with, always}
-use Rattle.parser_rules.proofs.recovery.RecoveryCheck.{pop_check, row_check, tidy_check, of_row, leaf_of_row, unknown}
-use Rattle.parser_rules.proofs.recovery.RecoveryCheck.{any_token}
-use Rattle.parser_rules.proofs.sizes.SizeCheck.{walk as size_walk, saved, pays_for_itself, root_pays, PaysForAll}
-use Rattle.parser_rules.proofs.sizes.SizeCheck.{element_rates, report_rates}
+use Rattle.parser_rules.specs.Nodes.{Node, Arguments, Argument, Directives, Directive, ListValue, ObjectValue}
+use Rattle.parser_rules.specs.Nodes.{ObjectField, symbol, Document, Definition}
+use Rattle.parser_rules.specs.RuleLanguage.{Rule, Seq, When, While, Nested, Typed, Call, Ready}
+use Rattle.parser_rules.specs.Rules.{inside, body}
+use Rattle.parser_rules.specs.declared.constness.Constness.TheVariants.{Const, NotConst}
 
 -- what can be wrong with a rule
 data Fault : Type 0 where

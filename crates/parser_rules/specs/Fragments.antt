@@ -1,17 +1,17 @@
 -- A part of a document that is parsed by itself: its root, and the rules of the root.
 use Rattle.std.specs.Prelude.{◌≡◌, ℕ, true, false, List, []}
-use Rattle.lexical_grammar.specs.declared.TokenKind.TheVariants as token
 use Rattle.lexical_grammar.specs.Answers.{Answer}
+use Rattle.lexical_grammar.specs.declared.TokenKind.TheVariants as token
+use Rattle.document_grammar.specs.Builds.{nothing, built_count}
 use Rattle.document_grammar.specs.declared.kind.SyntaxKind.{SyntaxKind}
 use Rattle.document_grammar.specs.declared.kind.SyntaxKind.TheVariants as kind
-use Rattle.document_grammar.specs.Builds.{nothing, built_count}
-use Rattle.parser_rules.specs.declared.message.Message.TheVariants as message
-use Rattle.parser_rules.specs.State.{State, fresh, read_on, begun, flush, closed, wrapped_from}
 use Rattle.parser_rules.specs.Nodes.{SelectionSet, Selections, ListType, NamedType}
 use Rattle.parser_rules.specs.RuleLanguage.{Here, At, holds, Bump, Note, Rule, Skip, Do, When, Nested, Call, ◌>◌}
 use Rattle.parser_rules.specs.RuleLanguage.{expect, refuse}
 use Rattle.parser_rules.specs.Rules.{type_start, inside, nullable_type}
 use Rattle.parser_rules.specs.Runs.{Runs}
+use Rattle.parser_rules.specs.State.{State, fresh, read_on, begun, flush, closed, wrapped_from}
+use Rattle.parser_rules.specs.declared.message.Message.TheVariants as message
 
 -- the root is open, the first token is read, and what comes before it is in the root
 abbrev pub started : List Answer → ℕ → SyntaxKind → State

@@ -1,9 +1,9 @@
 -- What the calls of a parser's steps ask: which nodes are open.
 use Rattle.std.specs.Prelude.{◌≡◌, ◌<◌, ℕ, Bool, true, false, List, [], ◌∷◌}
+use Rattle.document_grammar.specs.Builds.{Building, Open, CanOpenAt}
+use Rattle.document_grammar.specs.Forests.{none}
 use Rattle.document_grammar.specs.declared.kind.SyntaxKind.{SyntaxKind}
 use Rattle.document_grammar.specs.declared.kind.SyntaxKind.TheVariants as kind
-use Rattle.document_grammar.specs.Forests.{none}
-use Rattle.document_grammar.specs.Builds.{Building, Open, CanOpenAt}
 use Rattle.parser_rules.specs.State.{State}
 
 -- the kinds whose nodes may have any children; a name and the literals have one leaf

@@ -1,8 +1,8 @@
 -- What is reported of a text: along its items, in their order.
 use Rattle.std.specs.Prelude.{◌≡◌, ℕ, Bool, true, false, ◌&&◌, is_some, List, [], ◌∷◌, Some, None}
-use Rattle.lexical_grammar.specs.declared.TokenKind.{TokenKind}
-use Rattle.lexical_grammar.specs.Cut.{Item}
 use Rattle.lexical_grammar.specs.Answers.{Answer, gives, limit_at}
+use Rattle.lexical_grammar.specs.Cut.{Item}
+use Rattle.lexical_grammar.specs.declared.TokenKind.{TokenKind}
 use Rattle.parser_rules.specs.Messages.{is_limit}
 use Rattle.parser_rules.specs.State.{Report, bad_report, token_limit_report, recursion_limit_report, fault_report}
 use Rattle.parser_rules.specs.State.{lexeme, ignored}

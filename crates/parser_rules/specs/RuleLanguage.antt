@@ -3,9 +3,9 @@ use Rattle.std.specs.Prelude.{Option, Bool, not, ◌&&◌, ◌||◌, is_some}
 use Rattle.lexical_grammar.specs.declared.TokenKind.{TokenKind}
 use Rattle.document_grammar.specs.declared.kind.SyntaxKind.{SyntaxKind}
 use Rattle.document_grammar.specs.declared.kind.SyntaxKind.TheVariants as kind
-use Rattle.parser_rules.specs.declared.message.Message.{Message}
-use Rattle.parser_rules.specs.State.{State, Lexeme, second, bump, note, is_deep, is_at, is_word, is_over}
 use Rattle.parser_rules.specs.Nodes.{Node, Part}
+use Rattle.parser_rules.specs.State.{State, Lexeme, second, bump, note, is_deep, is_at, is_word, is_over}
+use Rattle.parser_rules.specs.declared.message.Message.{Message}
 
 -- a question about one token: whether it is of the kind, is the keyword, or one of the two
 pub data TokenTest : Type 0 where

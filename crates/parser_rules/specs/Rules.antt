@@ -4,16 +4,9 @@
 -- whether its place is constant.
 use Rattle.std.specs.Prelude.{Bool, true, false, List, [], ◌∷◌}
 use Rattle.lexical_grammar.specs.declared.TokenKind.{TokenKind}
-use Rattle.document_grammar.specs.declared.kind.SyntaxKind.{SyntaxKind}
-use Rattle.parser_rules.specs.declared.message.Message.{Message}
 use Rattle.lexical_grammar.specs.declared.TokenKind.TheVariants as token
+use Rattle.document_grammar.specs.declared.kind.SyntaxKind.{SyntaxKind}
 use Rattle.document_grammar.specs.declared.kind.SyntaxKind.TheVariants as kind
-use Rattle.parser_rules.specs.declared.constness.Constness.{Constness}
-use Rattle.parser_rules.specs.declared.constness.Constness.TheVariants.{Const, NotConst}
-use Rattle.parser_rules.specs.declared.message.Message.TheVariants as message
-use Rattle.parser_rules.specs.RuleLanguage.{TokenTest, Kind, Keyword, Or, Test, Here, At, Word, Next, Ready, HasNext}
-use Rattle.parser_rules.specs.RuleLanguage.{Deep, Not, Both, Bump, Note, TooDeep, Rule, Skip, Do, Seq, When, While}
-use Rattle.parser_rules.specs.RuleLanguage.{Child, Nested, Call, Typed, ◌>◌, expect, want, refuse, expect_word, maybe}
 use Rattle.parser_rules.specs.Nodes.{Node, OperationDefinition, QueryShorthand, OperationType, SelectionSet, Field}
 use Rattle.parser_rules.specs.Nodes.{Alias, Name, FragmentSpread, InlineFragment, FragmentDefinition, FragmentName}
 use Rattle.parser_rules.specs.Nodes.{NameForFragment, TypeCondition, Arguments, Argument, Directives, Directive}
@@ -35,6 +28,13 @@ use Rattle.parser_rules.specs.Nodes.{OptionalArgumentsDefinition, TypeName, Root
 use Rattle.parser_rules.specs.Nodes.{InterfaceName, UnionMember, DirectiveName, OnLocations, Location, VariableType}
 use Rattle.parser_rules.specs.Nodes.{OptionalDefaultValue, OptionalTypeCondition, Value, WordValue, NestedValue}
 use Rattle.parser_rules.specs.Nodes.{ListItems, Ty, ItemType}
+use Rattle.parser_rules.specs.RuleLanguage.{TokenTest, Kind, Keyword, Or, Test, Here, At, Word, Next, Ready, HasNext}
+use Rattle.parser_rules.specs.RuleLanguage.{Deep, Not, Both, Bump, Note, TooDeep, Rule, Skip, Do, Seq, When, While}
+use Rattle.parser_rules.specs.RuleLanguage.{Child, Nested, Call, Typed, ◌>◌, expect, want, refuse, expect_word, maybe}
+use Rattle.parser_rules.specs.declared.constness.Constness.{Constness}
+use Rattle.parser_rules.specs.declared.constness.Constness.TheVariants.{Const, NotConst}
+use Rattle.parser_rules.specs.declared.message.Message.{Message}
+use Rattle.parser_rules.specs.declared.message.Message.TheVariants as message
 
 -- a selection starts with the token
 abbrev pub selection_start : TokenTest

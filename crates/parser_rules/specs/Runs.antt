@@ -1,13 +1,13 @@
 -- What it means to run a rule.
 use Rattle.std.specs.Prelude.{◌≡◌, ℕ, true, false}
 use Rattle.lexical_grammar.specs.declared.TokenKind.TheVariants as token
-use Rattle.document_grammar.specs.declared.kind.SyntaxKind.TheVariants as kind
 use Rattle.document_grammar.specs.Builds.{built_count}
-use Rattle.parser_rules.specs.State.{State, flush, opened, closed, wrapped_from, is_deep, enter, leave, too_deep}
+use Rattle.document_grammar.specs.declared.kind.SyntaxKind.TheVariants as kind
 use Rattle.parser_rules.specs.Nodes.{Node, Part, kind_of}
 use Rattle.parser_rules.specs.RuleLanguage.{Test, At, holds, Prim, Bump, step, Rule, Skip, Do, Seq, When, While, Child}
 use Rattle.parser_rules.specs.RuleLanguage.{TooDeep, Nested, Call, Typed}
 use Rattle.parser_rules.specs.Rules.{inside, body}
+use Rattle.parser_rules.specs.State.{State, flush, opened, closed, wrapped_from, is_deep, enter, leave, too_deep}
 
 -- a run of a rule, from one state to another
 pub data Runs : Rule → State → State → Type 0 where

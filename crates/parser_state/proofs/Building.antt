@@ -1,14 +1,14 @@
 -- What the builder asks where a node is closed.
 use Rattle.std.proofs.Common.{◌≡◌, ◌∙◌, ap, sym, subst, true, ℕ, List, [], ◌∷◌, ◌++◌, length, take}
+use Rattle.document_grammar.specs.Builds.{Building, Open, finish, close, built_text, open_text}
+use Rattle.document_grammar.specs.Forests.{Forest, text}
 use Rattle.document_grammar.specs.declared.kind.SyntaxKind.{SyntaxKind}
 use Rattle.document_grammar.specs.declared.kind.SyntaxKind.TheVariants as kind
-use Rattle.document_grammar.specs.Forests.{Forest, text}
-use Rattle.document_grammar.specs.Builds.{Building, Open, finish, close, built_text, open_text}
-use Rattle.apollo_tree.specs.Sound.{Fits, FitsInnermost, CanFinish}
-use Rattle.apollo_tree.specs.Open.{IsComplete, one_node}
-use Rattle.parser_rules.specs.State.{PendingToken, add_all}
-use Rattle.parser_rules.specs.Open.{is_free, is_free_in, IsOpen, IsRoot}
 use Rattle.parser_rules.proofs.runs.Frame.{add_all-above}
+use Rattle.parser_rules.specs.Open.{is_free, is_free_in, IsOpen, IsRoot}
+use Rattle.parser_rules.specs.State.{PendingToken, add_all}
+use Rattle.apollo_tree.specs.Open.{IsComplete, one_node}
+use Rattle.apollo_tree.specs.Sound.{Fits, FitsInnermost, CanFinish}
 
 fits-free : (k : SyntaxKind) (kids : Forest) → is_free k ≡ true → Fits k kids
 fits-free kind.NAME kids e = absurd cc

@@ -1,19 +1,19 @@
 -- The errors of a parser.
 use Rattle.std.proofs.Common.{◌≡◌, ℕ, Bool, true, false, List, [], ◌∷◌, ◌++◌, Some, map, refl, sym, ap, ◌∙◌}
-use Rattle.std.specs.Prelude.{if◌then◌else◌, codes}
-use Rattle.std.specs.List.{AllZip}
 use Rattle.std.proofs.lemmas.List.{append-nil}
+use Rattle.std.specs.List.{AllZip}
+use Rattle.std.specs.Prelude.{if◌then◌else◌, codes}
 use Rattle.lexical_grammar.specs.Answers.{is_end}
-use Rattle.apollo_lexer.specs.Diagnostics.{Diagnostic, Subject, of_text, of_end}
-use Rattle.parser_rules.specs.declared.message.Message.{Message}
 use Rattle.parser_rules.specs.Messages.{Text, Found, at_text, at_end, at_limit, description, names_found, found_text}
 use Rattle.parser_rules.specs.Messages.{message_text}
 use Rattle.parser_rules.specs.State.{Lexeme, found_at}
-use Rattle.parser_state.specs.declared.borrowed_error.BorrowedError.{BorrowedError}
-use Rattle.parser_state.specs.declared.borrowed_error.BorrowedError.TheVariants.{Lexer, Fault, RecursionLimit}
+use Rattle.parser_rules.specs.declared.message.Message.{Message}
+use Rattle.apollo_lexer.specs.Diagnostics.{Diagnostic, Subject, of_text, of_end}
 use Rattle.parser_state.specs.Errors.{IsWorded, IsErrorOf, error_of, fault_error, lexer_error, subject_of}
 use Rattle.parser_state.specs.Found.{found_of}
 use Rattle.parser_state.specs.View.{lexeme_of, lexer_report, report_of}
+use Rattle.parser_state.specs.declared.borrowed_error.BorrowedError.{BorrowedError}
+use Rattle.parser_state.specs.declared.borrowed_error.BorrowedError.TheVariants.{Lexer, Fault, RecursionLimit}
 
 abbrev at-token : Text → Subject → ℕ → Diagnostic
 at-token message subject index = record { message = message; subject = subject; index = index }

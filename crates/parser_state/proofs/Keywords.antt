@@ -2,20 +2,20 @@
 use Rattle.std.proofs.Common.{◌≡◌, ℕ, Bool, true, false, not, ◌&&◌, eqb, List, [], ◌∷◌, Option, Some, None, is_some}
 use Rattle.std.proofs.Common.{refl, sym, ◌∙◌, ap, subst, inl, inr, true≢false, eqb-true}
 use Rattle.std.proofs.lemmas.Bool.{eqb-false, and_parts, and_right}
-use Rattle.std.specs.Str.{bytes_eq}
 use Rattle.std.proofs.lemmas.Slice.Eq.{bytes_eq-Decides}
+use Rattle.std.specs.Str.{bytes_eq}
 use Rattle.lexical_grammar.specs.declared.TokenKind.TheVariants as token
-use Rattle.document_grammar.specs.declared.kind.SyntaxKind.{SyntaxKind}
-use Rattle.document_grammar.specs.Kinds.{IDENT, words}
-use Rattle.document_grammar.specs.Choices.{is_keyword, word_beside, keyword_word}
-use Rattle.document_grammar.specs.Numbers.{number}
-use Rattle.document_grammar.specs.Booleans.{◌and◌, ◌or◌}
-use Rattle.document_grammar.specs.Derivation.{Listed}
-use Rattle.grammar_machine.specs.Machine.{word_class, text_eq}
 use Rattle.document_grammar.proofs.Booleans.{either, implies, eqb-refl, and-l, and-r}
+use Rattle.document_grammar.proofs.Keywords.{all_words, listed-at}
+use Rattle.document_grammar.specs.Booleans.{◌and◌, ◌or◌}
+use Rattle.document_grammar.specs.Choices.{is_keyword, word_beside, keyword_word}
+use Rattle.document_grammar.specs.Derivation.{Listed}
+use Rattle.document_grammar.specs.Kinds.{IDENT, words}
+use Rattle.document_grammar.specs.Numbers.{number}
+use Rattle.document_grammar.specs.declared.kind.SyntaxKind.{SyntaxKind}
 use Rattle.grammar_machine.proofs.Rules.{listed}
 use Rattle.grammar_machine.proofs.TableLemmas.{text-same}
-use Rattle.document_grammar.proofs.Keywords.{all_words, listed-at}
+use Rattle.grammar_machine.specs.Machine.{word_class, text_eq}
 use Rattle.parser_rules.specs.State.{Text, Lexeme, same_kind, is_word}
 
 -- the words of this kind are this text

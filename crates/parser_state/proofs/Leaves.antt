@@ -1,20 +1,20 @@
 -- The current token may be the one leaf of a name or a literal.
 use Rattle.std.proofs.Common.{◌≡◌, true, Option, Some, None, refl, sym, subst, inl, inr, rules}
+use Rattle.std.specs.Prelude.{codes}
 use denote.Enum.Bare.{same_true}
+use Rattle.lexical_grammar.specs.Answers.{IsTokenText}
 use Rattle.lexical_grammar.specs.contracts.TokenKind.{the_type}
 use Rattle.lexical_grammar.specs.declared.TokenKind.{TokenKind}
 use Rattle.lexical_grammar.specs.declared.TokenKind.TheVariants as token
-use Rattle.lexical_grammar.specs.Answers.{IsTokenText}
-use Rattle.document_grammar.specs.declared.kind.SyntaxKind.{SyntaxKind}
-use Rattle.document_grammar.specs.declared.kind.SyntaxKind.TheVariants as kind
-use Rattle.std.specs.Prelude.{codes}
-use Rattle.document_grammar.specs.Kinds.{words}
 use Rattle.document_grammar.specs.Choices.{keyword_word}
 use Rattle.document_grammar.specs.Forests.{none, leaf}
-use Rattle.apollo_tree.specs.Sound.{Fits}
+use Rattle.document_grammar.specs.Kinds.{words}
+use Rattle.document_grammar.specs.declared.kind.SyntaxKind.{SyntaxKind}
+use Rattle.document_grammar.specs.declared.kind.SyntaxKind.TheVariants as kind
 use Rattle.parser_rules.specs.State.{Text, Lexeme, IsNow, same_kind, is_at}
-use Rattle.parser_state.specs.Reading.{is_leaf_of}
+use Rattle.apollo_tree.specs.Sound.{Fits}
 use Rattle.parser_state.proofs.Keywords.{word_is}
+use Rattle.parser_state.specs.Reading.{is_leaf_of}
 
 kind-is : (a b : TokenKind) → true ≡ same_kind a b → a ≡ b
 unfolding same_kind

@@ -2,29 +2,29 @@
 use Rattle.std.proofs.Common.{◌≡◌, ℕ, zero, suc, ◌+◌, ◌-◌, ◌<◌, ◌≤◌, ◌^◌, Bool, true, false, List, [], ◌∷◌, ◌++◌}
 use Rattle.std.proofs.Common.{length, take, drop, get_or, map, Option, Some, None, ◌⊎◌, inl, inr, refl, sym, ap, ◌∙◌}
 use Rattle.std.proofs.Common.{subst, add-one, arith}
-use Rattle.std.specs.Prelude.{if◌then◌else◌}
-use Rattle.std.proofs.lemmas.List.{append-nil, length-append, length-take, map-append}
-use Rattle.std.proofs.lemmas.Bool.Decides.{nat_tests}
 use Rattle.std.proofs.Math.Seq.{drop-cons}
-use Rattle.lexical_grammar.specs.Cut.{Item, texts}
-use Rattle.lexical_grammar.specs.Answers.{Answer, answer_text, answers_text, limited}
-use Rattle.lexical_grammar.specs.Reads.{first_item, items_from}
-use Rattle.lexical_grammar.proofs.Limited.{limited-text}
-use Rattle.apollo_lexer.specs.declared.lexer.Lexer.{Lexer}
+use Rattle.std.proofs.lemmas.Bool.Decides.{nat_tests}
+use Rattle.std.proofs.lemmas.List.{append-nil, length-append, length-take, map-append}
 use Rattle.std.specs.Iterator.{YieldsFirstBy}
-use Rattle.apollo_lexer.specs.Answers.{answers_left, items_left}
-use Rattle.document_grammar.specs.declared.kind.SyntaxKind.{SyntaxKind}
-use Rattle.document_grammar.specs.Forests.{text, none, leaf}
+use Rattle.std.specs.Prelude.{if◌then◌else◌}
+use Rattle.lexical_grammar.proofs.Limited.{limited-text}
+use Rattle.lexical_grammar.specs.Answers.{Answer, answer_text, answers_text, limited}
+use Rattle.lexical_grammar.specs.Cut.{Item, texts}
+use Rattle.lexical_grammar.specs.Reads.{first_item, items_from}
 use Rattle.document_grammar.specs.Builds.{Building, built_text, open_text, start, add_leaf, finish, wrap, nothing}
-use Rattle.apollo_tree.specs.Sound.{Fits, CanFinish}
-use Rattle.apollo_tree.proofs.Steps.{leaf_text, wrap-text, finish-text}
+use Rattle.document_grammar.specs.Forests.{text, none, leaf}
+use Rattle.document_grammar.specs.declared.kind.SyntaxKind.{SyntaxKind}
 use Rattle.parser_rules.specs.State.{State, Text, Lexeme, PendingToken, add_all, flush}
-use Rattle.parser_state.specs.declared.state.PendingToken.{PendingToken as Waiting}
-use Rattle.parser_state.specs.View.{pending_of}
-use Rattle.parser_state.specs.declared.state.reader.Sorted.{Sorted}
-use Rattle.parser_state.specs.Sorted.{sorted_answer}
-use Rattle.parser_state.specs.Reading.{Taken}
+use Rattle.apollo_lexer.specs.Answers.{answers_left, items_left}
+use Rattle.apollo_lexer.specs.declared.lexer.Lexer.{Lexer}
+use Rattle.apollo_tree.proofs.Steps.{leaf_text, wrap-text, finish-text}
+use Rattle.apollo_tree.specs.Sound.{Fits, CanFinish}
 use Rattle.parser_state.specs.Lengths.{pending_length, current_length, answer_length, text_length, length_of}
+use Rattle.parser_state.specs.Reading.{Taken}
+use Rattle.parser_state.specs.Sorted.{sorted_answer}
+use Rattle.parser_state.specs.View.{pending_of}
+use Rattle.parser_state.specs.declared.state.PendingToken.{PendingToken as Waiting}
+use Rattle.parser_state.specs.declared.state.reader.Sorted.{Sorted}
 
 -- ---- what is built
 

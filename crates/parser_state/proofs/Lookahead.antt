@@ -1,14 +1,14 @@
 -- What was cut stays within the budget.
 use Rattle.std.proofs.Common.{◌≡◌, ℕ, zero, suc, ◌+◌, ◌-◌, ◌*◌, ◌≤◌, length, subst, Option, Some, None, is_some, List}
 use Rattle.std.proofs.Common.{[], ◌∷◌, refl, sym, ◌∙◌, ap, Bool, true, false, if◌then◌else◌, arith}
-use Rattle.lexical_grammar.specs.declared.TokenKind.{TokenKind}
 use Rattle.lexical_grammar.specs.Answers.{Answer, gives, limit_at, limited, is_given}
 use Rattle.lexical_grammar.specs.Cut.{Item}
-use Rattle.document_grammar.specs.declared.kind.SyntaxKind.{SyntaxKind}
+use Rattle.lexical_grammar.specs.declared.TokenKind.{TokenKind}
 use Rattle.document_grammar.proofs.Booleans.{not-some}
-use Rattle.apollo_lexer.specs.declared.lexer.Lexer.{Lexer}
-use Rattle.apollo_lexer.specs.Answers.{error_answer, answers_left, items_left}
+use Rattle.document_grammar.specs.declared.kind.SyntaxKind.{SyntaxKind}
 use Rattle.parser_rules.specs.State.{Text, Lexeme, ignored}
+use Rattle.apollo_lexer.specs.Answers.{error_answer, answers_left, items_left}
+use Rattle.apollo_lexer.specs.declared.lexer.Lexer.{Lexer}
 use Rattle.parser_state.specs.Lookahead.{given, looked, shown, spared, all_given}
 
 -- no more is looked at than is given

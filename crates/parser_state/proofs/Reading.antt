@@ -2,19 +2,19 @@
 use Rattle.std.proofs.Common.{◌≡◌, ℕ, ◌+◌, ◌<◌, Option, Some, None, is_some, List, ◌∷◌, map, length, get_or, drop, refl}
 use Rattle.std.proofs.Common.{sym, ◌∙◌, ap, subst, true, false, Bool, suc, add-one, [], arith}
 use Rattle.std.proofs.Math.Seq.{drop-cons}
-use Rattle.lexical_grammar.specs.declared.TokenKind.{TokenKind}
-use Rattle.lexical_grammar.specs.Cut.{Item}
-use Rattle.document_grammar.specs.declared.kind.SyntaxKind.{SyntaxKind}
 use Rattle.lexical_grammar.specs.Answers.{Answer, gives, limit_at, AreAnswers}
-use Rattle.apollo_lexer.specs.Answers.{error_answer}
+use Rattle.lexical_grammar.specs.Cut.{Item}
+use Rattle.lexical_grammar.specs.declared.TokenKind.{TokenKind}
+use Rattle.document_grammar.proofs.Booleans.{not-some}
 use Rattle.document_grammar.specs.Builds.{Building, add_leaf}
-use Rattle.parser_state.specs.declared.state.PendingToken.{PendingToken}
-use Rattle.parser_state.specs.View.{pending_of}
+use Rattle.document_grammar.specs.declared.kind.SyntaxKind.{SyntaxKind}
+use Rattle.parser_rules.proofs.runs.Reading.{Reading, stops, cuts, bad_text, waits, shows, reading, found, on_kind}
 use Rattle.parser_rules.specs.State.{State, Text, Lexeme, ignored, bad, met, wait, lexeme, read_on, second, add_all}
 use Rattle.parser_rules.specs.State.{flush, bump, moved}
-use Rattle.document_grammar.proofs.Booleans.{not-some}
-use Rattle.parser_rules.proofs.runs.Reading.{Reading, stops, cuts, bad_text, waits, shows, reading, found, on_kind}
+use Rattle.apollo_lexer.specs.Answers.{error_answer}
 use Rattle.parser_state.specs.Reading.{Taken, IsAnswerText, refused, added}
+use Rattle.parser_state.specs.View.{pending_of}
+use Rattle.parser_state.specs.declared.state.PendingToken.{PendingToken}
 
 on-is : (rest : List Answer) (s : State) (text : Text) (index : ℕ) (k : TokenKind)
     → read_on (gives (record { kind = Some k; text = text; index = index }) ∷ rest) s

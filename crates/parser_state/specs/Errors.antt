@@ -1,11 +1,11 @@
 -- The errors of a parser, and what it is for an error to say a report.
 use Rattle.std.specs.Prelude.{◌≡◌, ℕ, Bool, true, false, Option, Some, None}
-use Rattle.apollo_lexer.specs.Diagnostics.{Diagnostic, Subject, of_text, of_end, of_limit}
-use Rattle.apollo_lexer.specs.BadText.{bad_text_message}
-use Rattle.apollo_lexer.specs.LexErrors.{limit_message}
-use Rattle.parser_rules.specs.declared.message.Message.{Message}
 use Rattle.parser_rules.specs.Messages.{Text, Found, at_text, at_end, at_limit, message_text, recursion_limit_message}
 use Rattle.parser_rules.specs.State.{Lexeme, Report, found_at}
+use Rattle.parser_rules.specs.declared.message.Message.{Message}
+use Rattle.apollo_lexer.specs.BadText.{bad_text_message}
+use Rattle.apollo_lexer.specs.Diagnostics.{Diagnostic, Subject, of_text, of_end, of_limit}
+use Rattle.apollo_lexer.specs.LexErrors.{limit_message}
 use Rattle.parser_state.specs.Found.{found_of}
 use Rattle.parser_state.specs.View.{lexeme_of}
 use Rattle.parser_state.specs.declared.borrowed_error.BorrowedError.{BorrowedError}

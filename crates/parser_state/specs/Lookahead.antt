@@ -1,9 +1,9 @@
 -- How many items are cut, by a reader and by its copies that look ahead.
 use Rattle.std.specs.Prelude.{ℕ, ◌+◌, min, Bool, true, false, List, [], ◌∷◌, Option, Some, None}
 use Rattle.lexical_grammar.specs.Answers.{Answer, gives, limit_at}
-use Rattle.apollo_lexer.specs.declared.lexer.Lexer.{Lexer}
-use Rattle.apollo_lexer.specs.Answers.{final_high}
 use Rattle.parser_rules.specs.State.{Lexeme, ignored}
+use Rattle.apollo_lexer.specs.Answers.{final_high}
+use Rattle.apollo_lexer.specs.declared.lexer.Lexer.{Lexer}
 
 -- how many of the answers are items
 abbrev pub given : List Answer → ℕ

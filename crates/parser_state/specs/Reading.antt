@@ -1,10 +1,10 @@
 -- What one call of a lexer answers to a parser.
 use Rattle.std.specs.Prelude.{◌≡◌, ℕ, Bool, true, false, List, [], ◌∷◌, length, Option, Some, None, ⊤}
-use Rattle.lexical_grammar.specs.declared.TokenKind.TheVariants as token
 use Rattle.lexical_grammar.specs.Answers.{Answer, gives, limit_at, IsItemText}
+use Rattle.lexical_grammar.specs.declared.TokenKind.TheVariants as token
+use Rattle.document_grammar.specs.Builds.{nothing, start, add_leaf, finish}
 use Rattle.document_grammar.specs.declared.kind.SyntaxKind.{SyntaxKind}
 use Rattle.document_grammar.specs.declared.kind.SyntaxKind.TheVariants as kind
-use Rattle.document_grammar.specs.Builds.{nothing, start, add_leaf, finish}
 use Rattle.parser_rules.specs.State.{State, Text, Lexeme, is_at, is_word, bad, met, read_on}
 
 -- an answer was taken

@@ -1,8 +1,8 @@
 -- What it is for an answer of the lexer to be sorted.
 use Rattle.std.specs.Prelude.{◌≡◌, Some, None, Ok, Err, ⊤}
 use Rattle.lexical_grammar.specs.Answers.{Answer}
-use Rattle.apollo_lexer.specs.Answers.{answer_of}
 use Rattle.parser_rules.specs.State.{ignored}
+use Rattle.apollo_lexer.specs.Answers.{answer_of}
 use Rattle.parser_state.specs.declared.state.reader.Sorted.{Sorted}
 use Rattle.parser_state.specs.declared.state.reader.Sorted.TheVariants.{Significant, Ignored, Bad}
 

@@ -1,11 +1,11 @@
 -- What a parser shows of its tokens and errors.
 use Rattle.std.specs.Prelude.{ℕ, Bool, true, false, Option, Some, None}
+use Rattle.parser_rules.specs.State as state
+use Rattle.parser_rules.specs.State.{Text, Lexeme, bad_report, token_limit_report, recursion_limit_report, fault_report}
 use Rattle.apollo_lexer.specs.declared.token.Token.{Token}
-use Rattle.parser_state.specs.declared.state.PendingToken.{PendingToken}
 use Rattle.parser_state.specs.declared.borrowed_error.BorrowedError.{BorrowedError}
 use Rattle.parser_state.specs.declared.borrowed_error.BorrowedError.TheVariants.{Lexer, Fault, RecursionLimit}
-use Rattle.parser_rules.specs.State.{Text, Lexeme, bad_report, token_limit_report, recursion_limit_report, fault_report}
-use Rattle.parser_rules.specs.State as state
+use Rattle.parser_state.specs.declared.state.PendingToken.{PendingToken}
 
 abbrev pub lexeme_of : Token → Lexeme
 lexeme_of t = record { kind = t.kind; text = t.text.now; index = t.index }

@@ -1,18 +1,18 @@
 -- The levels of the nodes above a node.
 use Rattle.std.proofs.Common.{◌≡◌, ℕ, zero, suc, ◌∷◌, Option, Some, None, refl, sym}
 use Rattle.std.proofs.Common.{◌∙◌, ap}
-use Rattle.std.specs.Prelude.{option_map}
-use Rattle.std.specs.List.{All}
 use Rattle.std.proofs.lemmas.List.Elements.{All-cons, All-filter, All-nil}
 use Rattle.std.proofs.lemmas.Option.{same_Some}
+use Rattle.std.specs.List.{All}
+use Rattle.std.specs.Prelude.{option_map}
 use Rattle.document_grammar.specs.Forests.{Forest}
-use Rattle.apollo_tree.specs.declared.node.SyntaxNode.{SyntaxNode}
+use Rattle.apollo_tree.proofs.Chains.{chain-step}
 use Rattle.apollo_tree.specs.Above.{at_or_above}
 use Rattle.apollo_tree.specs.Below.{below, places_from}
 use Rattle.apollo_tree.specs.Children.{is_node_place}
 use Rattle.apollo_tree.specs.Order.{Place, element, parent_place}
 use Rattle.apollo_tree.specs.References.{node_place}
-use Rattle.apollo_tree.proofs.Chains.{chain-step}
+use Rattle.apollo_tree.specs.declared.node.SyntaxNode.{SyntaxNode}
 use Rattle.validation_names.specs.Sites.{nodes}
 use Rattle.type_system.specs.Types.{Types}
 use Rattle.query_validation.specs.Contexts.{around, as_context, inside, step}

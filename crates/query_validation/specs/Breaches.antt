@@ -1,6 +1,6 @@
 -- The places at which operations and fragments break rules, by the types of a schema.
-use Rattle.std.specs.Prelude.{◌≡◌, List, [], ◌∷◌, map, Bool, Option, Some, None, option_map}
 use Rattle.std.specs.List.{filter, flat_map}
+use Rattle.std.specs.Prelude.{◌≡◌, List, [], ◌∷◌, map, Bool, Option, Some, None, option_map}
 use Rattle.document_grammar.specs.declared.kind.SyntaxKind.TheVariants.{ARGUMENTS}
 use Rattle.apollo_tree.specs.Order.{Place}
 use Rattle.apollo_cst_core.specs.Kinds.{is_of_one}

@@ -1,26 +1,26 @@
 -- What holds at a place in an operation or a fragment, by the types of a schema.
-use Rattle.std.specs.Prelude.{ℕ, List, [], ◌∷◌, Bool, false, Option, Some, None, option_map, option_and_then}
-use Rattle.std.specs.Prelude.{if◌then◌else◌}
 use Rattle.std.specs.List.{find}
 use Rattle.std.specs.Option.{option_or}
+use Rattle.std.specs.Prelude.{ℕ, List, [], ◌∷◌, Bool, false, Option, Some, None, option_map, option_and_then}
+use Rattle.std.specs.Prelude.{if◌then◌else◌}
 use denote.Ref.{Bor}
 use Rattle.document_grammar.specs.declared.kind.SyntaxKind.{SyntaxKind}
 use Rattle.document_grammar.specs.declared.kind.SyntaxKind.TheVariants.{DIRECTIVE, FIELD, FRAGMENT_DEFINITION}
 use Rattle.document_grammar.specs.declared.kind.SyntaxKind.TheVariants.{INLINE_FRAGMENT, OPERATION_DEFINITION}
 use Rattle.document_grammar.specs.declared.kind.SyntaxKind.TheVariants.{TYPE_CONDITION}
-use Rattle.apollo_tree.specs.Order.{Place, parent_place}
 use Rattle.apollo_tree.specs.Above.{at_or_above}
 use Rattle.apollo_tree.specs.Children.{child_nodes}
+use Rattle.apollo_tree.specs.Order.{Place, parent_place}
 use Rattle.apollo_cst_core.specs.Kinds.{is_of, is_of_one}
-use Rattle.validation_names.specs.Names.{Name}
 use Rattle.validation_names.specs.Mentions.{name_of}
+use Rattle.validation_names.specs.Names.{Name}
 use Rattle.validation_names.specs.Sites.{Located}
-use Rattle.type_system.specs.declared.kinds.OperationType.TheVariants.{Query}
-use Rattle.type_system.specs.declared.kinds.TheConstants.{COMPOSITE_TYPES, LEAF_TYPES}
-use Rattle.type_system.specs.declared.schema.DefinitionWithArguments.{DefinitionWithArguments}
 use Rattle.type_system.specs.Definitions.{named_type, operation_type}
 use Rattle.type_system.specs.Schemas.{as_with_arguments}
 use Rattle.type_system.specs.Types.{Types, WithArguments, has_number}
+use Rattle.type_system.specs.declared.kinds.OperationType.TheVariants.{Query}
+use Rattle.type_system.specs.declared.kinds.TheConstants.{COMPOSITE_TYPES, LEAF_TYPES}
+use Rattle.type_system.specs.declared.schema.DefinitionWithArguments.{DefinitionWithArguments}
 use Rattle.query_validation.specs.declared.contexts.Context as declared
 
 pub record Context : Type 0 where

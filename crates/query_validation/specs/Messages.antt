@@ -1,10 +1,10 @@
 -- The message of a breach, in the words of graphql-js 16.
+use Rattle.std.specs.List.{flat_map}
 use Rattle.std.specs.Prelude.{ℕ, List, [], ◌∷◌, ◌++◌, codes, Option, Some, None, option_map, option_and_then}
 use Rattle.std.specs.Prelude.{if◌then◌else◌}
-use Rattle.std.specs.List.{flat_map}
 use Rattle.document_grammar.specs.declared.kind.SyntaxKind.TheVariants.{DIRECTIVE, FIELD}
-use Rattle.apollo_tree.specs.Order.{Place, parent_place, text_at}
 use Rattle.apollo_tree.specs.Below.{at_or_below}
+use Rattle.apollo_tree.specs.Order.{Place, parent_place, text_at}
 use Rattle.apollo_cst_core.specs.Kinds.{is_of, is_of_one}
 use Rattle.validation_names.specs.Names.{Name}
 use Rattle.validation_names.specs.OwnNames.{name_at, or_nothing, own_name}

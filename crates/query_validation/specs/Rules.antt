@@ -1,20 +1,20 @@
 -- The rules of section 5 (GraphQL October 2021) that need the types of a schema, each as a test on one node. What a
 -- rule says is broken is judged only where the types are known: below an unknown field, nothing is.
+use Rattle.std.specs.List.{filter, find}
 use Rattle.std.specs.Prelude.{ℕ, List, [], ◌∷◌, map, Bool, false, not, ◌&&◌, ◌||◌, Option, Some, None, is_some}
 use Rattle.std.specs.Prelude.{is_none, if◌then◌else◌, option_map, option_and_then}
-use Rattle.std.specs.List.{filter, find}
 use Rattle.document_grammar.specs.declared.kind.SyntaxKind.TheVariants.{ARGUMENT, ARGUMENTS, DIRECTIVE, FIELD}
 use Rattle.document_grammar.specs.declared.kind.SyntaxKind.TheVariants.{NAMED_TYPE, SELECTION_SET, TYPE_CONDITION}
 use Rattle.document_grammar.specs.declared.kind.SyntaxKind.TheVariants.{VARIABLE_DEFINITION}
-use Rattle.apollo_tree.specs.Order.{Place, parent_place}
 use Rattle.apollo_tree.specs.Children.{child_nodes}
+use Rattle.apollo_tree.specs.Order.{Place, parent_place}
 use Rattle.apollo_cst_core.specs.Kinds.{is_of, is_of_one}
-use Rattle.validation_names.specs.Names.{Name}
 use Rattle.validation_names.specs.Mentions.{name_of}
+use Rattle.validation_names.specs.Names.{Name}
 use Rattle.validation_names.specs.Sites.{Located}
-use Rattle.type_system.specs.declared.kinds.TheConstants.{TYPE_REFERENCES}
 use Rattle.type_system.specs.Definitions.{items, named_in}
 use Rattle.type_system.specs.Types.{Types, WithArguments, first_named}
+use Rattle.type_system.specs.declared.kinds.TheConstants.{TYPE_REFERENCES}
 use Rattle.query_validation.specs.Contexts.{Context, is_composite, is_leaf, type_definition, type_named_in, type_of}
 use Rattle.query_validation.specs.declared.rules.QueryRule.{QueryRule}
 use Rattle.query_validation.specs.declared.rules.QueryRule.TheVariants as rule

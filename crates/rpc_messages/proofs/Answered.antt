@@ -1,20 +1,20 @@
 -- What the texts of whole messages are.
 use Rattle.std.proofs.Common.{◌≡◌, ℕ, ℤ, ◌≤◌, List, [], ◌∷◌, ◌++◌, Option, Some, length, length-append, arith, drop, ap}
 use Rattle.std.proofs.Common.{sym, ◌∙◌, subst, inl, inr}
-use Rattle.std.specs.Prelude.{◌≢◌}
 use Rattle.std.proofs.lemmas.List.{drop-append-le}
+use Rattle.std.specs.Prelude.{◌≢◌}
 use lib.IntN.{pos, neg_ℤ}
-use Rattle.json.specs.Token.{Token, end_object}
 use Rattle.json.specs.Json as json
 use Rattle.json.specs.Json.{Json, Members}
+use Rattle.json.specs.Token.{Token, end_object}
 use Rattle.json.specs.Tree.{json_tokens}
-use Rattle.rpc_messages.specs.declared.nesting.Expected.{Expected}
-use Rattle.rpc_messages.specs.declared.nesting.Expected.TheVariants.{Value}
+use Rattle.rpc_messages.proofs.Nested.{after_both, nests, value_of}
 use Rattle.rpc_messages.specs.Answers.{AreOfObject, HasTokens, IsAnswerOf, answer_front, error_member, notice_front}
 use Rattle.rpc_messages.specs.Answers.{request_front, response_front}
 use Rattle.rpc_messages.specs.Messages.{IsAnswer, IsError, IsNotice, IsNoticeOf, IsRequest, IsRequestOf, IsResult}
 use Rattle.rpc_messages.specs.Nesting.{after_all}
-use Rattle.rpc_messages.proofs.Nested.{after_both, nests, value_of}
+use Rattle.rpc_messages.specs.declared.nesting.Expected.{Expected}
+use Rattle.rpc_messages.specs.declared.nesting.Expected.TheVariants.{Value}
 
 -- the text of a result
 result_text : (id result : Json) (body : List ℕ)

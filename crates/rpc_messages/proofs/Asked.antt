@@ -1,13 +1,13 @@
 -- Which bodies need an answer, and with which id.
 use Rattle.std.proofs.Common.{◌≡◌, ℕ, List, Option, Some, None, refl, ap, ◌∙◌, sym, inl, option_map}
 use Rattle.std.specs.Str.{IsUtf8}
-use Rattle.json.specs.Json.{Json, document, null}
-use Rattle.json.specs.Find.{get}
-use Rattle.json.specs.Tree.{HasNumbers}
 use Rattle.json.proofs.Numbered.{HasNumbers-get}
-use Rattle.rpc_messages.specs.declared.reply.Reply.{Reply}
+use Rattle.json.specs.Find.{get}
+use Rattle.json.specs.Json.{Json, document, null}
+use Rattle.json.specs.Tree.{HasNumbers}
 use Rattle.rpc_messages.specs.Messages.{Asks}
 use Rattle.rpc_messages.specs.Replies.{Replies}
+use Rattle.rpc_messages.specs.declared.reply.Reply.{Reply}
 
 -- the id that a message has can be written
 pub id_writable : {V : Type 0} (view : V → Json) (name : List ℕ) (message : Json) (found : Option V) (id : V)

@@ -1,21 +1,21 @@
 -- Tokens that nest as expected are those of one value, and the tokens of a value nest so.
 use Rattle.std.proofs.Common.{◌≡◌, ℕ, suc, ◌+◌, ◌<◌, List, [], ◌∷◌, ◌++◌, Option, Some, None, ap, sym, refl, subst, ◌∙◌}
 use Rattle.std.proofs.Common.{append_assoc, map, length, take, get_or, arith}
-use Rattle.std.specs.List.{flat_map}
+use Rattle.std.proofs.Math.Seq.{take-suc}
 use Rattle.std.proofs.lemmas.Grind.{flat_map-append}
 use Rattle.std.proofs.lemmas.List.{append-nil}
 use Rattle.std.proofs.lemmas.List.Concat.{flat_map-cons}
-use Rattle.std.proofs.Math.Seq.{take-suc}
+use Rattle.std.specs.List.{flat_map}
 use Rattle.std.specs.Prelude.{option_and_then, option_map}
-use Rattle.json.specs.Token.{Token, begin_object, end_object, begin_array, end_array, key, string, number, boolean}
-use Rattle.json.specs.Token.{null, bad}
 use Rattle.json.specs.Json as json
 use Rattle.json.specs.Json.{Json, Items, Members}
+use Rattle.json.specs.Token.{Token, begin_object, end_object, begin_array, end_array, key, string, number, boolean}
+use Rattle.json.specs.Token.{null, bad}
 use Rattle.json.specs.Tree.{json_tokens, items_tokens, members_tokens}
-use Rattle.rpc_messages.specs.declared.nesting.Expected.{Expected}
-use Rattle.rpc_messages.specs.declared.nesting.Expected.TheVariants.{Value, Item, Member}
 use Rattle.rpc_messages.specs.Nesting.{after, after_all, after_key, after_items, after_members, after_value}
 use Rattle.rpc_messages.specs.Pieces.{number_token, tokens_of}
+use Rattle.rpc_messages.specs.declared.nesting.Expected.{Expected}
+use Rattle.rpc_messages.specs.declared.nesting.Expected.TheVariants.{Value, Item, Member}
 use Rattle.rpc_messages.specs.declared.pieces.Piece.{Piece}
 
 abbrev Open : Type 0

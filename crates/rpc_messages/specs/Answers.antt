@@ -1,17 +1,17 @@
 -- How an answer is written, part by part.
-use Rattle.std.specs.Prelude.{◌≡◌, ◌≢◌, ℕ, ℤ, ◌≤◌, List, [], ◌∷◌, ◌++◌, Some, codes, drop, length}
 use Rattle.std.specs.Fmt.{signed_decimal}
+use Rattle.std.specs.Prelude.{◌≡◌, ◌≢◌, ℕ, ℤ, ◌≤◌, List, [], ◌∷◌, ◌++◌, Some, codes, drop, length}
 use Rattle.std.specs.Str.{IsUtf8}
 use lib.IntN.{pos, neg_ℤ}
-use Rattle.json.specs.Token.{Token, begin_object, end_object, key, string, number, null}
 use Rattle.json.specs.Json as json
 use Rattle.json.specs.Json.{Json, Members}
 use Rattle.json.specs.Lex.{tokens}
+use Rattle.json.specs.Token.{Token, begin_object, end_object, key, string, number, null}
 use Rattle.json.specs.Tree.{json_tokens}
-use Rattle.rpc_messages.specs.declared.message.LongAnswer.TheInside.{Inside}
-use Rattle.rpc_messages.specs.declared.nesting.Expected.TheVariants.{Value}
 use Rattle.rpc_messages.specs.Messages.{IsError, IsResult}
 use Rattle.rpc_messages.specs.Nesting.{after_all, expected_in}
+use Rattle.rpc_messages.specs.declared.message.LongAnswer.TheInside.{Inside}
+use Rattle.rpc_messages.specs.declared.nesting.Expected.TheVariants.{Value}
 
 -- the token of a request's id
 abbrev pub id_token : Json → Token

@@ -1,9 +1,9 @@
 -- What has to be answered, and what an answer, a notice and a request of the server are.
-use Rattle.std.specs.Prelude.{◌≡◌, ◌⊎◌, ℕ, ℤ, List, Option, Some, None, codes}
 use Rattle.std.specs.Fmt.{signed_decimal}
+use Rattle.std.specs.Prelude.{◌≡◌, ◌⊎◌, ℕ, ℤ, List, Option, Some, None, codes}
 use Rattle.std.specs.Str.{IsUtf8}
-use Rattle.json.specs.Json.{Json, Members, array, boolean, document, member, no_members, null, number, object, string}
 use Rattle.json.specs.Find.{get}
+use Rattle.json.specs.Json.{Json, Members, array, boolean, document, member, no_members, null, number, object, string}
 use Rattle.json.specs.Lex.{tokens}
 use Rattle.json.specs.Tree.{json_tokens}
 

@@ -1,6 +1,6 @@
 -- Which tokens of JSON a piece is.
-use Rattle.std.specs.Prelude.{◌≡◌, List, [], ◌∷◌, ◌++◌, ℕ, map, decimal, OnOk, Result}
 use Rattle.std.specs.Fmt.{signed_decimal}
+use Rattle.std.specs.Prelude.{◌≡◌, List, [], ◌∷◌, ◌++◌, ℕ, map, decimal, OnOk, Result}
 use Rattle.json.specs.Token as json
 use Rattle.json.specs.Written.{Written}
 use Rattle.rpc_messages.specs.declared.pieces.Piece.{Piece}

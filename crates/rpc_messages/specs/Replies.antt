@@ -1,9 +1,9 @@
 -- What a reply may be.
 use Rattle.std.specs.Prelude.{◌≡◌, ⊤, Option, Some, None}
 use Rattle.json.specs.Json.{Json}
+use Rattle.rpc_messages.specs.Messages.{IsAnswer, IsNotice, IsRequest}
 use Rattle.rpc_messages.specs.declared.reply.Reply.{Reply}
 use Rattle.rpc_messages.specs.declared.reply.Reply.TheVariants.{Nothing, Answer, Notice, Request, Exit}
-use Rattle.rpc_messages.specs.Messages.{IsAnswer, IsNotice, IsRequest}
 
 -- The reply to a message that needs an answer with this id, or none. There is an answer exactly where one is needed,
 -- and it has that id.

@@ -1,11 +1,11 @@
 -- The reply to a message, and the new state of the service that takes it.
 use Rattle.std.specs.Prelude.{◌≡◌, ◌⊎◌, ℕ, ℤ, List, Option, Some, None, codes, unwrap_or}
 use lib.IntN.{pos, neg_ℤ}
-use Rattle.json.specs.Json.{Json, null}
 use Rattle.json.specs.Find.{as_str, get}
+use Rattle.json.specs.Json.{Json, null}
+use Rattle.rpc_messages.specs.Messages.{IsError, IsJson, IsNoJson}
 use Rattle.rpc_messages.specs.declared.reply.Reply.{Reply}
 use Rattle.rpc_messages.specs.declared.reply.Reply.TheVariants.{Nothing, Answer, Notice, Request, Exit}
-use Rattle.rpc_messages.specs.Messages.{IsError, IsJson, IsNoJson}
 
 -- the parameters of a message: null where it has none
 abbrev pub params_of : Json → Json

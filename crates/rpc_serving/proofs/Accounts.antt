@@ -1,9 +1,9 @@
 -- Accounts of the reader and of the writer, one turn after the other.
 use Rattle.std.proofs.Common.{◌≡◌, ℕ, zero, suc, ◌+◌, ◌≤◌, List, ◌++◌, length, take, refl, arith, length-append}
-use Rattle.std.specs.Prelude.{◌≢◌, Result, Ok, Err}
 use Rattle.std.proofs.lemmas.List.{length-take}
-use Rattle.byte_streams.specs.Devices.{Account, moved, stopped, failed, after}
+use Rattle.std.specs.Prelude.{◌≢◌, Result, Ok, Err}
 use Rattle.byte_streams.proofs.Accounts.{moved_moved}
+use Rattle.byte_streams.specs.Devices.{Account, moved, stopped, failed, after}
 
 -- the reader came to its end
 pub at_end : {E : Type 0} (r : Result ℕ E) (n : ℕ) (buffer : List ℕ) (old now new : Account) → now ≡ old → r ≡ Ok n

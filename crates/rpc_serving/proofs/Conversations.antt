@@ -1,9 +1,9 @@
 -- Conversations over several reads.
 use Rattle.std.proofs.Common.{◌≡◌, ℕ, List, [], ◌∷◌, ◌++◌, Option, Some, None, sym, ap, ◌∙◌, refl, subst, append_assoc}
 use Rattle.std.proofs.lemmas.List.{append-nil}
-use Rattle.rpc_serving.specs.Frames.{BeginsWithFrame, HasNoFrame, NeverHasFrame}
 use Rattle.rpc_messages.specs.declared.reply.Reply.{Reply}
 use Rattle.rpc_serving.specs.Exchange.{Exchange, waits, replied, ended, passed_over, said_for}
+use Rattle.rpc_serving.specs.Frames.{BeginsWithFrame, HasNoFrame, NeverHasFrame}
 
 still_begins : (bytes body rest more : List ℕ) → BeginsWithFrame bytes body rest
     → BeginsWithFrame (bytes ++ more) body (rest ++ more)

@@ -1,21 +1,21 @@
 -- Runs that fail, and what they wrote.
 use Rattle.std.proofs.Common.{◌≡◌, ◌≤◌, ℕ, List, ◌++◌, Option, sym, ap, ◌∙◌, subst, inl, inr, append_assoc, length}
 use Rattle.std.proofs.Common.{take, arith}
+use Rattle.std.proofs.lemmas.List.{length-take}
+use Rattle.std.proofs.lemmas.Result.{err_from_is_err_and}
 use Rattle.std.specs.Prelude.{Result, IfErr}
 use Rattle.std.specs.Result.{IsErrAnd}
-use Rattle.std.proofs.lemmas.Result.{err_from_is_err_and}
-use Rattle.std.proofs.lemmas.List.{length-take}
+use Rattle.byte_streams.proofs.Accounts.{moved_moved}
 use Rattle.byte_streams.specs.Devices.{Account, failed, moved, stopped}
-use Rattle.byte_streams.specs.Writing.{IsBroken}
 use Rattle.byte_streams.specs.Writing as writing
+use Rattle.byte_streams.specs.Writing.{IsBroken}
 use Rattle.byte_streams.specs.declared.fault.Fault.{Fault}
 use Rattle.byte_streams.specs.declared.fault.Fault.TheVariants.{Read, Utf8, Memory, Write}
-use Rattle.byte_streams.proofs.Accounts.{moved_moved}
-use Rattle.rpc_serving.specs.Frames.{HasNoFrame}
 use Rattle.rpc_messages.specs.declared.reply.Reply.{Reply}
-use Rattle.rpc_serving.specs.Exchange.{Exchange}
-use Rattle.rpc_serving.specs.Serving.{EndsServing}
 use Rattle.rpc_serving.proofs.Conversations.{GoesOn, stops_so}
+use Rattle.rpc_serving.specs.Exchange.{Exchange}
+use Rattle.rpc_serving.specs.Frames.{HasNoFrame}
+use Rattle.rpc_serving.specs.Serving.{EndsServing}
 
 -- what each error of a result means
 pub each_error : {T E : Type 0} {Q R : E → Type 0} (r : Result T E) → IsErrAnd r Q

@@ -2,20 +2,20 @@
 use Rattle.std.proofs.Common.{◌≡◌, ℕ, ◌+◌, ◌-◌, ◌<◌, ◌≤◌, ◌^◌, ◌≢◌, min, Option, Some, None, Result, Ok, Err, List}
 use Rattle.std.proofs.Common.{◌++◌, length, map, take, drop, refl, sym, ap, ◌∙◌, subst, arith, append_assoc}
 use Rattle.std.proofs.Common.{length-append, length-drop}
-use Rattle.std.specs.Prelude.{slice_range, IfSome, IfErr}
-use Rattle.std.proofs.lemmas.List.{take-append-drop, take_at, drop_at, length-take, length-map, take-append-le}
 use Rattle.std.proofs.Math.Seq.{take-add}
+use Rattle.std.proofs.lemmas.List.{take-append-drop, take_at, drop_at, length-take, length-map, take-append-le}
 use Rattle.std.specs.List.{flat_map}
+use Rattle.std.specs.Prelude.{slice_range, IfSome, IfErr}
+use Rattle.httparse.proofs.GrammarLemmas.{section_unique, ReadsSection-append}
 use Rattle.httparse.specs.Grammar.{Field, LineEnd, crlf, lf, print_end, print_field, print_section, ReadsSection}
 use Rattle.httparse.specs.Grammar.{HasNoSection}
-use Rattle.httparse.specs.declared.spans.HeaderSpan.{HeaderSpan}
 use Rattle.httparse.specs.Spans.{name_and_value, header_bytes, IsSectionAt, IsSectionOf, IsSectionWithin}
 use Rattle.httparse.specs.Spans.{SectionOverflows}
-use Rattle.httparse.proofs.GrammarLemmas.{section_unique, ReadsSection-append}
-use Rattle.rpc_serving.specs.declared.frames.FrameError.{FrameError}
-use Rattle.rpc_serving.specs.declared.frames.FrameError.TheVariants.{Memory}
+use Rattle.httparse.specs.declared.spans.HeaderSpan.{HeaderSpan}
 use Rattle.rpc_serving.specs.Frames.{length_in, BeginsWithFrame, IsFrame, HasNoFrame, NeverHasFrame, Agrees, IsHeadAt}
 use Rattle.rpc_serving.specs.Frames.{IsBodyAt}
+use Rattle.rpc_serving.specs.declared.frames.FrameError.{FrameError}
+use Rattle.rpc_serving.specs.declared.frames.FrameError.TheVariants.{Memory}
 
 -- the section of a frame, in bytes that begin with it
 section : (bytes frame body more : List ℕ) (f : IsFrame frame body) → bytes ≡ frame ++ more

@@ -4,12 +4,12 @@ use Rattle.std.proofs.Common.{Some, None, sym, ap, ◌∙◌, subst, append_asso
 use Rattle.std.proofs.lemmas.Bool.Decides.{nat_tests}
 use Rattle.std.proofs.lemmas.List.{append-nil}
 use Rattle.json.specs.Json.{Json}
-use Rattle.rpc_serving.specs.Frames.{BeginsWithFrame, HasNoFrame, IsSkipped, NeverHasFrame}
-use Rattle.rpc_messages.specs.declared.reply.Reply.{Reply}
-use Rattle.rpc_messages.specs.declared.reply.Reply.TheVariants.{Nothing, Answer, Notice, Request, Exit}
 use Rattle.rpc_messages.specs.Messages.{Asks, AsksForEnd}
 use Rattle.rpc_messages.specs.Replies.{EndsOnlyIf, Replies}
+use Rattle.rpc_messages.specs.declared.reply.Reply.{Reply}
+use Rattle.rpc_messages.specs.declared.reply.Reply.TheVariants.{Nothing, Answer, Notice, Request, Exit}
 use Rattle.rpc_serving.specs.Exchange.{Exchange, waits, replied, ended, passed_over, said_for, status_of}
+use Rattle.rpc_serving.specs.Frames.{BeginsWithFrame, HasNoFrame, IsSkipped, NeverHasFrame}
 
 -- the reply that a body needs
 abbrev pub IsReplyTo : List ℕ → Reply → Type 0

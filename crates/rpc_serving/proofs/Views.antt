@@ -1,11 +1,11 @@
 -- A conversation with a service is one over what is seen of it.
 use Rattle.std.proofs.Common.{◌≡◌, ℕ, List, Option, Some, None, subst, ap, inl, inr}
 use Rattle.json.specs.Json.{Json}
-use Rattle.rpc_messages.specs.Steps.{StepsBy, Takes}
-use Rattle.rpc_messages.specs.declared.reply.Reply.{Reply}
 use Rattle.byte_streams.specs.Devices.{Account}
 use Rattle.byte_streams.specs.declared.fault.Fault.{Fault}
 use Rattle.byte_streams.specs.declared.fault.Fault.TheVariants.{Read, Utf8, Memory, Write}
+use Rattle.rpc_messages.specs.Steps.{StepsBy, Takes}
+use Rattle.rpc_messages.specs.declared.reply.Reply.{Reply}
 use Rattle.rpc_serving.specs.Exchange.{Exchange, waits, replied, ended, passed_over}
 use Rattle.rpc_serving.specs.Serving.{EndsServing, IsServed}
 

@@ -1,17 +1,17 @@
 -- The frame that is written, as the grammar reads it.
 use Rattle.std.proofs.Common.{◌≡◌, ℕ, ◌+◌, ◌≤◌, ◌^◌, true, false, Some, List, [], ◌∷◌, ◌++◌, length, reverse, refl, ap}
 use Rattle.std.proofs.Common.{◌∙◌, arith, get_or, append_assoc, length-append}
-use Rattle.std.specs.Prelude.{codes, decimal}
-use Rattle.std.specs.Char.{is_ascii_digit}
-use Rattle.std.specs.List.{AllPass, list_all}
 use Rattle.std.proofs.lemmas.Bool.Decides.{nat_tests}
 use Rattle.std.proofs.lemmas.Fmt.{decimal_is_IsNumeral, length-decimal-le}
 use Rattle.std.proofs.lemmas.List.Elements.{All-cons, All-nil}
 use Rattle.std.proofs.lemmas.List.Sums.{AllPass-from_list_all}
-use Rattle.httparse.specs.Grammar.{Field, IsField, crlf, is_ows, is_token_byte, is_value_byte, skip_ows, trim_ows}
+use Rattle.std.specs.Char.{is_ascii_digit}
+use Rattle.std.specs.List.{AllPass, list_all}
+use Rattle.std.specs.Prelude.{codes, decimal}
 use Rattle.httparse.proofs.TrimLemmas.{AllPass-reverse, trim_ows_space}
-use Rattle.rpc_serving.specs.Frames.{IsFrame, frame_of, numeral}
+use Rattle.httparse.specs.Grammar.{Field, IsField, crlf, is_ows, is_token_byte, is_value_byte, skip_ows, trim_ows}
 use Rattle.rpc_serving.proofs.NumeralLemmas.{digits-listed, numeral-digits}
+use Rattle.rpc_serving.specs.Frames.{IsFrame, frame_of, numeral}
 
 digit-ows : (c : ℕ) → is_ascii_digit c ≡ true → is_ows c ≡ false
 digit-ows c h = grind (arith, nat_tests)

@@ -1,7 +1,7 @@
 -- Where directives may be (GraphQL, October 2021, section 3.13).
+use Rattle.std.specs.List.{filter, find, list_any}
 use Rattle.std.specs.Prelude.{◌≡◌, ℕ, Bool, true, false, ◌&&◌, if◌then◌else◌, List, [], ◌∷◌, codes, bytes_eq}
 use Rattle.std.specs.Prelude.{Option, Some, None, MatchOption, option_and_then, option_map, unwrap_or}
-use Rattle.std.specs.List.{filter, find, list_any}
 use Rattle.document_grammar.specs.declared.kind.SyntaxKind.TheVariants.{ARGUMENTS_DEFINITION, DIRECTIVE}
 use Rattle.document_grammar.specs.declared.kind.SyntaxKind.TheVariants.{DIRECTIVE_DEFINITION, DIRECTIVE_LOCATIONS}
 use Rattle.document_grammar.specs.declared.kind.SyntaxKind.TheVariants.{INPUT_VALUE_DEFINITION, OPERATION_DEFINITION}

@@ -1,7 +1,7 @@
 -- The definitions of documents, and their members (GraphQL, October 2021, sections 3.6 to 3.13).
+use Rattle.std.specs.List.{filter, find, flat_map, list_any}
 use Rattle.std.specs.Prelude.{ℕ, suc, Bool, false, ◌&&◌, ◌||◌, if◌then◌else◌, List, [], ◌∷◌, ◌++◌, map, bytes_eq}
 use Rattle.std.specs.Prelude.{Option, Some, None, option_and_then, option_map, unwrap_or}
-use Rattle.std.specs.List.{filter, find, flat_map, list_any}
 use Rattle.document_grammar.specs.declared.kind.SyntaxKind.TheVariants.{ENUM_VALUE, ENUM_VALUE_DEFINITION}
 use Rattle.document_grammar.specs.declared.kind.SyntaxKind.TheVariants.{FIELD_DEFINITION, IMPLEMENTS_INTERFACES}
 use Rattle.document_grammar.specs.declared.kind.SyntaxKind.TheVariants.{INPUT_VALUE_DEFINITION}

@@ -1,13 +1,13 @@
 -- Lists that are picked from, with one item more.
 use Rattle.std.proofs.Common.{◌≡◌, ℕ, zero, suc, ◌+◌, ◌<◌, List, [], ◌∷◌, ◌++◌, length, map, take, get_or, Bool, true}
 use Rattle.std.proofs.Common.{false, cond, Option, Some, None, refl, sym, ◌∙◌, ap, append-nil, arith}
-use Rattle.std.specs.Prelude.{◌||◌}
-use Rattle.std.specs.List.{filter, find, flat_map, list_any}
-use Rattle.std.specs.Option.{option_or}
 use Rattle.std.proofs.lemmas.List.{map-append, take_more}
 use Rattle.std.proofs.lemmas.List.Concat.{flat_map-append}
 use Rattle.std.proofs.lemmas.List.Elements.{filter-append}
 use Rattle.std.proofs.lemmas.List.Folds.{find-append}
+use Rattle.std.specs.List.{filter, find, flat_map, list_any}
+use Rattle.std.specs.Option.{option_or}
+use Rattle.std.specs.Prelude.{◌||◌}
 
 module _ {A B : Type 0} (g : A → B) (xs : List A) (n : ℕ) (x : A) (below : n < length xs) (is : x ≡ get_or xs n x) where
   pub mapped_more : map g (take (n + 1) xs) ≡ map g (take n xs) ++ g x ∷ []

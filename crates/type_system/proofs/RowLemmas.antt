@@ -1,9 +1,6 @@
 -- Rows of items, and their tables.
 use Rattle.std.proofs.Common.{◌≡◌, ◌≢◌, ℕ, ◌+◌, ◌<◌, ◌≤◌, List, [], ◌∷◌, ◌++◌, length, map, get_or, set, true}
 use Rattle.std.proofs.Common.{false, Some, eqb, refl, sym, ◌∙◌, ap, ⊎_elim, append-nil, arith}
-use Rattle.std.specs.Prelude.{slice_get}
-use Rattle.std.specs.declared.alloc.Global.{Global}
-use Rattle.std.specs.declared.vec.Vec.{Vec}
 use Rattle.std.proofs.lemmas.Bool.{cases_eq, cases_lt}
 use Rattle.std.proofs.lemmas.Bool.Decides.{nat_tests}
 use Rattle.std.proofs.lemmas.List.{get_or-map, get_or-set_other, get_or-set_same, get_or_append_left, get_or_push}
@@ -11,16 +8,19 @@ use Rattle.std.proofs.lemmas.List.{length-append}
 use Rattle.std.proofs.lemmas.List.{length-map, length-set, map-set}
 use Rattle.std.proofs.lemmas.Option.{slice_get-get_or, slice_get_within}
 use Rattle.std.proofs.lemmas.Option.{get_or_from_slice_get}
+use Rattle.std.specs.Prelude.{slice_get}
+use Rattle.std.specs.declared.alloc.Global.{Global}
+use Rattle.std.specs.declared.vec.Vec.{Vec}
 use Rattle.document_grammar.specs.declared.kind.SyntaxKind.{SyntaxKind}
 use Rattle.validation_names.specs.Names.{Entries}
 use Rattle.validation_names.specs.Sites.{Located}
 use Rattle.validation_names.specs.declared.sites.Site.{Site}
-use Rattle.type_system.specs.declared.schema.DefinitionWithArguments.{DefinitionWithArguments}
 use Rattle.type_system.specs.Definitions.{items}
 use Rattle.type_system.specs.Rows.{AddsItems, AreRows, Rows, Tables, items_if}
 use Rattle.type_system.specs.Rows.{located_row, nothing, row_at}
 use Rattle.type_system.specs.Tables.{AreFirstFields}
 use Rattle.type_system.specs.Types.{TypeNumbers, is_part_of, items_of, part_of}
+use Rattle.type_system.specs.declared.schema.DefinitionWithArguments.{DefinitionWithArguments}
 
 -- ---- items that are added to a row
 pub read_row : (rows : Rows) (number : ℕ) (row : Vec Site Global) → number < length rows → row ≡ get_or rows number row

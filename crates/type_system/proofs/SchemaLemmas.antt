@@ -1,15 +1,15 @@
 -- What all tables of a schema answer together.
 use Rattle.std.proofs.Common.{◌≡◌, ℕ, List, map, sym, ◌∙◌, ap}
-use Rattle.std.specs.Prelude.{codes, option_map, slice_get}
 use Rattle.std.proofs.lemmas.Option.{slice_get-map}
+use Rattle.std.specs.Prelude.{codes, option_map, slice_get}
 use Rattle.validation_names.specs.Names.{AreFirstNumbers, entry_of}
 use Rattle.validation_names.specs.Sites.{Located, as_located}
-use Rattle.type_system.specs.declared.kinds.OperationType.{OperationType}
-use Rattle.type_system.specs.declared.schema.Schema.{Schema}
 use Rattle.type_system.specs.Rows.{AreFields}
 use Rattle.type_system.specs.Schemas.{root_at, types}
 use Rattle.type_system.specs.Tables.{AreFirstFields}
 use Rattle.type_system.specs.Types.{directives_in, meta_fields, root_in, type_names, types_by, types_in}
+use Rattle.type_system.specs.declared.kinds.OperationType.{OperationType}
+use Rattle.type_system.specs.declared.schema.Schema.{Schema}
 
 pub same_types : (s : Schema) (ds : List Located)
     → map as_located s.definitions.items ≡ ds

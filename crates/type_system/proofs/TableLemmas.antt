@@ -1,13 +1,13 @@
 -- Tables of definitions by their names, with one definition more.
 use Rattle.std.proofs.Common.{◌≡◌, List, [], ◌∷◌, ◌++◌, Bool, true, false, cond, Option, Some, None, unwrap_or}
 use Rattle.std.proofs.Common.{bytes_eq, refl, sym, ◌∙◌, ap}
-use Rattle.std.specs.Prelude.{is_some, option_map}
-use Rattle.std.specs.List.{find}
-use Rattle.std.specs.Option.{option_or}
 use Rattle.std.proofs.lemmas.List.Folds.{find-append}
 use Rattle.std.proofs.lemmas.Slice.Eq.{bytes_eq-Decides}
-use Rattle.validation_names.specs.Names.{Entries, Enters, Name, entry_of}
+use Rattle.std.specs.List.{find}
+use Rattle.std.specs.Option.{option_or}
+use Rattle.std.specs.Prelude.{is_some, option_map}
 use Rattle.validation_names.specs.Mentions.{name_of}
+use Rattle.validation_names.specs.Names.{Entries, Enters, Name, entry_of}
 use Rattle.validation_names.specs.Sites.{Located}
 use Rattle.type_system.specs.Definitions.{is_named}
 use Rattle.type_system.specs.Tables.{one_if}

@@ -1,20 +1,20 @@
 -- Definitions of a type system, and what is in them (GraphQL October 2021, section 3).
+use Rattle.std.specs.List.{filter, find, flat_map}
 use Rattle.std.specs.Prelude.{List, [], ◌∷◌, map, Bool, false, not, ◌&&◌, Option, Some, None, is_some, option_map}
 use Rattle.std.specs.Prelude.{option_and_then, if◌then◌else◌, bytes_eq, codes}
-use Rattle.std.specs.List.{filter, find, flat_map}
 use Rattle.document_grammar.specs.declared.kind.SyntaxKind.{SyntaxKind}
 use Rattle.document_grammar.specs.declared.kind.SyntaxKind.TheVariants.{DEFAULT_VALUE, NAMED_TYPE, NON_NULL_TYPE}
 use Rattle.document_grammar.specs.declared.kind.SyntaxKind.TheVariants.{OPERATION_TYPE, ROOT_OPERATION_TYPE_DEFINITION}
-use Rattle.apollo_tree.specs.Order.{Place, text_at}
 use Rattle.apollo_tree.specs.Children.{child_nodes}
+use Rattle.apollo_tree.specs.Order.{Place, text_at}
 use Rattle.apollo_cst_core.specs.Kinds.{is_of, is_of_one}
-use Rattle.validation_names.specs.Names.{Name, has_name}
 use Rattle.validation_names.specs.Mentions.{name_of}
+use Rattle.validation_names.specs.Names.{Name, has_name}
 use Rattle.validation_names.specs.Sites.{Located, located, nodes}
+use Rattle.type_system.specs.Operations.{word_of}
 use Rattle.type_system.specs.declared.kinds.OperationType.{OperationType}
 use Rattle.type_system.specs.declared.kinds.OperationType.TheVariants.{Query, Mutation, Subscription}
 use Rattle.type_system.specs.declared.kinds.TheConstants.{TYPE_REFERENCES}
-use Rattle.type_system.specs.Operations.{word_of}
 
 -- the name under which an element of one of these kinds defines something
 abbrev pub named_as : List SyntaxKind → Located → Option Name

@@ -7,11 +7,11 @@ use Rattle.document_grammar.specs.declared.kind.SyntaxKind.{SyntaxKind}
 use Rattle.validation_names.specs.Names.{Entries, Name}
 use Rattle.validation_names.specs.Sites.{Located, as_located}
 use Rattle.validation_names.specs.declared.sites.Site.{Site}
-use Rattle.type_system.specs.declared.schema.DefinitionWithArguments.{DefinitionWithArguments}
 use Rattle.type_system.specs.Definitions.{items}
 use Rattle.type_system.specs.Schemas.{entered}
 use Rattle.type_system.specs.Tables.{AreFirstFields}
 use Rattle.type_system.specs.Types.{TypeNumbers, WithArguments, field_in, is_part_of}
+use Rattle.type_system.specs.declared.schema.DefinitionWithArguments.{DefinitionWithArguments}
 
 abbrev pub Rows : Type 0
 Rows = List (Vec Site Global)

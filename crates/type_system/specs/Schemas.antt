@@ -2,12 +2,12 @@
 use Rattle.std.specs.Prelude.{ℕ, map, Option, option_map, option_and_then, slice_get}
 use Rattle.validation_names.specs.Names.{Entries, Name, entry_of}
 use Rattle.validation_names.specs.Sites.{as_located}
+use Rattle.type_system.specs.Types.{Typed, Types, WithArguments}
 use Rattle.type_system.specs.declared.kinds.OperationType.{OperationType}
 use Rattle.type_system.specs.declared.kinds.OperationType.TheVariants.{Query, Mutation, Subscription}
 use Rattle.type_system.specs.declared.schema.DefinitionWithArguments.{DefinitionWithArguments}
 use Rattle.type_system.specs.declared.schema.Schema.{Schema}
 use Rattle.type_system.specs.declared.schema.TypedDefinition.{TypedDefinition}
-use Rattle.type_system.specs.Types.{Typed, Types, WithArguments}
 
 abbrev pub as_typed : TypedDefinition → Typed
 as_typed d = record { site = as_located d.site; type = d.type_number }

@@ -1,14 +1,14 @@
 -- How tables of definitions are filled: under each name is the first definition with it.
-use Rattle.std.specs.Prelude.{◌≡◌, List, Bool, Option, Some, None, option_map, if◌then◌else◌}
 use Rattle.std.specs.Option.{option_or}
+use Rattle.std.specs.Prelude.{◌≡◌, List, Bool, Option, Some, None, option_map, if◌then◌else◌}
 use Rattle.validation_names.specs.Names.{Entries, Name, entry_of}
 use Rattle.validation_names.specs.Sites.{Located, as_located}
 use Rattle.validation_names.specs.declared.sites.Site.{Site}
-use Rattle.type_system.specs.declared.schema.DefinitionWithArguments.{DefinitionWithArguments}
-use Rattle.type_system.specs.declared.schema.TypedDefinition.{TypedDefinition}
 use Rattle.type_system.specs.Definitions.{is_named}
 use Rattle.type_system.specs.Schemas.{as_typed, entered}
 use Rattle.type_system.specs.Types.{TypeNumbers, Typed, first_field, first_named, typed, with_arguments}
+use Rattle.type_system.specs.declared.schema.DefinitionWithArguments.{DefinitionWithArguments}
+use Rattle.type_system.specs.declared.schema.TypedDefinition.{TypedDefinition}
 
 -- something, if a test holds
 abbrev pub one_if : {A : Type 0} → Bool → A → Option A

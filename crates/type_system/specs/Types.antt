@@ -1,22 +1,22 @@
 -- What documents define together (GraphQL October 2021, section 3): types and their fields, arguments, directives, and
 -- the root types of operations. A type may get fields from its definition and from its extensions. Where a name is
 -- defined twice, the first definition counts.
-use Rattle.std.specs.Prelude.{ℕ, List, map, Bool, false, ◌==◌, Option, Some, None, option_map, option_and_then}
-use Rattle.std.specs.Prelude.{if◌then◌else◌, slice_get, codes}
 use Rattle.std.specs.List.{filter, find, flat_map, list_any}
 use Rattle.std.specs.Option.{option_or}
+use Rattle.std.specs.Prelude.{ℕ, List, map, Bool, false, ◌==◌, Option, Some, None, option_map, option_and_then}
+use Rattle.std.specs.Prelude.{if◌then◌else◌, slice_get, codes}
 use Rattle.document_grammar.specs.declared.kind.SyntaxKind.{SyntaxKind}
 use Rattle.document_grammar.specs.declared.kind.SyntaxKind.TheVariants.{ARGUMENTS_DEFINITION, FIELDS_DEFINITION}
 use Rattle.document_grammar.specs.declared.kind.SyntaxKind.TheVariants.{SCHEMA_DEFINITION}
-use Rattle.apollo_tree.specs.Order.{Place}
 use Rattle.apollo_tree.specs.Children.{child_nodes}
+use Rattle.apollo_tree.specs.Order.{Place}
 use Rattle.apollo_cst_core.specs.Kinds.{is_of, is_of_one}
 use Rattle.validation_names.specs.Names.{Name, first_number, has_name}
 use Rattle.validation_names.specs.Sites.{Located, all_definitions, located}
-use Rattle.type_system.specs.declared.kinds.OperationType.{OperationType}
-use Rattle.type_system.specs.declared.kinds.TheConstants.{DIRECTIVES, SCHEMAS, TYPES, TYPE_PARTS}
 use Rattle.type_system.specs.Definitions.{is_named, is_required, is_root, items, named_as, named_type}
 use Rattle.type_system.specs.Operations.{default_root_name}
+use Rattle.type_system.specs.declared.kinds.OperationType.{OperationType}
+use Rattle.type_system.specs.declared.kinds.TheConstants.{DIRECTIVES, SCHEMAS, TYPES, TYPE_PARTS}
 
 -- 3.4: A type is known by the number of the first definition of its name, among all definitions.
 abbrev pub TypeNumbers : Type 0

@@ -1,10 +1,10 @@
 -- The folders above a path, the nearest first.
 use Rattle.std.proofs.Common.{◌≡◌, ◌<◌, arith, length, ℕ, ◌++◌, [], ◌∷◌, List, Bool, Some, Result, false, ap, sym, ◌∙◌}
 use Rattle.std.proofs.Common.{subst, append_assoc, append-nil}
-use Rattle.std.specs.declared.io.Error.{Error}
-use Rattle.std.specs.Path.{path_components, path_parent}
 use Rattle.std.proofs.lemmas.List.{length-append}
 use Rattle.std.proofs.lemmas.Paths.{path_components_parent}
+use Rattle.std.specs.Path.{path_components, path_parent}
+use Rattle.std.specs.declared.io.Error.{Error}
 use Rattle.unignored_files.specs.Above.{Climbs, Probes, up}
 
 -- a folder has fewer names above it than what is in it

@@ -1,8 +1,8 @@
 -- The folders above a path whose ignore files count.
+use Rattle.std.specs.IoError.{error_kind}
+use Rattle.std.specs.Path.{path_join, path_parent}
 use Rattle.std.specs.Prelude.{◌≡◌, ◌⊎◌, ◌++◌, ℕ, Bool, true, false, List, [], ◌∷◌, codes, map, reverse, string_bytes}
 use Rattle.std.specs.Prelude.{Some, None, Result, Ok, Err}
-use Rattle.std.specs.Path.{path_join, path_parent}
-use Rattle.std.specs.IoError.{error_kind}
 use Rattle.std.specs.declared.io.Error.{Error}
 use Rattle.std.specs.declared.io.ErrorKind.TheVariants.{NotADirectory, NotFound}
 use Rattle.unignored_files.specs.declared.above.Above.{Above}

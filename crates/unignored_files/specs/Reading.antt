@@ -1,8 +1,8 @@
 -- Which ignore files are read, and the rules that they give.
-use Rattle.std.specs.Prelude.{◌≡◌, ◌⊎◌, ◌++◌, ℕ, Bool, true, false, List, [], ◌∷◌, codes, map, Result, Ok, Err}
+use Rattle.std.specs.IoError.{error_kind}
 use Rattle.std.specs.List.{flat_map}
 use Rattle.std.specs.Path.{path_join}
-use Rattle.std.specs.IoError.{error_kind}
+use Rattle.std.specs.Prelude.{◌≡◌, ◌⊎◌, ◌++◌, ℕ, Bool, true, false, List, [], ◌∷◌, codes, map, Result, Ok, Err}
 use Rattle.std.specs.declared.io.Error.{Error}
 use Rattle.std.specs.declared.io.ErrorKind.TheVariants.{OutOfMemory}
 use Rattle.file_access.specs.Reading.{IsAbsent}

@@ -1,7 +1,7 @@
 -- What ignore files leave out of the files that a trait reaches.
-use Rattle.std.specs.Prelude.{not, ℕ, Bool, true, false, List, [], Result, Ok, Err}
 use Rattle.std.specs.List.{filter}
 use Rattle.std.specs.Path.{path_join}
+use Rattle.std.specs.Prelude.{not, ℕ, Bool, true, false, List, [], Result, Ok, Err}
 use Rattle.std.specs.declared.io.Error.{Error}
 use Rattle.file_access.specs.Listing.{Entry, Listing, unlisted, no_folder, entries}
 use Rattle.file_access.specs.declared.listing.Kind.{Kind}

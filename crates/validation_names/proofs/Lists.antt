@@ -1,9 +1,9 @@
 -- Lists that are filtered, one item more.
 use Rattle.std.proofs.Common.{◌≡◌, ℕ, zero, suc, ◌+◌, ◌<◌, List, [], ◌∷◌, ◌++◌, length, map, take}
 use Rattle.std.proofs.Common.{get_or, Bool, true, false, cond, Option, Some, None, arith, refl, sym, ◌∙◌, ap}
-use Rattle.std.specs.List.{Contains, cons_option, filter, filter_map, range_with_len}
 use Rattle.std.proofs.lemmas.List.{take_more, map-append}
 use Rattle.std.proofs.lemmas.List.Elements.{filter-append, filter_map-append}
+use Rattle.std.specs.List.{Contains, cons_option, filter, filter_map, range_with_len}
 
 pub filter_map_more :
     {A B C : Type 0} (f : B → Option C) (g : A → B) (xs : List A) (n : ℕ) (x : A) → n < length xs → x ≡ get_or xs n x

@@ -1,18 +1,18 @@
 -- The first number of each name, when a list gets one name more.
 use Rattle.std.proofs.Common.{◌≡◌, ℕ, ◌+◌, ◌≤◌, List, [], ◌∷◌, ◌++◌, length, Bool, true, false, cond}
 use Rattle.std.proofs.Common.{ltb, eqb, Option, Some, None, unwrap_or, bytes_eq, arith, refl, sym, ◌∙◌, ap, not}
-use Rattle.std.specs.List.{position, position_or_len}
-use Rattle.std.specs.Option.{option_or}
+use Rattle.std.proofs.Common.{get_or, take, ◌<◌}
 use Rattle.std.proofs.lemmas.Bool.Decides.{nat_tests}
 use Rattle.std.proofs.lemmas.Grind.{common_steps}
+use Rattle.std.proofs.lemmas.List.{get_or-take}
+use Rattle.std.proofs.lemmas.List.{length-append}
+use Rattle.std.proofs.lemmas.List.Folds.{position_or_len_push}
 use Rattle.std.proofs.lemmas.List.Quantifiers.{position-Some}
 use Rattle.std.proofs.lemmas.List.Sums.{fails_before_first, position_or_len_is}
-use Rattle.std.proofs.Common.{get_or, take, ◌<◌}
-use Rattle.std.proofs.lemmas.List.{get_or-take}
-use Rattle.std.proofs.lemmas.List.Folds.{position_or_len_push}
-use Rattle.std.proofs.lemmas.List.{length-append}
-use Rattle.std.proofs.lemmas.Slice.Eq.{bytes_eq-Decides}
 use Rattle.std.proofs.lemmas.List.Sums.{prefix_len-le-length}
+use Rattle.std.proofs.lemmas.Slice.Eq.{bytes_eq-Decides}
+use Rattle.std.specs.List.{position, position_or_len}
+use Rattle.std.specs.Option.{option_or}
 use Rattle.validation_names.specs.Names.{Name, Entries, Enters, has_name, first_number, AreFirstNumbers}
 
 -- the first n may have it at l, and else the next may

@@ -1,17 +1,17 @@
 -- The operations and fragments of documents that are judged together (GraphQL October 2021, section 2.2).
-use Rattle.std.specs.Prelude.{List, map, if◌then◌else◌, Option, Some, None, option_map}
 use Rattle.std.specs.List.{filter_map}
+use Rattle.std.specs.Prelude.{List, map, if◌then◌else◌, Option, Some, None, option_map}
 use denote.Ref.{Bor}
+use Rattle.document_grammar.specs.Numbers.{is_kind}
 use Rattle.document_grammar.specs.declared.kind.SyntaxKind.TheVariants.{FRAGMENT_NAME, FRAGMENT_DEFINITION}
 use Rattle.document_grammar.specs.declared.kind.SyntaxKind.TheVariants.{OPERATION_DEFINITION}
-use Rattle.document_grammar.specs.Numbers.{is_kind}
 use Rattle.apollo_tree.specs.Order.{Place, kind_at}
+use Rattle.validation_names.specs.Mentions.{Named, name_of, name_in}
 use Rattle.validation_names.specs.Names.{Name}
+use Rattle.validation_names.specs.Sites.{Located, all_definitions, as_located}
 use Rattle.validation_names.specs.declared.executables.DefinitionKind.{DefinitionKind}
 use Rattle.validation_names.specs.declared.executables.DefinitionKind.TheVariants.{Operation, Fragment}
 use Rattle.validation_names.specs.declared.executables.ExecutableDefinition.{ExecutableDefinition}
-use Rattle.validation_names.specs.Mentions.{Named, name_of, name_in}
-use Rattle.validation_names.specs.Sites.{Located, all_definitions, as_located}
 
 -- an operation or a fragment: where it is, and its name, which an operation may lack
 pub record Defined : Type 0 where

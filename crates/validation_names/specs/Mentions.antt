@@ -1,11 +1,11 @@
 -- The names that nodes mention: fragments that are spread, and variables that are declared or used.
+use Rattle.std.specs.List.{filter_map}
 use Rattle.std.specs.Prelude.{List, Bool, false, not, ◌&&◌, if◌then◌else◌, map, Option, Some, None, option_map}
 use Rattle.std.specs.Prelude.{option_and_then}
-use Rattle.std.specs.List.{filter_map}
+use Rattle.document_grammar.specs.Numbers.{is_kind}
 use Rattle.document_grammar.specs.declared.kind.SyntaxKind.{SyntaxKind}
 use Rattle.document_grammar.specs.declared.kind.SyntaxKind.TheVariants.{NAME, VARIABLE, VARIABLE_DEFINITION}
 use Rattle.document_grammar.specs.declared.kind.SyntaxKind.TheVariants.{FRAGMENT_NAME, FRAGMENT_SPREAD}
-use Rattle.document_grammar.specs.Numbers.{is_kind}
 use Rattle.apollo_tree.specs.Order.{Place, kind_at, text_at, parent_place}
 use Rattle.apollo_cst_core.specs.Cast.{cast_children, first_of}
 use Rattle.validation_names.specs.Names.{Name}

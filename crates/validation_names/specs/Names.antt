@@ -1,11 +1,11 @@
 -- Names, and what is entered under them.
+use Rattle.std.specs.BTreeMap.{BTreeMap, get_by}
+use Rattle.std.specs.Cmp.Lexicographic.{slice_cmp}
+use Rattle.std.specs.List.{position}
+use Rattle.std.specs.Ordering.{nat_cmp}
 use Rattle.std.specs.Prelude.{◌≡◌, ℕ, List, Bool, false, Option, Some, None, is_some, true, unwrap_or, if◌then◌else◌}
 use Rattle.std.specs.Prelude.{bytes_eq}
 use denote.Ref.{Bor}
-use Rattle.std.specs.Ordering.{nat_cmp}
-use Rattle.std.specs.Cmp.Lexicographic.{slice_cmp}
-use Rattle.std.specs.BTreeMap.{BTreeMap, get_by}
-use Rattle.std.specs.List.{position}
 
 -- the bytes of a name
 abbrev pub Name : Type 0

@@ -1,13 +1,13 @@
 -- The names of elements.
 use Rattle.std.specs.Prelude.{Bool, ◌||◌, if◌then◌else◌, [], Option, Some, None}
+use Rattle.document_grammar.specs.Numbers.{is_kind}
 use Rattle.document_grammar.specs.declared.kind.SyntaxKind.{SyntaxKind}
 use Rattle.document_grammar.specs.declared.kind.SyntaxKind.TheVariants.{ENUM_VALUE, ENUM_VALUE_DEFINITION}
 use Rattle.document_grammar.specs.declared.kind.SyntaxKind.TheVariants.{FRAGMENT_DEFINITION, FRAGMENT_NAME}
 use Rattle.document_grammar.specs.declared.kind.SyntaxKind.TheVariants.{FRAGMENT_SPREAD, VARIABLE, VARIABLE_DEFINITION}
-use Rattle.document_grammar.specs.Numbers.{is_kind}
 use Rattle.apollo_tree.specs.Order.{Place, kind_at}
-use Rattle.validation_names.specs.Names.{Name}
 use Rattle.validation_names.specs.Mentions.{name_in, name_of}
+use Rattle.validation_names.specs.Names.{Name}
 
 abbrev pub is_about_fragment : SyntaxKind → Bool
 is_about_fragment kind = is_kind FRAGMENT_DEFINITION kind || is_kind FRAGMENT_SPREAD kind

@@ -1,9 +1,9 @@
 -- Documents that are judged together, and where something is in them.
-use Rattle.std.specs.Prelude.{ℕ, suc, List, [], ◌∷◌, ◌++◌, map}
 use Rattle.std.specs.List.{filter}
-use Rattle.apollo_tree.specs.Order.{Place}
+use Rattle.std.specs.Prelude.{ℕ, suc, List, [], ◌∷◌, ◌++◌, map}
 use Rattle.apollo_tree.specs.Below.{at_or_below}
 use Rattle.apollo_tree.specs.Children.{child_nodes, is_node_place}
+use Rattle.apollo_tree.specs.Order.{Place}
 use Rattle.apollo_tree.specs.References.{node_place}
 use Rattle.validation_names.specs.declared.sites.Site.{Site}
 

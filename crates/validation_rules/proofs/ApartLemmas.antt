@@ -1,28 +1,28 @@
 -- The definitions of some documents, and the names that they mention, are at places of their own.
 use Rattle.std.proofs.Common.{◌≡◌, ◌≢◌, ℕ, suc, ◌<◌, ◌≤◌, List, [], ◌∷◌, length, map, Bool}
 use Rattle.std.proofs.Common.{true, false, cond, Option, Some, None, arith, refl, sym, ap, ◌∙◌, ⊎_elim}
-use Rattle.std.specs.Prelude.{option_map}
-use Rattle.std.specs.List.{AllPairs, Contains}
 use Rattle.std.proofs.lemmas.List.Elements.{Contains-append_cases, Contains-get_or}
 use Rattle.std.proofs.lemmas.List.Kept.{AllPairs-filter}
-use Rattle.document_grammar.specs.declared.kind.SyntaxKind.TheVariants.{FRAGMENT_DEFINITION, OPERATION_DEFINITION}
+use Rattle.std.specs.List.{AllPairs, Contains}
+use Rattle.std.specs.Prelude.{option_map}
 use Rattle.document_grammar.specs.Numbers.{is_kind}
-use Rattle.apollo_tree.specs.Order.{Place, kind_at}
-use Rattle.apollo_tree.specs.Children.{child_nodes, is_node_place}
+use Rattle.document_grammar.specs.declared.kind.SyntaxKind.TheVariants.{FRAGMENT_DEFINITION, OPERATION_DEFINITION}
 use Rattle.apollo_tree.specs.Below.{at_or_below}
+use Rattle.apollo_tree.specs.Children.{child_nodes, is_node_place}
+use Rattle.apollo_tree.specs.Order.{Place, kind_at}
+use Rattle.validation_names.proofs.Lists.{in_filter, in_filter_map}
+use Rattle.validation_names.specs.Definitions.{Defined, defined, defined_at, name_as, named, named_definitions}
+use Rattle.validation_names.specs.Mentions.{Named, mentioned, mentioned_name, mentions}
 use Rattle.validation_names.specs.Names.{Name}
+use Rattle.validation_names.specs.Sites.{Located, all_definitions, in_documents_from, located, nodes}
 use Rattle.validation_names.specs.declared.executables.DefinitionKind.{DefinitionKind}
 use Rattle.validation_names.specs.declared.name_mentions.MentionKind.{MentionKind}
 use Rattle.validation_names.specs.declared.name_mentions.MentionKind.TheVariants.{Spread}
-use Rattle.validation_names.specs.Definitions.{Defined, defined, defined_at, name_as, named, named_definitions}
-use Rattle.validation_names.specs.Mentions.{Named, mentioned, mentioned_name, mentions}
-use Rattle.validation_names.specs.Sites.{Located, all_definitions, in_documents_from, located, nodes}
-use Rattle.validation_names.proofs.Lists.{in_filter, in_filter_map}
-use Rattle.validation_rules.specs.Parts.{Parts, at, is_operation, nothing, numbers, operations, parts_in, parts_of}
-use Rattle.validation_rules.specs.Parts.{site_at}
 use Rattle.validation_rules.proofs.PairLemmas.{in_map, pairs_append, pairs_filter_map, pairs_map, pairs_none}
 use Rattle.validation_rules.proofs.PairLemmas.{range_rises}
 use Rattle.validation_rules.proofs.TreeLemmas.{IsBefore, below_range, child_nodes_apart, nodes_rise}
+use Rattle.validation_rules.specs.Parts.{Parts, at, is_operation, nothing, numbers, operations, parts_in, parts_of}
+use Rattle.validation_rules.specs.Parts.{site_at}
 
 -- ---- places in several documents
 -- In one document the places are so; places in two documents are never the same.

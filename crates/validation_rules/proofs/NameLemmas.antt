@@ -1,14 +1,14 @@
 -- Items with names, one after another.
 use Rattle.std.proofs.Common.{◌≡◌, ℕ, ◌+◌, ◌<◌, ◌≤◌, List, [], length, map, take, get_or, Option, Some}
 use Rattle.std.proofs.Common.{None, arith, rules, sym, ◌∙◌, ap}
-use Rattle.std.specs.Prelude.{IfSome}
 use Rattle.std.proofs.Math.ListN.{get_or-map}
 use Rattle.std.proofs.lemmas.List.{get_or_default, length-map, length-take, map-append, take_more}
 use Rattle.std.proofs.lemmas.List.Quantifiers.{position-Some}
+use Rattle.std.specs.Prelude.{IfSome}
 use Rattle.validation_names.proofs.Numbers.{named_more}
+use Rattle.validation_names.specs.Mentions.{Named, as_named}
 use Rattle.validation_names.specs.Names.{AreFirstNumbers, Entries, Enters, Name, first_number, has_name}
 use Rattle.validation_names.specs.declared.name_mentions.Mention.{Mention}
-use Rattle.validation_names.specs.Mentions.{Named, as_named}
 use Rattle.validation_rules.specs.Parts.{item_at, names}
 
 abbrev pub no_item : Named

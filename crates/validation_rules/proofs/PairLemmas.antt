@@ -1,9 +1,9 @@
 -- What holds of each two items of a list, and of those of a list made from it.
 use Rattle.std.proofs.Common.{⊎_elim, ◌++◌, ◌≡◌, ℕ, zero, suc, ◌+◌, ◌<◌, ◌≤◌, List, [], ◌∷◌, map, get_or, Option, Some}
 use Rattle.std.proofs.Common.{None, arith, refl}
-use Rattle.std.specs.List.{AllPairs, Contains, cons_option, filter_map, flat_map, range_with_len}
 use Rattle.std.proofs.lemmas.List.Elements.{Contains-append_cases, Contains-get_or}
 use Rattle.std.proofs.lemmas.List.Kept.{AllPairs-cons}
+use Rattle.std.specs.List.{AllPairs, Contains, cons_option, filter_map, flat_map, range_with_len}
 use Rattle.validation_names.proofs.Lists.{in_filter_map}
 
 module _ {A : Type 0} (R : A → A → Type 0) (x : A) (xs : List A) (h : AllPairs R (x ∷ xs)) where

@@ -2,8 +2,8 @@
 use Rattle.std.proofs.Common.{◌≡◌, ℕ, ◌<◌, List, length, map, get_or, sym, ◌∙◌, ap}
 use Rattle.std.proofs.Math.ListN.{get_or-map}
 use Rattle.std.proofs.lemmas.List.{get_or_default, length-map}
-use Rattle.validation_rules.specs.declared.definition_parts.DefinitionParts.{DefinitionParts}
 use Rattle.validation_rules.specs.Parts.{as_parts, at, nothing}
+use Rattle.validation_rules.specs.declared.definition_parts.DefinitionParts.{DefinitionParts}
 
 -- the definition that an index reads
 pub at_read : (parts : List DefinitionParts) (n : ℕ) (d : DefinitionParts) → n < length parts → d ≡ get_or parts n d

@@ -1,24 +1,24 @@
 -- The graph of the spreads, row by row.
 use Rattle.std.proofs.Common.{arith, rules, None, subst, Option, Bool, true, false, cond, ◌≡◌, ℕ, zero, suc, ◌+◌, ◌<◌}
 use Rattle.std.proofs.Common.{List, [], ◌∷◌, length, map, get_or, Some, refl, sym, ◌∙◌, ap}
-use Rattle.std.specs.declared.alloc.Global.{Global}
-use Rattle.std.specs.declared.vec.Vec.{Vec}
-use Rattle.std.specs.Prelude.{IfSome}
-use Rattle.std.specs.List.{All, Contains, find, range_with_len}
-use Rattle.std.proofs.lemmas.List.Elements.{Contains-get_or}
-use Rattle.std.proofs.lemmas.List.FromFn.{get_or-map-range_with_len, length-map-range_with_len}
 use Rattle.std.proofs.Math.ListN.{get_or-map}
 use Rattle.std.proofs.lemmas.List.{length-map}
+use Rattle.std.proofs.lemmas.List.Elements.{Contains-get_or}
+use Rattle.std.proofs.lemmas.List.FromFn.{get_or-map-range_with_len, length-map-range_with_len}
 use Rattle.std.proofs.lemmas.List.Quantifiers.{position-Some}
-use Rattle.validation_names.specs.Names.{Name, Entries, AreFirstNumbers, has_name}
+use Rattle.std.specs.List.{All, Contains, find, range_with_len}
+use Rattle.std.specs.Prelude.{IfSome}
+use Rattle.std.specs.declared.alloc.Global.{Global}
+use Rattle.std.specs.declared.vec.Vec.{Vec}
 use Rattle.directed_graph.specs.Graph.{Graph, row_of, IsClosed}
 use Rattle.directed_graph.specs.Reach.{first_return, has_vertex, reaches as graph_reaches, within}
-use Rattle.validation_names.specs.Mentions.{Named}
+use Rattle.validation_names.proofs.Lists.{filter_map_same, in_filter, in_filter_map, in_range}
 use Rattle.validation_names.specs.Definitions.{fragment_names}
+use Rattle.validation_names.specs.Mentions.{Named}
+use Rattle.validation_names.specs.Names.{Name, Entries, AreFirstNumbers, has_name}
+use Rattle.validation_rules.specs.Graphs.{IsSpreadGraph, numbers_of}
 use Rattle.validation_rules.specs.Parts.{Parts, at, definitions, fragment_named, is_operation, nothing, numbers}
 use Rattle.validation_rules.specs.Parts.{operations, reaches, targets}
-use Rattle.validation_rules.specs.Graphs.{IsSpreadGraph, numbers_of}
-use Rattle.validation_names.proofs.Lists.{filter_map_same, in_filter, in_filter_map, in_range}
 
 abbrev pub row_items : Vec ℕ Global → List ℕ
 row_items row = row.items

@@ -1,20 +1,20 @@
 -- Violations that are sorted are breaches that are sorted, and there is one list of breaches that is sorted and stable.
 use Rattle.std.proofs.Common.{◌≡◌, ◌⊎◌, ℕ, zero, suc, ◌+◌, ◌<◌, List, [], ◌∷◌, length, map, get_or, Bool, true, false}
 use Rattle.std.proofs.Common.{cond, arith, refl, sym, subst, ap, ◌∙◌, inl, inr, ⊎_elim}
+use Rattle.std.proofs.lemmas.Cmp.{nat_cmp_total, on_total, then_total, tied_itself}
+use Rattle.std.proofs.lemmas.List.{get_or-map, length-map}
+use Rattle.std.proofs.lemmas.List.MinMax.{ranks_by}
+use Rattle.std.proofs.lemmas.List.Sorted.{Contains-permutation, IsPermutation-sym, sorted_far}
 use Rattle.std.specs.Cmp.{IsTotalOrder}
 use Rattle.std.specs.Cmp.Lexicographic.{options_total}
 use Rattle.std.specs.List.{Contains, filter}
 use Rattle.std.specs.List.Sorted.{IsSortedBy, IsSortedByKey, IsStableByKey, ties}
 use Rattle.std.specs.Ordering.{is_lt}
-use Rattle.std.proofs.lemmas.Cmp.{nat_cmp_total, on_total, then_total, tied_itself}
-use Rattle.std.proofs.lemmas.List.{get_or-map, length-map}
-use Rattle.std.proofs.lemmas.List.MinMax.{ranks_by}
-use Rattle.std.proofs.lemmas.List.Sorted.{Contains-permutation, IsPermutation-sym, sorted_far}
 use Rattle.validation_names.proofs.Lists.{in_filter}
-use Rattle.validation_rules.specs.declared.violations.Violation.{Violation}
 use Rattle.validation_rules.specs.TextOrder.{IsInTextOrder, SiteKey, TextKey, comes_before, site_order, text_key}
 use Rattle.validation_rules.specs.TextOrder.{text_order}
 use Rattle.validation_rules.specs.Violations.{Breach, as_breach}
+use Rattle.validation_rules.specs.declared.violations.Violation.{Violation}
 
 -- ---- the order
 site_order_total : IsTotalOrder site_order

@@ -1,19 +1,19 @@
 -- Elements of a tree that differ: those in one subtree, the children of one element, and the children of two.
 use Rattle.std.proofs.Common.{◌≡◌, ℕ, zero, suc, ◌+◌, ◌<◌, ◌≤◌, List, [], ◌∷◌, ◌++◌, length, get_or, refl, sym, ap, ◌∙◌}
 use Rattle.std.proofs.Common.{subst, arith, ⊎_elim, Option, Some, None}
-use Rattle.std.specs.Prelude.{option_map}
-use Rattle.std.specs.List.{AllPairs, Contains}
 use Rattle.std.proofs.lemmas.Bool.{cases_lt}
 use Rattle.std.proofs.lemmas.List.{get_or_append_left, get_or-append-add, get_or_past}
 use Rattle.std.proofs.lemmas.List.Elements.{Contains-get_or}
 use Rattle.std.proofs.lemmas.List.Kept.{AllPairs-cons, AllPairs-filter}
+use Rattle.std.specs.List.{AllPairs, Contains}
+use Rattle.std.specs.Prelude.{option_map}
 use Rattle.document_grammar.specs.Forests.{Forest, none, leaf, node, Leaf, Node, text, count}
-use Rattle.apollo_tree.specs.Order.{Element, Place, element, nowhere, order, order_from, parent_place, places, tree_at}
-use Rattle.apollo_tree.specs.Order.{tree_kids}
-use Rattle.apollo_tree.specs.Children.{child_nodes, child_places, is_node_place}
-use Rattle.apollo_tree.specs.Below.{at_or_below, places_from}
 use Rattle.apollo_tree.proofs.Parts.{Part, part}
 use Rattle.apollo_tree.proofs.Places.{length-order}
+use Rattle.apollo_tree.specs.Below.{at_or_below, places_from}
+use Rattle.apollo_tree.specs.Children.{child_nodes, child_places, is_node_place}
+use Rattle.apollo_tree.specs.Order.{Element, Place, element, nowhere, order, order_from, parent_place, places, tree_at}
+use Rattle.apollo_tree.specs.Order.{tree_kids}
 use Rattle.validation_names.proofs.Lists.{in_filter}
 use Rattle.validation_rules.proofs.PairLemmas.{in_map, pairs_map, pairs_none}
 

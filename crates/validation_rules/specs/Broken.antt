@@ -1,17 +1,17 @@
 -- What breaks the rules of section 5 of the standard (GraphQL October 2021) on operations and fragments, and the other
 -- party.
-use Rattle.std.specs.Prelude.{◌==◌, ℕ, List, [], ◌∷◌, ◌++◌, length, Bool, not, take, if◌then◌else◌, Option, Some, None}
 use Rattle.std.specs.List.{find, flat_map, range_with_len}
-use Rattle.validation_names.specs.Names.{Name, first_number}
+use Rattle.std.specs.Prelude.{◌==◌, ℕ, List, [], ◌∷◌, ◌++◌, length, Bool, not, take, if◌then◌else◌, Option, Some, None}
 use Rattle.validation_names.specs.Mentions.{Named}
+use Rattle.validation_names.specs.Names.{Name, first_number}
 use Rattle.validation_names.specs.Sites.{Located}
+use Rattle.validation_rules.specs.Parts.{Parts, at, is_anonymous, is_declared, is_fragment_name, is_used, item_at}
+use Rattle.validation_rules.specs.Parts.{names, numbers, operations, reached, reaches, site_at, targets}
+use Rattle.validation_rules.specs.Violations.{Breach, breach}
 use Rattle.validation_rules.specs.declared.violations.Rule.{Rule}
 use Rattle.validation_rules.specs.declared.violations.Rule.TheVariants.{LoneAnonymousOperation, NoUnusedFragments}
 use Rattle.validation_rules.specs.declared.violations.Rule.TheVariants.{KnownFragmentNames, NoFragmentCycles}
 use Rattle.validation_rules.specs.declared.violations.Rule.TheVariants.{NoUndefinedVariables, NoUnusedVariables}
-use Rattle.validation_rules.specs.Parts.{Parts, at, is_anonymous, is_declared, is_fragment_name, is_used, item_at}
-use Rattle.validation_rules.specs.Parts.{names, numbers, operations, reached, reaches, site_at, targets}
-use Rattle.validation_rules.specs.Violations.{Breach, breach}
 
 -- ---- unique names: sections 5.2.1.1, 5.4.2, 5.5.1.1, 5.6.3 and 5.8.1
 -- The item with a number has the name of one before it; the other party is the first of these.

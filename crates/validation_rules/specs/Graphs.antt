@@ -1,9 +1,9 @@
 -- The graph of the spreads.
-use Rattle.std.specs.Prelude.{◌≡◌, ℕ, List, length}
 use Rattle.std.specs.List.{filter_map}
+use Rattle.std.specs.Prelude.{◌≡◌, ℕ, List, length}
 use Rattle.directed_graph.specs.Graph.{Graph, row_of}
-use Rattle.validation_names.specs.Names.{Entries, entry_of}
 use Rattle.validation_names.specs.Mentions.{Named}
+use Rattle.validation_names.specs.Names.{Entries, entry_of}
 use Rattle.validation_rules.specs.Parts.{Parts, targets}
 
 -- the numbers that a map has for names

@@ -1,16 +1,16 @@
 -- What the rules ask of operations and fragments: their names, and the names that they mention.
+use Rattle.std.specs.List.{filter, filter_map, list_any, range_with_len}
 use Rattle.std.specs.Prelude.{ℕ, List, [], ◌∷◌, length, map, Bool, true, false, Option, None, Some, is_none, is_some}
 use Rattle.std.specs.Prelude.{bytes_eq, slice_index_or}
-use Rattle.std.specs.List.{filter, filter_map, list_any, range_with_len}
 use Rattle.document_grammar.specs.Forests.{none}
 use Rattle.apollo_tree.specs.Order.{Place}
 use Rattle.directed_graph.specs.Reach.{has_vertex, within}
-use Rattle.validation_names.specs.Names.{Name, first_number}
-use Rattle.validation_names.specs.declared.executables.DefinitionKind.TheVariants.{Operation, Fragment}
-use Rattle.validation_names.specs.declared.name_mentions.MentionKind.TheVariants.{Spread, Declared, Used}
 use Rattle.validation_names.specs.Definitions.{Defined, as_defined, defined, fragment_names}
 use Rattle.validation_names.specs.Mentions.{Named, as_named, mentions}
+use Rattle.validation_names.specs.Names.{Name, first_number}
 use Rattle.validation_names.specs.Sites.{Located, located}
+use Rattle.validation_names.specs.declared.executables.DefinitionKind.TheVariants.{Operation, Fragment}
+use Rattle.validation_names.specs.declared.name_mentions.MentionKind.TheVariants.{Spread, Declared, Used}
 use Rattle.validation_rules.specs.declared.definition_parts.DefinitionParts.{DefinitionParts}
 
 -- an operation or a fragment with the fragments that it spreads, and the variables that it declares and uses

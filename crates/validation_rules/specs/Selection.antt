@@ -1,10 +1,10 @@
 -- Which breaches are selected.
 use Rattle.std.specs.Prelude.{ℕ, Bool, true, false, ◌&&◌, nat_lt, Option, Some, None, slice_index_or}
 use Rattle.validation_names.specs.Sites.{Located}
-use Rattle.validation_rules.specs.declared.violations.Rule.{Rule}
+use Rattle.validation_rules.specs.RuleNumbers.{rule_number}
 use Rattle.validation_rules.specs.declared.selection.RuleSet.{RuleSet}
 use Rattle.validation_rules.specs.declared.selection.Selection.{Selection}
-use Rattle.validation_rules.specs.RuleNumbers.{rule_number}
+use Rattle.validation_rules.specs.declared.violations.Rule.{Rule}
 
 -- the rule is in the set
 abbrev pub has_rule : RuleSet → Rule → Bool

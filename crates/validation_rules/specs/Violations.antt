@@ -1,12 +1,12 @@
 -- Breaches of rules, and lists of violations that are filled up to a bound.
-use Rattle.std.specs.Prelude.{◌≡◌, ◌-◌, List, ◌++◌, length, map, take, Bool, Option, option_map}
 use Rattle.std.specs.List.{filter}
+use Rattle.std.specs.Prelude.{◌≡◌, ◌-◌, List, ◌++◌, length, map, take, Bool, Option, option_map}
 use Rattle.validation_names.specs.Sites.{Located, as_located}
+use Rattle.validation_rules.specs.Selection.{is_selected_at}
+use Rattle.validation_rules.specs.declared.selection.Selection.{Selection}
 use Rattle.validation_rules.specs.declared.violations.Rule.{Rule}
 use Rattle.validation_rules.specs.declared.violations.Violation.{Violation}
 use Rattle.validation_rules.specs.declared.violations.Violations.{Violations}
-use Rattle.validation_rules.specs.declared.selection.Selection.{Selection}
-use Rattle.validation_rules.specs.Selection.{is_selected_at}
 
 -- what breaks which rule, and the other party, if there is one
 pub record Breach : Type 0 where

@@ -1,17 +1,17 @@
 -- Names that are entered, and items whose names are not.
 use Rattle.std.proofs.Common.{◌≡◌, ◌||◌, List, [], ◌∷◌, ◌++◌, Bool, true, false, not, cond, is_some}
 use Rattle.std.proofs.Common.{Option, Some, None, unwrap_or, bytes_eq, refl, sym, ap, subst, ◌∙◌}
-use Rattle.std.specs.List.{fold, list_any}
 use Rattle.std.proofs.lemmas.Bool.{or_parts, or_right}
-use Rattle.std.proofs.lemmas.List.Sums.{fold-append}
 use Rattle.std.proofs.lemmas.List.Folds.{list_any-append}
+use Rattle.std.proofs.lemmas.List.Sums.{fold-append}
 use Rattle.std.proofs.lemmas.Slice.Eq.{bytes_eq-Decides}
-use Rattle.validation_names.specs.Names.{Entries, Enters, Name, entry_of}
+use Rattle.std.specs.List.{fold, list_any}
 use Rattle.validation_names.specs.Mentions.{Named}
+use Rattle.validation_names.specs.Names.{Entries, Enters, Name, entry_of}
 use Rattle.validation_names.specs.Sites.{Located}
-use Rattle.validation_rules.specs.declared.violations.Rule.{Rule}
 use Rattle.validation_rules.specs.Broken.{unknown}
 use Rattle.validation_rules.specs.Parts.{has_item}
+use Rattle.validation_rules.specs.declared.violations.Rule.{Rule}
 use Rattle.variable_rules.specs.UsedNames.{AddsNames, AreFirsts, add_first, firsts_of, is_known}
 
 -- ---- tests

@@ -1,8 +1,6 @@
 -- The definitions that an operation reaches, as they are found and in order.
 use Rattle.std.proofs.Common.{◌≡◌, ◌≢◌, ◌⊎◌, ℕ, zero, suc, ◌<◌, ◌≤◌, List, [], ◌∷◌, length, get_or, eqb, true}
 use Rattle.std.proofs.Common.{arith, refl, sym, subst, ap, ◌∙◌, inl, inr, ⊎_elim}
-use Rattle.std.specs.List.{All, AllPairs, Contains, filter, range_with_len, remove}
-use Rattle.std.specs.List.Sorted.{IsNonDecreasingBy, IsPermutation}
 use Rattle.std.proofs.lemmas.Bool.Decides.{Decides-eqb, nat_tests}
 use Rattle.std.proofs.lemmas.List.Elements.{Contains-get_or}
 use Rattle.std.proofs.lemmas.List.Kept.{AllPairs-filter}
@@ -10,16 +8,18 @@ use Rattle.std.proofs.lemmas.List.Sorted.{Contains-permutation, IsPermutation-co
 use Rattle.std.proofs.lemmas.List.Sorted.{IsPermutation-reverse, IsPermutation-sym, IsPermutation-trans}
 use Rattle.std.proofs.lemmas.Map.Keys.{IsDistinct-IsPermutation}
 use Rattle.std.proofs.lemmas.Map.Made.{AllPairs-from_IsDistinct, IsDistinct-from_AllPairs}
+use Rattle.std.specs.List.{All, AllPairs, Contains, filter, range_with_len, remove}
+use Rattle.std.specs.List.Sorted.{IsNonDecreasingBy, IsPermutation}
+use Rattle.directed_graph.proofs.ReachLemmas.{has_decides}
 use Rattle.directed_graph.specs.Graph.{Graph}
 use Rattle.directed_graph.specs.Marks.{AreDistinct}
 use Rattle.directed_graph.specs.Reach.{has_vertex, reaches as graph_reaches}
-use Rattle.directed_graph.proofs.ReachLemmas.{has_decides}
 use Rattle.validation_names.proofs.Lists.{filter_has, in_filter, in_range, range_has}
-use Rattle.validation_rules.specs.Graphs.{IsSpreadGraph}
-use Rattle.validation_rules.specs.Parts.{Parts, numbers, reached, reaches}
 use Rattle.validation_rules.proofs.ApartLemmas.{numbers_rise}
 use Rattle.validation_rules.proofs.PairLemmas.{first_pairs, later_pairs, range_rises}
 use Rattle.validation_rules.proofs.SpreadLemmas.{same_reach}
+use Rattle.validation_rules.specs.Graphs.{IsSpreadGraph}
+use Rattle.validation_rules.specs.Parts.{Parts, numbers, reached, reaches}
 
 flips : (x y : ℕ) → eqb x y ≡ eqb y x
 flips x y = grind (arith, nat_tests)

@@ -1,16 +1,16 @@
 -- Rows of names, and sums of steps.
 use Rattle.std.proofs.Common.{◌≡◌, ◌≢◌, ℕ, suc, ◌+◌, ◌<◌, ◌≤◌, List, [], ◌∷◌, ◌++◌, length, map, get_or, arith, refl}
 use Rattle.std.proofs.Common.{sym, ap, ◌∙◌, ⊎_elim}
-use Rattle.std.specs.List.{Contains, sum_by}
-use Rattle.std.specs.declared.alloc.Global.{Global}
-use Rattle.std.specs.declared.vec.Vec.{Vec}
 use Rattle.std.proofs.Math.ListN.{get_or-map}
 use Rattle.std.proofs.lemmas.Bool.{cases_eq, cases_lt}
 use Rattle.std.proofs.lemmas.List.{get_or_append_left, get_or_default, get_or_past, get_or_push, length-append}
 use Rattle.std.proofs.lemmas.List.{length-map, map-append}
 use Rattle.std.proofs.lemmas.List.Sums.{sum_by-cons}
-use Rattle.validation_names.specs.declared.name_mentions.Mention.{Mention}
+use Rattle.std.specs.List.{Contains, sum_by}
+use Rattle.std.specs.declared.alloc.Global.{Global}
+use Rattle.std.specs.declared.vec.Vec.{Vec}
 use Rattle.validation_names.specs.Mentions.{Named}
+use Rattle.validation_names.specs.declared.name_mentions.Mention.{Mention}
 use Rattle.validation_rules.specs.Parts.{Parts, at, nothing}
 use Rattle.variable_rules.specs.Steps.{capped}
 use Rattle.variable_rules.specs.UsedNames.{AreUsedNames, firsts_of, items_of, row_at}

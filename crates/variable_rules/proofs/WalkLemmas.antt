@@ -2,36 +2,36 @@
 use Rattle.std.proofs.Common.{◌≡◌, ◌||◌, ℕ, suc, ◌+◌, ◌<◌, List, [], ◌∷◌, ◌++◌, length, take, get_or, cond}
 use Rattle.std.proofs.Common.{Option, Some, None, Bool, true, false, not, bytes_eq, arith, refl, sym, ap, ◌∙◌}
 use Rattle.std.proofs.Common.{◌≢◌, ◌≤◌, ◌⊎◌, inl, inr, ⊎_elim, zero}
-use Rattle.std.specs.List.{All, Contains, flat_map, list_any, sum_by}
-use Rattle.std.specs.List.Sorted.{IsNonDecreasingBy, IsPermutation}
 use Rattle.std.proofs.lemmas.Bool.{cases_eq, cases_lt}
 use Rattle.std.proofs.lemmas.List.{append-nil, take_more}
 use Rattle.std.proofs.lemmas.List.Concat.{flat_map-append}
 use Rattle.std.proofs.lemmas.List.Folds.{list_any-append, list_any_at}
 use Rattle.std.proofs.lemmas.List.Sorted.{All-permutation, IsPermutation-sym, list_any-IsPermutation}
 use Rattle.std.proofs.lemmas.List.Sorted.{sum_by-IsPermutation}
+use Rattle.std.specs.List.{All, Contains, flat_map, list_any, sum_by}
+use Rattle.std.specs.List.Sorted.{IsNonDecreasingBy, IsPermutation}
 use Rattle.std.specs.declared.alloc.Global.{Global}
 use Rattle.std.specs.declared.vec.Vec.{Vec}
 use Rattle.directed_graph.specs.Graph.{Graph, row_of}
-use Rattle.validation_names.specs.Names.{Entries, Name}
-use Rattle.validation_names.specs.declared.name_mentions.Mention.{Mention}
 use Rattle.validation_names.specs.Mentions.{Named}
+use Rattle.validation_names.specs.Names.{Entries, Name}
 use Rattle.validation_names.specs.Sites.{Located}
-use Rattle.validation_rules.specs.declared.violations.Rule.{Rule}
-use Rattle.validation_rules.specs.declared.violations.Rule.TheVariants.{NoUndefinedVariables}
-use Rattle.validation_rules.specs.declared.violations.Violations.{Violations}
+use Rattle.validation_names.specs.declared.name_mentions.Mention.{Mention}
+use Rattle.validation_rules.proofs.AddLemmas.{adds_rest, adds_then}
 use Rattle.validation_rules.specs.Broken.{undefined_variables, undefined_variables_in, unknown, unused_variables}
 use Rattle.validation_rules.specs.Broken.{variables_of}
 use Rattle.validation_rules.specs.Graphs.{IsSpreadGraph}
 use Rattle.validation_rules.specs.Parts.{Parts, at, has_item, is_declared, is_used, reached, site_at}
 use Rattle.validation_rules.specs.Violations.{Adds, found}
-use Rattle.validation_rules.proofs.AddLemmas.{adds_rest, adds_then}
-use Rattle.variable_rules.specs.Steps.{EndsAt, before, capped, is_used_up_at, steps_of, use_steps_in}
-use Rattle.variable_rules.specs.Steps.{walk_steps_in}
-use Rattle.variable_rules.specs.UsedNames.{AreFirsts, AreUsedNames, is_known, row_at}
+use Rattle.validation_rules.specs.declared.violations.Rule.{Rule}
+use Rattle.validation_rules.specs.declared.violations.Rule.TheVariants.{NoUndefinedVariables}
+use Rattle.validation_rules.specs.declared.violations.Violations.{Violations}
 use Rattle.variable_rules.proofs.KnownLemmas.{all_known, firsts_any, none_fails, none_kept, same_names}
 use Rattle.variable_rules.proofs.ReachLemmas.{in_order_are, reached_inside}
 use Rattle.variable_rules.proofs.RowLemmas.{capped_sum, sum_both, sum_none}
+use Rattle.variable_rules.specs.Steps.{EndsAt, before, capped, is_used_up_at, steps_of, use_steps_in}
+use Rattle.variable_rules.specs.Steps.{walk_steps_in}
+use Rattle.variable_rules.specs.UsedNames.{AreFirsts, AreUsedNames, is_known, row_at}
 
 -- those that are found are definitions
 pub inside_reached :

@@ -1,7 +1,7 @@
 -- How many steps operations take, and where they are used up.
+use Rattle.std.specs.List.{list_any, sum_by}
 use Rattle.std.specs.Prelude.{◌≡◌, ℕ, ◌+◌, ◌<◌, List, length, take, Bool, true, false, not, nat_le, Option, Some, None}
 use Rattle.std.specs.Prelude.{◌-◌, ◌^◌, min, if◌then◌else◌}
-use Rattle.std.specs.List.{list_any, sum_by}
 use Rattle.validation_names.specs.Mentions.{Named}
 use Rattle.validation_rules.specs.Parts.{Parts, at, is_declared, reached, targets}
 use Rattle.variable_rules.specs.UsedNames.{firsts_of}

@@ -1,12 +1,12 @@
 -- The names that definitions use, each once, and names that are entered.
-use Rattle.std.specs.Prelude.{◌≡◌, ◌||◌, ℕ, List, [], ◌∷◌, ◌++◌, length, map, slice_index_or, Bool, is_some}
 use Rattle.std.specs.List.{fold}
+use Rattle.std.specs.Prelude.{◌≡◌, ◌||◌, ℕ, List, [], ◌∷◌, ◌++◌, length, map, slice_index_or, Bool, is_some}
 use Rattle.std.specs.Prelude.{if◌then◌else◌}
 use Rattle.std.specs.declared.alloc.Global.{Global}
 use Rattle.std.specs.declared.vec.Vec.{Vec}
+use Rattle.validation_names.specs.Mentions.{Named, as_named}
 use Rattle.validation_names.specs.Names.{Entries, Name, entry_of}
 use Rattle.validation_names.specs.declared.name_mentions.Mention.{Mention}
-use Rattle.validation_names.specs.Mentions.{Named, as_named}
 use Rattle.validation_rules.specs.Parts.{Parts, at, has_item}
 
 abbrev pub items_of : Vec Mention Global → List Named

@@ -1,13 +1,13 @@
 use Rattle.std.proofs.Common.{◌≡◌, Option, List, ℕ, ap, subst, sym, ◌∙◌, refl}
-use Rattle.std.specs.Prelude.{string_bytes}
-use Rattle.std.specs.List.{replace_range}
 use Rattle.std.proofs.lemmas.Str.{IsUtf8-string_bytes}
+use Rattle.std.specs.List.{replace_range}
+use Rattle.std.specs.Prelude.{string_bytes}
 use Rattle.line_index.specs.LineStarts.{AreFirstStarts}
 use Rattle.line_index.specs.Positions.{units}
-use Rattle.editor_text.specs.declared.PositionRange.{PositionRange}
-use Rattle.editor_text.specs.Client.{AreOffsets, replaced}
 use Rattle.editor_text.proofs.EditLemmas.{replaced-units, same-front}
 use Rattle.editor_text.proofs.replace.Goals as goal
+use Rattle.editor_text.specs.Client.{AreOffsets, replaced}
+use Rattle.editor_text.specs.declared.PositionRange.{PositionRange}
 
 pub returns-in_ok-text-in-None-clause-known : goal.returns-in_ok-text-in-None-clause-known
 returns-in_ok-text-in-None-clause-known c =

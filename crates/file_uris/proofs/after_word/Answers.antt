@@ -1,6 +1,6 @@
 use Rattle.std.proofs.Common.{◌≡◌, ◌<◌, ◌∙◌, ℕ, List, [], ◌∷◌, None, arith, drop, length, refl, zero, suc}
-use Rattle.file_uris.specs.Uris.{after_word}
 use Rattle.file_uris.proofs.after_word.Goals as goal
+use Rattle.file_uris.specs.Uris.{after_word}
 
 -- nothing is left of the text before the word ends
 ended : (word rest : List ℕ) (i : ℕ) → i < length word → length rest < 1 → after_word (drop i word) rest ≡ None

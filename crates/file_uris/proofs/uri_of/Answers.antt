@@ -1,12 +1,12 @@
 use Rattle.std.proofs.Common.{◌≡◌, [], ◌∷◌, ◌++◌, ◌∙◌, ℕ, List, Some, refl, sym, ap, arith}
-use Rattle.std.specs.Prelude.{codes}
 use Rattle.std.proofs.lemmas.List.Elements.{All-from_get_or}
+use Rattle.std.specs.Prelude.{codes}
+use Rattle.percent_encoding.proofs.PercentLemmas.{round_trip, IsByte}
 use Rattle.percent_encoding.specs.AsciiSet.{should_percent_encode}
 use Rattle.percent_encoding.specs.Percent.{percent_decode, percent_encode}
-use Rattle.percent_encoding.proofs.PercentLemmas.{round_trip, IsByte}
+use Rattle.file_uris.proofs.uri_of.Goals as goal
 use Rattle.file_uris.specs.Uris.{path_of, uri_of}
 use Rattle.file_uris.specs.declared.TheConstants.{ESCAPED}
-use Rattle.file_uris.proofs.uri_of.Goals as goal
 
 slash : (rest : List ℕ) → percent_encode ESCAPED (47 ∷ rest) ≡ 47 ∷ percent_encode ESCAPED rest
 unfolding percent_encode should_percent_encode

@@ -1,16 +1,16 @@
 -- White space stays white space.
 use Rattle.std.proofs.Common.{◌≡◌, ℕ, ◌<◌, Bool, true, false, List, [], ◌∷◌, ◌++◌, length, refl, ap, ◌∙◌, arith}
-use Rattle.std.specs.Prelude.{encode_utf8_all}
-use Rattle.std.specs.List.{list_all}
-use lib.Utf8.{encode}
 use Rattle.std.proofs.lemmas.Bool.{and_parts}
+use Rattle.std.specs.List.{list_all}
+use Rattle.std.specs.Prelude.{encode_utf8_all}
+use lib.Utf8.{encode}
+use Rattle.lexical_grammar.proofs.Runs.{blank-each}
 use Rattle.lexical_grammar.specs.Characters.{is_blank}
 use Rattle.lexical_grammar.specs.Tokens.{IsBlanks}
-use Rattle.lexical_grammar.proofs.Runs.{blank-each}
+use Rattle.formatter.proofs.lines.Ends.{turn}
+use Rattle.formatter.specs.LineEnds.{end_bytes}
 use Rattle.formatter.specs.declared.line_ends.LineEnd.{LineEnd}
 use Rattle.formatter.specs.declared.line_ends.LineEnd.TheVariants.{Lf, Crlf}
-use Rattle.formatter.specs.LineEnds.{end_bytes}
-use Rattle.formatter.proofs.lines.Ends.{turn}
 
 end-blank : (end : LineEnd) (cs : List ℕ) → list_all is_blank cs ≡ true → list_all is_blank (end_bytes end ++ cs) ≡ true
 end-blank Lf cs h = h

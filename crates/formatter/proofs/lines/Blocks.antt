@@ -4,10 +4,10 @@ use Rattle.lexical_grammar.specs.Strings.{BlockCharacters, BlockString, begins, 
 use Rattle.lexical_grammar.specs.Strings.{escaped_triple_quote}
 use Rattle.lexical_grammar.specs.Values.{joined_by_lf, without_blank_ends, dedented, block_string_value}
 use Rattle.format_layout.specs.Respelled.{SameBlock}
+use Rattle.formatter.proofs.lines.Ends.{turn, ends_cr, byte, turn-plain, begins-same, same-lines}
+use Rattle.formatter.specs.LineEnds.{end_bytes}
 use Rattle.formatter.specs.declared.line_ends.LineEnd.{LineEnd}
 use Rattle.formatter.specs.declared.line_ends.LineEnd.TheVariants.{Lf, Crlf}
-use Rattle.formatter.specs.LineEnds.{end_bytes}
-use Rattle.formatter.proofs.lines.Ends.{turn, ends_cr, byte, turn-plain, begins-same, same-lines}
 
 end-characters : (end : LineEnd) (text raw : List ℕ) → BlockCharacters text raw
     → BlockCharacters (end_bytes end ++ text) (end_bytes end ++ raw)

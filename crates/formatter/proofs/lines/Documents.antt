@@ -2,27 +2,27 @@
 use Rattle.std.proofs.Common.{◌≡◌, ℕ, ◌⊎◌, true, false, List, [], ◌∷◌, sym, ap, ◌∙◌, subst, inl, inr}
 use Rattle.std.proofs.Math.Logic.{∥∥₁_elim}
 use Rattle.std.proofs.Props.{props}
+use Rattle.lexical_grammar.proofs.StringValues.{block-one}
 use Rattle.lexical_grammar.specs.Cut.{Item, Word, are_tokens}
 use Rattle.lexical_grammar.specs.Kept.{Holds, Kept}
 use Rattle.lexical_grammar.specs.Values.{Block}
-use Rattle.lexical_grammar.proofs.StringValues.{block-one}
-use Rattle.document_grammar.specs.Kinds.{STRING}
-use Rattle.document_grammar.specs.Tree.{Tree, leaf, node, Forest, none, ◌▸◌}
-use Rattle.document_grammar.specs.Derivation.{document as a_document}
-use Rattle.document_grammar.specs.Sentence.{Sentence}
 use Rattle.document_grammar.proofs.Texts.{one-cut}
-use Rattle.format_layout.specs.Respelled.{Alike, AllAlike, AreSameWords, SameBlock, SameWord}
-use Rattle.format_layout.specs.Signs.{signs, unsigned, without_marked}
-use Rattle.format_layout.specs.Formatted.{Formatted, HasLayoutOf}
+use Rattle.document_grammar.specs.Derivation.{document as a_document}
+use Rattle.document_grammar.specs.Kinds.{STRING}
+use Rattle.document_grammar.specs.Sentence.{Sentence}
+use Rattle.document_grammar.specs.Tree.{Tree, leaf, node, Forest, none, ◌▸◌}
 use Rattle.format_layout.proofs.Respelling.{respelled}
 use Rattle.format_layout.proofs.Unsigned.{marks-alike, unsigned-alike, without-same}
-use Rattle.formatter.specs.Comments.{HasSameComments}
-use Rattle.formatter.specs.Formatted.{IsFormatted}
+use Rattle.format_layout.specs.Formatted.{Formatted, HasLayoutOf}
+use Rattle.format_layout.specs.Respelled.{Alike, AllAlike, AreSameWords, SameBlock, SameWord}
+use Rattle.format_layout.specs.Signs.{signs, unsigned, without_marked}
 use Rattle.formatter.proofs.Ignored.{are_comments, comments-kept, ignored-of, same-words}
-use Rattle.formatter.specs.declared.line_ends.LineEnd.{LineEnd}
-use Rattle.formatter.specs.LineEnds.{with_line_end}
 use Rattle.formatter.proofs.lines.Ends.{turn, turn-is}
 use Rattle.formatter.proofs.lines.Items.{turned_items, turned-cut, turned-tokens, turned-same}
+use Rattle.formatter.specs.Comments.{HasSameComments}
+use Rattle.formatter.specs.Formatted.{IsFormatted}
+use Rattle.formatter.specs.LineEnds.{with_line_end}
+use Rattle.formatter.specs.declared.line_ends.LineEnd.{LineEnd}
 
 -- the same as what is the same
 block-trans : (a b c : List ℕ) → SameBlock a b → SameBlock b c → SameBlock a c

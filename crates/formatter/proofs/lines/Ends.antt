@@ -1,19 +1,19 @@
 -- One line end for all, byte by byte.
 use Rattle.std.proofs.Common.{◌≡◌, ℕ, suc, ◌<◌, Bool, true, false, cond, ◌⊎◌, ◌&&◌, List, [], ◌∷◌, ◌++◌, length, Option}
 use Rattle.std.proofs.Common.{Some, None, refl, sym, ap, ◌∙◌, subst, inl, inr, eqb, eqb-true, arith, append_assoc}
-use Rattle.std.specs.Prelude.{not, slice_index}
-use Rattle.std.specs.Option.{is_some}
-use Rattle.std.specs.List.{flat_map, list_all}
-use Rattle.memchr.specs.Find.{IsFirstByte, is_byte}
 use Rattle.std.proofs.lemmas.Bool.{and_parts, cases_Bool, eq-eqb, not-true, or_from, or_parts}
 use Rattle.std.proofs.lemmas.Bool.Decides.{nat_tests}
+use Rattle.std.specs.List.{flat_map, list_all}
+use Rattle.std.specs.Option.{is_some}
+use Rattle.std.specs.Prelude.{not, slice_index}
+use Rattle.memchr.specs.Find.{IsFirstByte, is_byte}
 use Rattle.lexical_grammar.specs.Characters.{is_comment_character, is_line_terminator}
 use Rattle.lexical_grammar.specs.Strings.{begins}
 use Rattle.lexical_grammar.specs.Values.{Lines, onto_first}
 use Rattle.apollo_cst_core.proofs.LineReads.{some-line}
+use Rattle.formatter.specs.LineEnds.{end_bytes, joined_by, with_line_end, HasLineEnd}
 use Rattle.formatter.specs.declared.line_ends.LineEnd.{LineEnd}
 use Rattle.formatter.specs.declared.line_ends.LineEnd.TheVariants.{Lf, Crlf}
-use Rattle.formatter.specs.LineEnds.{end_bytes, joined_by, with_line_end, HasLineEnd}
 
 -- the text with this end for each line end, where the byte before it is a CR or not: an LF behind a CR is written with
 -- it

@@ -1,21 +1,21 @@
 -- The cut of a text with another line end.
 use Rattle.std.proofs.Common.{◌≡◌, ℕ, ◌+◌, true, false, List, [], ◌∷◌, ◌++◌, length, Option, Some, None, suc, refl, sym}
 use Rattle.std.proofs.Common.{ap, ◌∙◌, subst, append-nil}
+use Rattle.std.proofs.lemmas.Bool.{and_parts}
 use Rattle.std.specs.Prelude.{◌&&◌, is_some}
 use Rattle.std.specs.Str.{IsUtf8}
-use Rattle.std.proofs.lemmas.Bool.{and_parts}
-use Rattle.lexical_grammar.specs.declared.TokenKind.{TokenKind}
+use Rattle.lexical_grammar.proofs.TheCut.{is-cut}
 use Rattle.lexical_grammar.specs.Cut.{Item, Word, Cut, CutFrom, IsItem, are_tokens, texts}
 use Rattle.lexical_grammar.specs.Kept.{Holds, Kept, kept_item}
 use Rattle.lexical_grammar.specs.Reads.{items_of}
-use Rattle.lexical_grammar.proofs.TheCut.{is-cut}
+use Rattle.lexical_grammar.specs.declared.TokenKind.{TokenKind}
 use Rattle.document_grammar.proofs.Texts.{one-cut}
 use Rattle.format_layout.proofs.Respelling.{both-same}
 use Rattle.format_layout.specs.Respelled.{AreSameWords}
-use Rattle.formatter.specs.declared.line_ends.LineEnd.{LineEnd}
-use Rattle.formatter.specs.LineEnds.{with_line_end}
 use Rattle.formatter.proofs.lines.Ends.{turn, turn-is}
 use Rattle.formatter.proofs.lines.Turning.{turned, turned-stands, turned-before}
+use Rattle.formatter.specs.LineEnds.{with_line_end}
+use Rattle.formatter.specs.declared.line_ends.LineEnd.{LineEnd}
 
 -- the items with this line end, from an offset on
 abbrev pub turned_items : LineEnd → ℕ → List Item → List Item

@@ -2,10 +2,10 @@
 use Rattle.std.proofs.Common.{◌≡◌, ℕ, ◌+◌, ◌*◌, ◌≤◌, Bool, true, false, cond, List, [], ◌∷◌, ◌++◌, length, sym, ap, ◌∙◌}
 use Rattle.std.proofs.Common.{inl, inr, arith, length-append}
 use Rattle.std.proofs.Math.Nat.{mul-add}
+use Rattle.formatter.proofs.lines.Ends.{byte, turn, turn-is, turn-plain}
+use Rattle.formatter.specs.LineEnds.{end_bytes, with_line_end}
 use Rattle.formatter.specs.declared.line_ends.LineEnd.{LineEnd}
 use Rattle.formatter.specs.declared.line_ends.LineEnd.TheVariants.{Lf, Crlf}
-use Rattle.formatter.specs.LineEnds.{end_bytes, with_line_end}
-use Rattle.formatter.proofs.lines.Ends.{byte, turn, turn-is, turn-plain}
 
 end-length : (end : LineEnd) → 1 ≤ length (end_bytes end)
 end-length Lf = omega arith

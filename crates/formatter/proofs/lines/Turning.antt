@@ -1,35 +1,35 @@
 -- A token stays one of its kind.
 use Rattle.std.proofs.Common.{◌≡◌, ℕ, ◌⊎◌, Bool, true, false, cond, List, [], ◌∷◌, ◌++◌, refl, sym, ap, ◌∙◌, subst, inl}
 use Rattle.std.proofs.Common.{inr, eqb, arith}
-use Rattle.std.specs.Prelude.{not, ◌&&◌, ◌||◌, bytes_eq}
-use Rattle.std.specs.List.{prefix_len}
 use Rattle.std.proofs.lemmas.Bool.{and_from, cases_Bool}
+use Rattle.std.specs.List.{prefix_len}
+use Rattle.std.specs.Prelude.{not, ◌&&◌, ◌||◌, bytes_eq}
+use Rattle.lexical_grammar.proofs.NumberStates.{int-kind, float-kind, kind-live}
+use Rattle.lexical_grammar.proofs.Runs.{run-stops}
+use Rattle.lexical_grammar.proofs.Standing.{stands, stops}
+use Rattle.lexical_grammar.proofs.TokenReads.{goes_on}
+use Rattle.lexical_grammar.specs.Characters.{is_comment_character, is_line_terminator, is_name_continue, is_white_space}
+use Rattle.lexical_grammar.specs.Cut.{Stands, ends_number, may_follow}
+use Rattle.lexical_grammar.specs.Kept.{kept_word}
+use Rattle.lexical_grammar.specs.Reads.{blank_len, blanks_len}
+use Rattle.lexical_grammar.specs.Strings.{begins}
+use Rattle.lexical_grammar.specs.Tokens.{Tok, IsString}
+use Rattle.lexical_grammar.specs.declared.NumberState.TheVariants.{Begin}
 use Rattle.lexical_grammar.specs.declared.TokenKind.{TokenKind}
 use Rattle.lexical_grammar.specs.declared.TokenKind.TheVariants.{Whitespace, Comment, Bang, Dollar, Amp, Spread, Comma}
 use Rattle.lexical_grammar.specs.declared.TokenKind.TheVariants.{Colon, Eq, At, LParen, RParen, LBracket, RBracket}
 use Rattle.lexical_grammar.specs.declared.TokenKind.TheVariants.{LCurly, RCurly, Pipe, Eof, Name, StringValue, Int}
 use Rattle.lexical_grammar.specs.declared.TokenKind.TheVariants.{Float}
-use Rattle.lexical_grammar.specs.Characters.{is_comment_character, is_line_terminator, is_name_continue, is_white_space}
-use Rattle.lexical_grammar.specs.Tokens.{Tok, IsString}
-use Rattle.lexical_grammar.specs.Strings.{begins}
-use Rattle.lexical_grammar.specs.Cut.{Stands, ends_number, may_follow}
-use Rattle.lexical_grammar.specs.Kept.{kept_word}
-use Rattle.lexical_grammar.specs.declared.NumberState.TheVariants.{Begin}
-use Rattle.lexical_grammar.specs.Reads.{blank_len, blanks_len}
-use Rattle.lexical_grammar.proofs.NumberStates.{int-kind, float-kind, kind-live}
-use Rattle.lexical_grammar.proofs.Runs.{run-stops}
-use Rattle.lexical_grammar.proofs.Standing.{stands, stops}
-use Rattle.lexical_grammar.proofs.TokenReads.{goes_on}
 use Rattle.format_layout.proofs.Respelling.{same-refl}
 use Rattle.format_layout.specs.Respelled.{AreSameWords}
-use Rattle.formatter.specs.declared.line_ends.LineEnd.{LineEnd}
-use Rattle.formatter.specs.declared.line_ends.LineEnd.TheVariants.{Lf, Crlf}
-use Rattle.formatter.specs.LineEnds.{end_bytes}
+use Rattle.formatter.proofs.lines.Blanks.{blanks}
+use Rattle.formatter.proofs.lines.Blocks.{turned-block, same-block, block-end}
 use Rattle.formatter.proofs.lines.Ends.{turn, ends_cr, byte, turn-plain, turn-append, unbroken-same, unbroken-end}
 use Rattle.formatter.proofs.lines.Ends.{begins-same}
 use Rattle.formatter.proofs.lines.Unbroken.{is_unbroken, of-class, name-class, start-class, of-number, of-quoted}
-use Rattle.formatter.proofs.lines.Blanks.{blanks}
-use Rattle.formatter.proofs.lines.Blocks.{turned-block, same-block, block-end}
+use Rattle.formatter.specs.LineEnds.{end_bytes}
+use Rattle.formatter.specs.declared.line_ends.LineEnd.{LineEnd}
+use Rattle.formatter.specs.declared.line_ends.LineEnd.TheVariants.{Lf, Crlf}
 
 -- It is still a token of the kind, and the same one if it is kept. Only white space may end with a CR.
 pub record Turned (end : LineEnd) (kind : TokenKind) (text : List ℕ) : Type 0 where

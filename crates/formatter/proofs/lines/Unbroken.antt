@@ -1,18 +1,18 @@
 -- Tokens without a line end: all but white space and block strings.
 use Rattle.std.proofs.Common.{◌≡◌, ℕ, Bool, true, List, [], ◌∷◌, ◌++◌, Some, refl, sym, ap, ◌∙◌, subst, arith}
-use Rattle.std.specs.List.{list_all}
 use Rattle.std.proofs.lemmas.Bool.{and_parts, and_from, ne_eqb, not_from_false, or_from}
 use Rattle.std.proofs.lemmas.Bool.Decides.{nat_tests}
 use Rattle.std.proofs.lemmas.List.Folds.{list_all-append}
+use Rattle.std.specs.List.{list_all}
+use Rattle.lexical_grammar.proofs.NumberStates.{live-front}
 use Rattle.lexical_grammar.specs.Characters.{is_comment_character, is_hex_digit, is_name_continue, is_name_start}
 use Rattle.lexical_grammar.specs.Characters.{is_plain_string_character}
 use Rattle.lexical_grammar.specs.NumberStates.{is_live, run, step}
+use Rattle.lexical_grammar.specs.Strings.{StringCharacter, StringCharacters, Quoted, plain, escaped, fixed, braced}
+use Rattle.lexical_grammar.specs.Strings.{pair, none, one_more, escaped_character}
 use Rattle.lexical_grammar.specs.declared.NumberState.{NumberState as State}
 use Rattle.lexical_grammar.specs.declared.NumberState.TheVariants.{Begin, Minus, Zero, Integer, Point, Fraction}
 use Rattle.lexical_grammar.specs.declared.NumberState.TheVariants.{ExponentIndicator, ExponentSign, Exponent, Dead}
-use Rattle.lexical_grammar.specs.Strings.{StringCharacter, StringCharacters, Quoted, plain, escaped, fixed, braced}
-use Rattle.lexical_grammar.specs.Strings.{pair, none, one_more, escaped_character}
-use Rattle.lexical_grammar.proofs.NumberStates.{live-front}
 
 abbrev pub is_unbroken : List ℕ → Type 0
 is_unbroken text = list_all is_comment_character text ≡ true

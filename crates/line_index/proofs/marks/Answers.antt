@@ -1,10 +1,10 @@
 use Rattle.std.proofs.Common.{◌-◌, ◌+◌, ◌*◌, ◌≡◌, ℕ, ◌<◌, length, get_or, take, ◌∙◌, ap, subst, sym, List, ◌++◌, ◌∷◌}
 use Rattle.std.proofs.Common.{[], arith, length-append}
 use Rattle.std.specs.List.{sum_by}
-use Rattle.line_index.specs.Columns.{weight}
 use Rattle.line_index.proofs.ColumnLemmas.{weight-part, weight-small}
 use Rattle.line_index.proofs.MarkLemmas.{next-mark, one-more}
 use Rattle.line_index.proofs.marks.Goals as goal
+use Rattle.line_index.specs.Columns.{weight}
 
 pub weight_of-total-requires : goal.weight_of-total-requires
 weight_of-total-requires g c =

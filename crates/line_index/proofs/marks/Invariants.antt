@@ -1,7 +1,7 @@
 use Rattle.std.proofs.Common.{◌≡◌, ℕ, ◌+◌, ◌*◌, ◌<◌, length, take, get_or}
 use Rattle.std.specs.List.{sum_by}
-use Rattle.line_index.specs.Columns.{weight}
 use Rattle.line_index.proofs.marks.Given as goal
+use Rattle.line_index.specs.Columns.{weight}
 
 abbrev pub invariant-loop-mark : goal.invariant-loop-mark
 invariant-loop-mark g l = record {

@@ -1,9 +1,9 @@
 use Rattle.std.proofs.Common.{List, ℕ, subst}
-use Rattle.std.specs.Prelude.{string_bytes}
 use Rattle.std.proofs.lemmas.Result.{IfOk-weaker}
-use Rattle.marked_lines.specs.Places.{BeginsWith}
+use Rattle.std.specs.Prelude.{string_bytes}
 use Rattle.marked_lines.proofs.Fronts.{begins_part}
 use Rattle.marked_lines.proofs.push_message.Goals as goal
+use Rattle.marked_lines.specs.Places.{BeginsWith}
 
 -- all that follows the place is added
 pub returns : goal.returns

@@ -1,10 +1,10 @@
 -- Where not all of a text is read, the reports begin reports of all answers: the lexer alone has those of the rest.
 use Rattle.std.proofs.Common.{◌≡◌, Bool, true, false, List, [], ◌∷◌, ◌++◌, Option, Some, None, refl, sym, subst}
-use Rattle.lexical_grammar.specs.declared.TokenKind.{TokenKind}
 use Rattle.lexical_grammar.specs.Answers.{Answer, gives, limit_at}
-use Rattle.parser_rules.specs.State.{State, Report, bad_report, token_limit_report}
-use Rattle.parser_rules.specs.Reports.{Reported, no_more, bad_text, token_limit, passed}
+use Rattle.lexical_grammar.specs.declared.TokenKind.{TokenKind}
 use Rattle.parser_rules.proofs.reports.AlongItems.{Onward, ahead, onward-all}
+use Rattle.parser_rules.specs.Reports.{Reported, no_more, bad_text, token_limit, passed}
+use Rattle.parser_rules.specs.State.{State, Report, bad_report, token_limit_report}
 
 -- what the lexer alone would report of the answers
 pub by-lexer : (taken : Bool) (xs : List Answer) → (reports : List Report) × Reported taken xs reports

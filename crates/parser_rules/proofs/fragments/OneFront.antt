@@ -2,20 +2,15 @@
 -- after it the reports.
 use Rattle.std.proofs.Common.{◌≡◌, ℕ, ◌≤◌, Bool, true, false, List, [], ◌∷◌, ◌++◌, length, Option, Some, None, refl}
 use Rattle.std.proofs.Common.{sym, ap, ◌∙◌, subst, append_assoc, arith}
-use Rattle.std.specs.Prelude.{filter, if◌then◌else◌, is_none}
 use Rattle.std.proofs.lemmas.List.{append_cancel_right}
-use Rattle.lexical_grammar.specs.declared.TokenKind.{TokenKind}
-use Rattle.lexical_grammar.specs.Cut.{Item}
+use Rattle.std.specs.Prelude.{filter, if◌then◌else◌, is_none}
 use Rattle.lexical_grammar.specs.Answers.{Answer, gives, limit_at}
-use Rattle.document_grammar.specs.declared.kind.SyntaxKind.{SyntaxKind}
+use Rattle.lexical_grammar.specs.Cut.{Item}
+use Rattle.lexical_grammar.specs.declared.TokenKind.{TokenKind}
 use Rattle.document_grammar.specs.Forests.{Forest}
 use Rattle.document_grammar.specs.Leaves.{Leaf, leaves, OneLeafAnItem, ignored, shows}
+use Rattle.document_grammar.specs.declared.kind.SyntaxKind.{SyntaxKind}
 use Rattle.grammar_machine.proofs.TableLemmas.{head-same, tail-same}
-use Rattle.parser_rules.specs.Fragments.{started}
-use Rattle.parser_rules.specs.Reports.{Reported}
-use Rattle.parser_rules.specs.RuleLanguage.{Rule}
-use Rattle.parser_rules.specs.Runs.{Runs}
-use Rattle.parser_rules.specs.State.{State, Lexeme, PendingToken, Report}
 use Rattle.parser_rules.proofs.fragments.RootRuns.{so-far}
 use Rattle.parser_rules.proofs.leaves.LeafCheck.{anything, leaf_check}
 use Rattle.parser_rules.proofs.leaves.OneLeaf.{first-leaves, first-leaves-left, root-part}
@@ -24,6 +19,11 @@ use Rattle.parser_rules.proofs.runs.Fuel.{rules_deep}
 use Rattle.parser_rules.proofs.runs.TreesWithSources.{Source, aside, by-kind, flat, now_of, set_aside, source_at}
 use Rattle.parser_rules.proofs.runs.TreesWithSources.{sources, sources-append}
 use Rattle.parser_rules.proofs.runs.Walk.{always, walk}
+use Rattle.parser_rules.specs.Fragments.{started}
+use Rattle.parser_rules.specs.Reports.{Reported}
+use Rattle.parser_rules.specs.RuleLanguage.{Rule}
+use Rattle.parser_rules.specs.Runs.{Runs}
+use Rattle.parser_rules.specs.State.{State, Lexeme, PendingToken, Report}
 
 -- The leaves are of the front, and the reports of it and of the answers read after it: at most one token there is not
 -- ignored.

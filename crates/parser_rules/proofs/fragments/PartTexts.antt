@@ -2,11 +2,12 @@
 -- sentence within both limits nothing is reported, and the tree is the sentence's derivation.
 use Rattle.std.proofs.Common.{◌≡◌, ℕ, ◌≤◌, true, List, [], ◌∷◌, ◌++◌, length, Option, Some, None, map, refl, sym, ap}
 use Rattle.std.proofs.Common.{ap₂, ◌∙◌, subst, append_assoc, append-nil, inl, inr}
-use Rattle.std.specs.Str.{IsUtf8}
 use Rattle.std.proofs.lemmas.List.{append_cancel_right}
+use Rattle.std.specs.Str.{IsUtf8}
+use Rattle.lexical_grammar.proofs.Cuts.{front-cut, significant-append, tokens-append}
 use Rattle.lexical_grammar.specs.Answers.{Answer, gives, limit_at, limited, answers_text}
 use Rattle.lexical_grammar.specs.Cut.{Item, Word, Cut, Significant, texts, end_at}
-use Rattle.lexical_grammar.proofs.Cuts.{front-cut, significant-append, tokens-append}
+use Rattle.document_grammar.proofs.Booleans.{and-l, and-r, and-i}
 use Rattle.document_grammar.specs.Booleans.{◌and◌}
 use Rattle.document_grammar.specs.Builds.{Open, close}
 use Rattle.document_grammar.specs.Derivation.{Sort, selections, type, nest}
@@ -17,13 +18,7 @@ use Rattle.document_grammar.specs.Sentence.{token_of, Sentence, Within}
 use Rattle.document_grammar.specs.Tree.{Text, Token, Tree}
 use Rattle.document_grammar.specs.declared.kind.SyntaxKind.{SyntaxKind}
 use Rattle.document_grammar.specs.declared.kind.SyntaxKind.TheVariants as kind
-use Rattle.document_grammar.proofs.Booleans.{and-l, and-r, and-i}
 use Rattle.grammar_machine.proofs.TableLemmas.{head-same, no-cons, tail-same}
-use Rattle.parser_rules.specs.Fragments.{started, unopened, left_out, field_set, RunsTypeRoot}
-use Rattle.parser_rules.specs.Open.{is_free, IsRoot}
-use Rattle.parser_rules.specs.RuleLanguage.{Rule}
-use Rattle.parser_rules.specs.Runs.{Runs}
-use Rattle.parser_rules.specs.State.{State, Report, Lexeme, PendingToken, ignored, finished}
 use Rattle.parser_rules.proofs.fragments.Parts.{Part, Outcome, Follows, outcome-sound, outcome-accepted, part-parsed}
 use Rattle.parser_rules.proofs.fragments.Parts.{selections-root}
 use Rattle.parser_rules.proofs.fragments.RootChecks.{RootRule, selections_pass, type_passes, type-free}
@@ -39,6 +34,11 @@ use Rattle.parser_rules.proofs.runs.TreesWithSources.{flat, set_aside, by-kind, 
 use Rattle.parser_rules.proofs.runs.TreesWithSources.{source_at, FirstPart}
 use Rattle.parser_rules.proofs.soundness.OverTexts.{RightFirst, before-at, right-report, sentence-answers}
 use Rattle.parser_rules.proofs.soundness.Soundness.{answers-append}
+use Rattle.parser_rules.specs.Fragments.{started, unopened, left_out, field_set, RunsTypeRoot}
+use Rattle.parser_rules.specs.Open.{is_free, IsRoot}
+use Rattle.parser_rules.specs.RuleLanguage.{Rule}
+use Rattle.parser_rules.specs.Runs.{Runs}
+use Rattle.parser_rules.specs.State.{State, Report, Lexeme, PendingToken, ignored, finished}
 
 -- ---- what the leaves are made of
 

@@ -6,38 +6,33 @@ use Rattle.std.proofs.Common.{subst, ◌⊎◌, inl, inr, eqb-true}
 use Rattle.std.proofs.lemmas.Bool.{eqb-false}
 use Rattle.lexical_grammar.specs.Answers.{Answer}
 use Rattle.lexical_grammar.specs.declared.TokenKind.TheVariants as token
+use Rattle.document_grammar.proofs.Booleans.{either, false-true, and-l, and-r}
 use Rattle.document_grammar.specs.Booleans.{◌or◌}
-use Rattle.document_grammar.specs.Pattern.{member}
+use Rattle.document_grammar.specs.Builds.{Building, nothing, start}
 use Rattle.document_grammar.specs.Derivation.{Sort, selections, Spells, nest}
 use Rattle.document_grammar.specs.Kinds.{L_CURLY}
-use Rattle.document_grammar.specs.Builds.{Building, nothing, start}
 use Rattle.document_grammar.specs.Numbered.{tree_of}
+use Rattle.document_grammar.specs.Pattern.{member}
 use Rattle.document_grammar.specs.Placed.{bare}
 use Rattle.document_grammar.specs.Tree.{Token, Tree, node, Forest, none}
 use Rattle.document_grammar.specs.declared.kind.SyntaxKind.{SyntaxKind}
 use Rattle.document_grammar.specs.declared.kind.SyntaxKind.TheVariants as kind
-use Rattle.document_grammar.proofs.Booleans.{either, false-true, and-l, and-r}
 use Rattle.grammar_machine.proofs.FromMachineTree.{shows, show, show-root}
-use Rattle.grammar_machine.proofs.generated.Labels.{labels}
 use Rattle.grammar_machine.proofs.Patterns.{label}
 use Rattle.grammar_machine.proofs.Run.{next}
 use Rattle.grammar_machine.proofs.Sound.{any, holds-one, first-any}
 use Rattle.grammar_machine.proofs.Steps.{closes-move}
 use Rattle.grammar_machine.proofs.TableLemmas.{no-cons}
+use Rattle.grammar_machine.proofs.generated.Labels.{labels}
 use Rattle.grammar_machine.specs.Machine.{holds as within, first as first_class, second as second_class, yields}
 use Rattle.grammar_machine.specs.Machine.{opening, close as closes_move, frame}
-use Rattle.parser_rules.specs.Fragments.{started, left_out, field_set}
-use Rattle.parser_rules.specs.Open.{IsRoot}
-use Rattle.parser_rules.specs.RuleLanguage.{Rule}
-use Rattle.parser_rules.specs.Runs.{Runs}
-use Rattle.parser_rules.specs.State.{State, Lexeme, ignored, read_on, flush, finished}
 use Rattle.parser_rules.proofs.fragments.RootChecks.{follows_part, selections_follow}
 use Rattle.parser_rules.proofs.lookahead.MachineClasses.{Next, current-class}
 use Rattle.parser_rules.proofs.lookahead.Split.{OpenWhateverFollows, in_row, machine_is_stuck, at_root_start}
 use Rattle.parser_rules.proofs.lookahead.TokenSets.{class_of, kind_set, holds-minus}
-use Rattle.parser_rules.proofs.runs.Fuel.{rules_deep}
-use Rattle.parser_rules.proofs.runs.Frame.{read-untouched}
 use Rattle.parser_rules.proofs.reports.NoReport.{answers_tokens, all_tokens, rest, given as given_by, EndsWell}
+use Rattle.parser_rules.proofs.runs.Frame.{read-untouched}
+use Rattle.parser_rules.proofs.runs.Fuel.{rules_deep}
 use Rattle.parser_rules.proofs.soundness.MachineStack.{image, image-node}
 use Rattle.parser_rules.proofs.soundness.Moves.{next-classes, with-sets, flushed}
 use Rattle.parser_rules.proofs.soundness.Positions.{ParserInput, top, PositionHolds, StateFits, RightlyReported}
@@ -51,6 +46,11 @@ use Rattle.parser_rules.proofs.soundness.Soundness.{finished-tree, words-before}
 use Rattle.parser_rules.proofs.soundness.TableCheck.{Then, counts_itself, absent_as_end, no_brace, part_may_end}
 use Rattle.parser_rules.proofs.soundness.TableCheck.{keeps_to_table}
 use Rattle.parser_rules.proofs.soundness.WithoutIgnored.{stack}
+use Rattle.parser_rules.specs.Fragments.{started, left_out, field_set}
+use Rattle.parser_rules.specs.Open.{IsRoot}
+use Rattle.parser_rules.specs.RuleLanguage.{Rule}
+use Rattle.parser_rules.specs.Runs.{Runs}
+use Rattle.parser_rules.specs.State.{State, Lexeme, ignored, read_on, flush, finished}
 
 -- All answers before the current token are tokens; a derivation of the sort spells them. It nests within the limit, and
 -- as deep as the greatest depth.

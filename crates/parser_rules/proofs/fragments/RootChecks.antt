@@ -1,34 +1,34 @@
 -- The rules of the roots of fragment parses pass the checks.
 use Rattle.std.proofs.Common.{◌≡◌, ◌^◌, true, false, eqb, leb, refl}
-use Rattle.document_grammar.specs.declared.kind.SyntaxKind.{SyntaxKind}
-use Rattle.document_grammar.specs.declared.kind.SyntaxKind.TheVariants as kind
-use Rattle.document_grammar.specs.Booleans.{◌and◌}
-use Rattle.document_grammar.specs.Kinds.{DOCUMENT}
-use Rattle.document_grammar.proofs.Nested.{weight}
 use Rattle.std.specs.Prelude.{ℕ}
 use Rattle.lexical_grammar.specs.declared.TokenKind.TheVariants as token
+use Rattle.document_grammar.proofs.Nested.{weight}
+use Rattle.document_grammar.specs.Booleans.{◌and◌}
+use Rattle.document_grammar.specs.Kinds.{DOCUMENT}
 use Rattle.document_grammar.specs.Kinds.{SELECTION_SET}
-use Rattle.grammar_machine.specs.Symbols.{TYPE, BARE_SELECTIONS}
-use Rattle.grammar_machine.proofs.Sound.{any}
-use Rattle.parser_rules.proofs.lookahead.TokenSets.{kind_set, absent, present as a_token}
-use Rattle.parser_rules.proofs.lookahead.Split.{at_root_start}
-use Rattle.parser_rules.proofs.soundness.TableCheck.{Then, counts_itself, no_brace, part_may_end, keeps_to_table}
 use Rattle.document_grammar.specs.Numbers.{number}
-use Rattle.parser_rules.specs.Fragments.{field_set, list_root, named_root, non_null_root, no_type_root, IsTypeRoot}
-use Rattle.parser_rules.specs.Fragments.{a_list, a_name, not_null, no_type}
-use Rattle.parser_rules.specs.Open.{is_free}
-use Rattle.parser_rules.specs.State.{State}
-use Rattle.parser_rules.specs.RuleLanguage.{Here, At, Ready, Bump, Rule, Skip, Do, When, While, ◌>◌}
-use Rattle.parser_rules.specs.Rules.{type_start, nullable_type}
-use Rattle.parser_rules.proofs.runs.Fuel.{rules_deep}
-use Rattle.parser_rules.proofs.runs.Walk.{walk, always}
+use Rattle.document_grammar.specs.declared.kind.SyntaxKind.{SyntaxKind}
+use Rattle.document_grammar.specs.declared.kind.SyntaxKind.TheVariants as kind
+use Rattle.grammar_machine.proofs.Sound.{any}
+use Rattle.grammar_machine.specs.Symbols.{TYPE, BARE_SELECTIONS}
+use Rattle.parser_rules.proofs.NodeChecks.{computing}
 use Rattle.parser_rules.proofs.leaves.LeafCheck.{anything, leaf_check}
+use Rattle.parser_rules.proofs.lookahead.Split.{at_root_start}
+use Rattle.parser_rules.proofs.lookahead.TokenSets.{kind_set, absent, present as a_token}
 use Rattle.parser_rules.proofs.nesting.LevelCheck.{at_first, level_check}
 use Rattle.parser_rules.proofs.nesting.TokenCheck.{untaken, token_check}
 use Rattle.parser_rules.proofs.recovery.RecoveryCheck.{row_check, row_of}
 use Rattle.parser_rules.proofs.reports.LimitCheck.{present, limit_check}
+use Rattle.parser_rules.proofs.runs.Fuel.{rules_deep}
+use Rattle.parser_rules.proofs.runs.Walk.{walk, always}
 use Rattle.parser_rules.proofs.sizes.SizeCheck.{PaysForAll}
-use Rattle.parser_rules.proofs.NodeChecks.{computing}
+use Rattle.parser_rules.proofs.soundness.TableCheck.{Then, counts_itself, no_brace, part_may_end, keeps_to_table}
+use Rattle.parser_rules.specs.Fragments.{field_set, list_root, named_root, non_null_root, no_type_root, IsTypeRoot}
+use Rattle.parser_rules.specs.Fragments.{a_list, a_name, not_null, no_type}
+use Rattle.parser_rules.specs.Open.{is_free}
+use Rattle.parser_rules.specs.RuleLanguage.{Here, At, Ready, Bump, Rule, Skip, Do, When, While, ◌>◌}
+use Rattle.parser_rules.specs.Rules.{type_start, nullable_type}
+use Rattle.parser_rules.specs.State.{State}
 
 -- a rule of an open root of the kind passes each check
 pub record RootRule (this_kind : SyntaxKind) (rule : Rule) : Type 0 where

@@ -3,23 +3,23 @@
 use Rattle.std.proofs.Common.{◌≡◌, ℕ, ◌+◌, ◌≤◌, min, true, None, List, [], ◌∷◌, ◌++◌, length, map, ap, ◌∙◌}
 use Rattle.std.specs.List.{list_any}
 use Rattle.std.specs.List.Sorted.{IsNonDecreasing}
-use Rattle.lexical_grammar.specs.Cut.{Item, Cut}
 use Rattle.lexical_grammar.specs.Answers.{Answer, limited, usize_max}
-use Rattle.document_grammar.specs.declared.kind.SyntaxKind.{SyntaxKind}
-use Rattle.document_grammar.specs.Forests.{none as no_trees}
+use Rattle.lexical_grammar.specs.Cut.{Item, Cut}
 use Rattle.document_grammar.specs.Builds.{Building}
-use Rattle.parser_rules.specs.State.{State, Report, flush, fresh, begun}
+use Rattle.document_grammar.specs.Forests.{none as no_trees}
+use Rattle.document_grammar.specs.declared.kind.SyntaxKind.{SyntaxKind}
+use Rattle.parser_rules.proofs.fragments.FrontReports.{begins-reports}
+use Rattle.parser_rules.proofs.reports.AlongItems.{Onward, tells-along, so_far}
+use Rattle.parser_rules.proofs.reports.AtTheLimit.{limits-along, asked-since}
+use Rattle.parser_rules.proofs.reports.InOrder.{in-order-front}
+use Rattle.parser_rules.proofs.runs.Frame.{keeps_along, adds_along, root-open, kept-nesting, read-untouched}
+use Rattle.parser_rules.proofs.runs.Steps.{Holds_along, along}
+use Rattle.parser_rules.specs.Fragments.{started}
 use Rattle.parser_rules.specs.Open.{is_free, IsRoot}
 use Rattle.parser_rules.specs.Reports.{Reported, is_recursion_limit}
 use Rattle.parser_rules.specs.RuleLanguage.{Rule}
 use Rattle.parser_rules.specs.Runs.{Runs}
-use Rattle.parser_rules.specs.Fragments.{started}
-use Rattle.parser_rules.proofs.runs.Steps.{Holds_along, along}
-use Rattle.parser_rules.proofs.runs.Frame.{keeps_along, adds_along, root-open, kept-nesting, read-untouched}
-use Rattle.parser_rules.proofs.reports.AlongItems.{Onward, tells-along, so_far}
-use Rattle.parser_rules.proofs.reports.AtTheLimit.{limits-along, asked-since}
-use Rattle.parser_rules.proofs.reports.InOrder.{in-order-front}
-use Rattle.parser_rules.proofs.fragments.FrontReports.{begins-reports}
+use Rattle.parser_rules.specs.State.{State, Report, flush, fresh, begun}
 
 module _ {rule : Rule} {state : State} (items : List Answer) (limit : ℕ) (this_kind : SyntaxKind)
     (run : Runs rule (started items limit this_kind) state) where

@@ -1,21 +1,21 @@
 -- How many elements and reports a part of a document can have that is parsed by itself.
 use Rattle.std.proofs.Common.{◌≡◌, ℕ, ◌^◌, min, true, is_some, List, length, sym, ap, ◌∙◌, subst, inl, inr}
-use Rattle.lexical_grammar.specs.Cut.{Item}
 use Rattle.lexical_grammar.specs.Answers.{Answer, limited}
-use Rattle.document_grammar.specs.declared.kind.SyntaxKind.{SyntaxKind}
+use Rattle.lexical_grammar.specs.Cut.{Item}
 use Rattle.document_grammar.proofs.Booleans.{either, not-some}
+use Rattle.document_grammar.specs.declared.kind.SyntaxKind.{SyntaxKind}
 use Rattle.grammar_machine.specs.Machine.{holds as within}
-use Rattle.parser_rules.specs.State.{State, flush, fresh, begun}
+use Rattle.parser_rules.proofs.fragments.RootChecks.{PaidRoot, list_paid, named_paid, non_null_paid, no_type_paid}
+use Rattle.parser_rules.proofs.fragments.WrappedRuns.{started-around}
+use Rattle.parser_rules.proofs.lookahead.TokenSets.{absent, present, class_of, present-is, edges}
+use Rattle.parser_rules.proofs.runs.Reading.{reading, found}
+use Rattle.parser_rules.proofs.sizes.Costs.{flush-cost}
+use Rattle.parser_rules.proofs.sizes.Sizes.{Sized, sized}
+use Rattle.parser_rules.specs.Fragments.{started, unopened, IsTypeRoot, a_list, a_name, not_null, no_type}
 use Rattle.parser_rules.specs.RuleLanguage.{Rule, Here, holds, fits}
 use Rattle.parser_rules.specs.Rules.{type_start}
 use Rattle.parser_rules.specs.Runs.{Runs, yes}
-use Rattle.parser_rules.specs.Fragments.{started, unopened, IsTypeRoot, a_list, a_name, not_null, no_type}
-use Rattle.parser_rules.proofs.runs.Reading.{reading, found}
-use Rattle.parser_rules.proofs.lookahead.TokenSets.{absent, present, class_of, present-is, edges}
-use Rattle.parser_rules.proofs.sizes.Costs.{flush-cost}
-use Rattle.parser_rules.proofs.sizes.Sizes.{Sized, sized}
-use Rattle.parser_rules.proofs.fragments.RootChecks.{PaidRoot, list_paid, named_paid, non_null_paid, no_type_paid}
-use Rattle.parser_rules.proofs.fragments.WrappedRuns.{started-around}
+use Rattle.parser_rules.specs.State.{State, flush, fresh, begun}
 
 pub root-sized : {rule : Rule} {state : State} (n : ℕ) (items : List Item) (limit : ℕ) (kind : SyntaxKind)
     → PaidRoot rule

@@ -4,6 +4,8 @@ use Rattle.std.proofs.Common.{◌≡◌, ℕ, true, false, List, [], ◌∷◌, 
 use Rattle.std.proofs.Common.{inr, true≢false}
 use Rattle.lexical_grammar.specs.Answers.{Answer}
 use Rattle.lexical_grammar.specs.declared.TokenKind.TheVariants as token
+use Rattle.document_grammar.proofs.Added.{Added, added-wrap, added-node}
+use Rattle.document_grammar.proofs.Booleans.{false-true}
 use Rattle.document_grammar.specs.Booleans.{◌or◌}
 use Rattle.document_grammar.specs.Builds.{Building, nothing, add_leaf, finish, wrap, built_count}
 use Rattle.document_grammar.specs.Derivation.{type}
@@ -16,19 +18,11 @@ use Rattle.document_grammar.specs.Placed.{bare}
 use Rattle.document_grammar.specs.Tree.{Text, Tree, leaf, node, Forest, none, ◌▸◌, ◌+++◌}
 use Rattle.document_grammar.specs.declared.kind.SyntaxKind.{SyntaxKind}
 use Rattle.document_grammar.specs.declared.kind.SyntaxKind.TheVariants as kind
-use Rattle.document_grammar.proofs.Added.{Added, added-wrap, added-node}
-use Rattle.document_grammar.proofs.Booleans.{false-true}
-use Rattle.grammar_machine.specs.Symbols.{TYPE}
 use Rattle.grammar_machine.proofs.FromMachineTree.{show, type_of}
 use Rattle.grammar_machine.proofs.Patterns.{label}
-use Rattle.grammar_machine.proofs.generated.Labels.{labels}
 use Rattle.grammar_machine.proofs.Sound.{any, first-any}
-use Rattle.parser_rules.specs.Fragments.{unopened, left_out, no_type_root, ClosesType, nullable, non_null, RunsTypeRoot}
-use Rattle.parser_rules.specs.Fragments.{makes_list, makes_name, makes_none}
-use Rattle.parser_rules.specs.RuleLanguage.{Here, At, holds, step, Do, Bump, Rule}
-use Rattle.parser_rules.specs.Rules.{type_start}
-use Rattle.parser_rules.specs.Runs.{Runs, skip, does, yes, no}
-use Rattle.parser_rules.specs.State.{State, Lexeme, add_all, flush, closed, wrapped_from, moved, bump, is_at, finished}
+use Rattle.grammar_machine.proofs.generated.Labels.{labels}
+use Rattle.grammar_machine.specs.Symbols.{TYPE}
 use Rattle.parser_rules.proofs.fragments.Parts.{Keeps, Starts, Outcome, part-starts, part-runs, part-out}
 use Rattle.parser_rules.proofs.fragments.RootChecks.{type_rule, absent_rule, never, type_follows}
 use Rattle.parser_rules.proofs.fragments.TypeRoots.{Nullable, list-first, name-first, unopened-none, unopened-waits}
@@ -42,6 +36,12 @@ use Rattle.parser_rules.proofs.soundness.Roots.{input_of, Begins}
 use Rattle.parser_rules.proofs.soundness.Settled.{settled-unwrapped}
 use Rattle.parser_rules.proofs.soundness.TableCheck.{counts_itself, part_may_end}
 use Rattle.parser_rules.proofs.soundness.WithoutIgnored.{Stack, stack, layers, strip, put, stack-added, stack-leaf}
+use Rattle.parser_rules.specs.Fragments.{unopened, left_out, no_type_root, ClosesType, nullable, non_null, RunsTypeRoot}
+use Rattle.parser_rules.specs.Fragments.{makes_list, makes_name, makes_none}
+use Rattle.parser_rules.specs.RuleLanguage.{Here, At, holds, step, Do, Bump, Rule}
+use Rattle.parser_rules.specs.Rules.{type_start}
+use Rattle.parser_rules.specs.Runs.{Runs, skip, does, yes, no}
+use Rattle.parser_rules.specs.State.{State, Lexeme, add_all, flush, closed, wrapped_from, moved, bump, is_at, finished}
 
 -- ---- what is built
 

@@ -1,23 +1,23 @@
 -- The root of a type that is parsed by itself, from the runs of its parts.
 use Rattle.std.proofs.Common.{◌≡◌, ℕ, Bool, true, false, List, [], ◌||◌, refl, sym, ap, ap₂, ◌∙◌, subst, arith}
 use Rattle.std.proofs.Math.Bool.{or-true}
-use Rattle.lexical_grammar.specs.declared.TokenKind.TheVariants as token
 use Rattle.lexical_grammar.specs.Answers.{Answer}
+use Rattle.lexical_grammar.specs.declared.TokenKind.TheVariants as token
+use Rattle.document_grammar.specs.Builds.{Building, Open, CanOpenAt, nothing, built_count}
 use Rattle.document_grammar.specs.declared.kind.SyntaxKind.{SyntaxKind}
 use Rattle.document_grammar.specs.declared.kind.SyntaxKind.TheVariants as kind
-use Rattle.document_grammar.specs.Builds.{Building, Open, CanOpenAt, nothing, built_count}
-use Rattle.parser_rules.specs.declared.message.Message.TheVariants as message
-use Rattle.parser_rules.specs.State.{State, read_on, is_at, fresh, flush, closed, wrapped_from}
-use Rattle.parser_rules.specs.Open.{IsCheckpoint}
-use Rattle.parser_rules.specs.Nodes.{ListType, NamedType, RequiredName}
-use Rattle.parser_rules.specs.RuleLanguage.{Here, At, holds, Do, Bump, Rule, Call, ◌>◌, refuse}
-use Rattle.parser_rules.specs.Rules.{type_start, inside, nullable_type}
-use Rattle.parser_rules.specs.Runs.{Runs, seq, yes, no, child}
+use Rattle.parser_rules.proofs.fragments.WrappedRuns.{wrapped-run, wrapped-root}
+use Rattle.parser_rules.proofs.runs.Frame.{read-untouched, add_all-above, adds}
 use Rattle.parser_rules.specs.Fragments.{unopened, started, list_root, named_root, ClosesType, nullable, non_null}
 use Rattle.parser_rules.specs.Fragments.{RunsTypeRoot, makes_list, makes_name, makes_none, IsTypeRoot, a_list, a_name}
 use Rattle.parser_rules.specs.Fragments.{not_null, no_type}
-use Rattle.parser_rules.proofs.runs.Frame.{read-untouched, add_all-above, adds}
-use Rattle.parser_rules.proofs.fragments.WrappedRuns.{wrapped-run, wrapped-root}
+use Rattle.parser_rules.specs.Nodes.{ListType, NamedType, RequiredName}
+use Rattle.parser_rules.specs.Open.{IsCheckpoint}
+use Rattle.parser_rules.specs.RuleLanguage.{Here, At, holds, Do, Bump, Rule, Call, ◌>◌, refuse}
+use Rattle.parser_rules.specs.Rules.{type_start, inside, nullable_type}
+use Rattle.parser_rules.specs.Runs.{Runs, seq, yes, no, child}
+use Rattle.parser_rules.specs.State.{State, read_on, is_at, fresh, flush, closed, wrapped_from}
+use Rattle.parser_rules.specs.declared.message.Message.TheVariants as message
 
 -- ---- where no node is open
 

@@ -1,17 +1,17 @@
 -- A run from where a node is open is one from where the node opens only afterwards, around what was added.
 use Rattle.std.proofs.Common.{◌≡◌, ℕ, ◌-◌, List, [], ◌∷◌, refl, sym, ap, ap₂, ◌∙◌, subst, arith}
 use Rattle.lexical_grammar.specs.Answers.{Answer}
-use Rattle.document_grammar.specs.declared.kind.SyntaxKind.{SyntaxKind}
-use Rattle.document_grammar.specs.Forests.{Forest, none as no_trees}
-use Rattle.document_grammar.specs.Builds.{Building, Open, nothing, start, wrap, wrap_at, built_count, open_count}
 use Rattle.document_grammar.proofs.Added.{Added, added-wrap}
-use Rattle.parser_rules.specs.State.{State, Report, PendingToken, read_on, flush, fresh, add_all, opened, wrapped_from}
+use Rattle.document_grammar.specs.Builds.{Building, Open, nothing, start, wrap, wrap_at, built_count, open_count}
+use Rattle.document_grammar.specs.Forests.{Forest, none as no_trees}
+use Rattle.document_grammar.specs.declared.kind.SyntaxKind.{SyntaxKind}
+use Rattle.parser_rules.proofs.runs.Anew.{anew}
+use Rattle.parser_rules.proofs.runs.Frame.{added-all, read-untouched}
+use Rattle.parser_rules.proofs.runs.Reading.{Reading, stops, cuts, bad_text, waits, shows, reading, found}
+use Rattle.parser_rules.specs.Fragments.{started, unopened}
 use Rattle.parser_rules.specs.RuleLanguage.{Rule}
 use Rattle.parser_rules.specs.Runs.{Runs}
-use Rattle.parser_rules.specs.Fragments.{started, unopened}
-use Rattle.parser_rules.proofs.runs.Reading.{Reading, stops, cuts, bad_text, waits, shows, reading, found}
-use Rattle.parser_rules.proofs.runs.Frame.{added-all, read-untouched}
-use Rattle.parser_rules.proofs.runs.Anew.{anew}
+use Rattle.parser_rules.specs.State.{State, Report, PendingToken, read_on, flush, fresh, add_all, opened, wrapped_from}
 
 added-same : {forest : Forest} {building later_building last_building : Building} → Added forest building later_building
     → Added forest building last_building

@@ -1,12 +1,12 @@
 -- Answers that were not read may become leaves as well: leaves of the first answers go on to leaves of all.
 use Rattle.std.proofs.Common.{◌≡◌, ℕ, List, [], ◌∷◌, ◌++◌, Option, Some, None, refl, inl}
-use Rattle.lexical_grammar.specs.declared.TokenKind.{TokenKind}
-use Rattle.lexical_grammar.specs.Cut.{Item}
 use Rattle.lexical_grammar.specs.Answers.{Answer, gives, limit_at}
-use Rattle.document_grammar.specs.declared.kind.SyntaxKind.{SyntaxKind}
-use Rattle.document_grammar.specs.declared.kind.SyntaxKind.TheVariants as kind
+use Rattle.lexical_grammar.specs.Cut.{Item}
+use Rattle.lexical_grammar.specs.declared.TokenKind.{TokenKind}
 use Rattle.document_grammar.specs.Leaves.{Leaf, IsLeafOf, IsLeafOfToken, OneLeafAnItem, nothing, one, the_end}
 use Rattle.document_grammar.specs.Leaves.{the_limit, ignored}
+use Rattle.document_grammar.specs.declared.kind.SyntaxKind.{SyntaxKind}
+use Rattle.document_grammar.specs.declared.kind.SyntaxKind.TheVariants as kind
 
 -- a leaf that an item may become
 token-leaf : (token_kind : TokenKind) (text : List ℕ) (own : Option SyntaxKind)

@@ -1,19 +1,19 @@
 -- Each token gets a leaf of its kind, or an ERROR: the check of a rule, which is walked with sets of classes of the
 -- next two tokens.
 use Rattle.std.proofs.Common.{ℕ, Bool, true, cond, eqb}
-use Rattle.document_grammar.specs.declared.kind.SyntaxKind.{SyntaxKind}
-use Rattle.document_grammar.specs.Numbers.{number}
-use Rattle.document_grammar.specs.Kinds.{ERROR}
 use Rattle.document_grammar.specs.Booleans.{◌and◌}
-use Rattle.grammar_machine.specs.Machine.{is_leaf}
+use Rattle.document_grammar.specs.Kinds.{ERROR}
+use Rattle.document_grammar.specs.Numbers.{number}
+use Rattle.document_grammar.specs.declared.kind.SyntaxKind.{SyntaxKind}
 use Rattle.grammar_machine.proofs.Checks.{subset, disjoint}
 use Rattle.grammar_machine.proofs.Patterns.{label}
 use Rattle.grammar_machine.proofs.Sound.{any}
 use Rattle.grammar_machine.proofs.Steps.{hits}
-use Rattle.parser_rules.proofs.runs.Walk.{Domain, steady}
-use Rattle.parser_rules.proofs.lookahead.TokenSets.{over}
-use Rattle.parser_rules.proofs.lookahead.Split.{split}
+use Rattle.grammar_machine.specs.Machine.{is_leaf}
 use Rattle.parser_rules.proofs.lookahead.FirstSets.{first_in, second_of, inlined}
+use Rattle.parser_rules.proofs.lookahead.Split.{split}
+use Rattle.parser_rules.proofs.lookahead.TokenSets.{over}
+use Rattle.parser_rules.proofs.runs.Walk.{Domain, steady}
 
 abbrev pub is_error : SyntaxKind → Bool
 is_error kind = eqb (number kind) ERROR

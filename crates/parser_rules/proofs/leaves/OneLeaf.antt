@@ -1,56 +1,56 @@
 -- Each item becomes one leaf: runs of the grammar's rules give each token a leaf of its own kind, or an ERROR.
 use Rattle.std.proofs.Common.{◌≡◌, ℕ, Option, Some, None, List, [], ◌∷◌, ◌++◌, refl, sym, ◌∙◌, ap, ap₂, subst, true}
 use Rattle.std.proofs.Common.{false, Bool, cond, eqb, append_assoc, append-nil, not, inl, inr, eqb-true}
+use Rattle.lexical_grammar.specs.Answers.{Answer, gives, limit_at, is_end, AreAnswers, answers_text, IsItemText}
+use Rattle.lexical_grammar.specs.Cut.{Item}
 use Rattle.lexical_grammar.specs.declared.TokenKind.{TokenKind}
 use Rattle.lexical_grammar.specs.declared.TokenKind.TheVariants as token_kind
-use Rattle.lexical_grammar.specs.Cut.{Item}
-use Rattle.lexical_grammar.specs.Answers.{Answer, gives, limit_at, is_end, AreAnswers, answers_text, IsItemText}
+use Rattle.document_grammar.proofs.Booleans.{false-true, and-l, and-r, either, implies}
+use Rattle.document_grammar.specs.Booleans.{◌and◌, ◌or◌}
+use Rattle.document_grammar.specs.Builds.{Open, close}
+use Rattle.document_grammar.specs.Choices.{is_keyword}
+use Rattle.document_grammar.specs.Derivation.{spelled, LeafRule}
+use Rattle.document_grammar.specs.Forests.{Forest, none, leaf, node, text, join}
+use Rattle.document_grammar.specs.Kinds.{IDENT, DOCUMENT}
+use Rattle.document_grammar.specs.Leaves.{leaves, IsLeafOf, IsLeafOfToken, OneLeafAnItem, nothing, one, the_end}
+use Rattle.document_grammar.specs.Leaves.{the_limit}
+use Rattle.document_grammar.specs.Numbers.{number}
+use Rattle.document_grammar.specs.Sentence.{leaf_number}
 use Rattle.document_grammar.specs.declared.kind.SyntaxKind.{SyntaxKind}
 use Rattle.document_grammar.specs.declared.kind.SyntaxKind.TheVariants as kind
-use Rattle.document_grammar.specs.Kinds.{IDENT, DOCUMENT}
-use Rattle.document_grammar.specs.Choices.{is_keyword}
-use Rattle.grammar_machine.proofs.generated.Labels.{labels}
-use Rattle.document_grammar.specs.Numbers.{number}
-use Rattle.document_grammar.specs.Forests.{Forest, none, leaf, node, text, join}
-use Rattle.document_grammar.specs.Builds.{Open, close}
-use Rattle.document_grammar.specs.Derivation.{spelled, LeafRule}
-use Rattle.document_grammar.specs.Sentence.{leaf_number}
-use Rattle.grammar_machine.specs.Table.{name_leaves}
-use Rattle.document_grammar.specs.Booleans.{◌and◌, ◌or◌}
-use Rattle.grammar_machine.specs.Machine.{holds as within, is_leaf, entries, fires, class, token as token_of_leaf}
-use Rattle.document_grammar.proofs.Booleans.{false-true, and-l, and-r, either, implies}
-use Rattle.grammar_machine.proofs.TableLemmas.{head-same, tail-same, below-at, holds-disjoint}
 use Rattle.grammar_machine.proofs.Checks.{all_below}
 use Rattle.grammar_machine.proofs.Patterns.{label}
 use Rattle.grammar_machine.proofs.Rules.{leaf-rule}
 use Rattle.grammar_machine.proofs.Sound.{any, leaf-lt, leaf-ok, leaf-token}
 use Rattle.grammar_machine.proofs.Steps.{hits-fires}
-use Rattle.parser_rules.specs.State.{State, Text, Lexeme, PendingToken, ignored, second, add_all, flush, opened, closed}
-use Rattle.parser_rules.specs.State.{wrapped_from, moved, is_over, enter, leave, fresh, begun, finished}
-use Rattle.parser_rules.specs.Open.{IsRoot}
-use Rattle.document_grammar.specs.Leaves.{leaves, IsLeafOf, IsLeafOfToken, OneLeafAnItem, nothing, one, the_end}
-use Rattle.document_grammar.specs.Leaves.{the_limit}
-use Rattle.parser_rules.specs.Nodes as rule
-use Rattle.parser_rules.specs.Nodes.{kind_of}
-use Rattle.parser_rules.specs.RuleLanguage.{Ready, holds, Prim, Rule, Do, Seq, When, While, Call}
-use Rattle.parser_rules.specs.Rules.{body}
-use Rattle.parser_rules.specs.Runs.{Runs, seq, yes, no, done, again, call}
-use Rattle.parser_rules.proofs.runs.Fuel.{rules_deep}
-use Rattle.parser_rules.proofs.runs.Frame.{add_all-above, root-kept}
+use Rattle.grammar_machine.proofs.TableLemmas.{head-same, tail-same, below-at, holds-disjoint}
+use Rattle.grammar_machine.proofs.generated.Labels.{labels}
+use Rattle.grammar_machine.specs.Machine.{holds as within, is_leaf, entries, fires, class, token as token_of_leaf}
+use Rattle.grammar_machine.specs.Table.{name_leaves}
+use Rattle.parser_rules.proofs.NodeChecks.{node-passes, document_passes}
+use Rattle.parser_rules.proofs.leaves.LeafCheck.{is_error, belongs, Tokens, anything, leaf_check}
+use Rattle.parser_rules.proofs.lookahead.Split.{split-at}
+use Rattle.parser_rules.proofs.lookahead.TokenSets.{absent, over, class_of, of-any, Seen, seen-any, seen-more, edges}
+use Rattle.parser_rules.proofs.lookahead.TokenSets.{flip}
+use Rattle.parser_rules.proofs.reports.NoReport.{end-kind}
 use Rattle.parser_rules.proofs.runs.AtTheEnd.{EndNow, ends, read-ends}
+use Rattle.parser_rules.proofs.runs.Frame.{add_all-above, root-kept}
+use Rattle.parser_rules.proofs.runs.Fuel.{rules_deep}
 use Rattle.parser_rules.proofs.runs.Reading.{Reading, found, Shown, second-shown, reading}
+use Rattle.parser_rules.proofs.runs.Reporting.{after-note, after-too-deep}
 use Rattle.parser_rules.proofs.runs.TreesWithSources as trees
 use Rattle.parser_rules.proofs.runs.TreesWithSources.{by-kind, Source, token, aside, TreesWithSources, append, erase}
 use Rattle.parser_rules.proofs.runs.TreesWithSources.{erase-append, flat, flat-append, set_aside, source_at, now_of}
 use Rattle.parser_rules.proofs.runs.TreesWithSources.{sources, moved_on, to_come, FirstPart, first-part}
 use Rattle.parser_rules.proofs.runs.Walk.{after_pending, always, Goes, Sound, walked_whole, walk, walked_root}
-use Rattle.parser_rules.proofs.runs.Reporting.{after-note, after-too-deep}
-use Rattle.parser_rules.proofs.reports.NoReport.{end-kind}
-use Rattle.parser_rules.proofs.lookahead.TokenSets.{absent, over, class_of, of-any, Seen, seen-any, seen-more, edges}
-use Rattle.parser_rules.proofs.lookahead.TokenSets.{flip}
-use Rattle.parser_rules.proofs.lookahead.Split.{split-at}
-use Rattle.parser_rules.proofs.leaves.LeafCheck.{is_error, belongs, Tokens, anything, leaf_check}
-use Rattle.parser_rules.proofs.NodeChecks.{node-passes, document_passes}
+use Rattle.parser_rules.specs.Nodes as rule
+use Rattle.parser_rules.specs.Nodes.{kind_of}
+use Rattle.parser_rules.specs.Open.{IsRoot}
+use Rattle.parser_rules.specs.RuleLanguage.{Ready, holds, Prim, Rule, Do, Seq, When, While, Call}
+use Rattle.parser_rules.specs.Rules.{body}
+use Rattle.parser_rules.specs.Runs.{Runs, seq, yes, no, done, again, call}
+use Rattle.parser_rules.specs.State.{State, Text, Lexeme, PendingToken, ignored, second, add_all, flush, opened, closed}
+use Rattle.parser_rules.specs.State.{wrapped_from, moved, is_over, enter, leave, fresh, begun, finished}
 
 -- ---- the leaves of the trees that are built
 

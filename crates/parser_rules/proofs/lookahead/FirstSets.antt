@@ -1,15 +1,15 @@
 -- With which tokens the rules begin a node.
 use Rattle.std.proofs.Common.{ℕ, suc, Bool, true, false, cond, List, [], ◌∷◌, bit_and, bit_or}
-use Rattle.grammar_machine.specs.Table.{Entry, entry}
-use Rattle.grammar_machine.specs.Machine.{entries}
-use Rattle.grammar_machine.proofs.Checks.{entries_mask}
 use Rattle.std.specs.Int.Bits.{bit_xor}
-use Rattle.grammar_machine.proofs.Sound.{any}
 use Rattle.document_grammar.specs.declared.kind.SyntaxKind.TheVariants as kind
+use Rattle.grammar_machine.proofs.Checks.{entries_mask}
+use Rattle.grammar_machine.proofs.Sound.{any}
+use Rattle.grammar_machine.specs.Machine.{entries}
+use Rattle.grammar_machine.specs.Table.{Entry, entry}
+use Rattle.parser_rules.proofs.runs.Fuel.{rules_deep}
 use Rattle.parser_rules.specs.Nodes.{Node, Name, symbol}
 use Rattle.parser_rules.specs.RuleLanguage.{Rule, Do, Bump, Note, Seq, When, Child, Call, Nested, Typed}
 use Rattle.parser_rules.specs.Rules.{inside, body}
-use Rattle.parser_rules.proofs.runs.Fuel.{rules_deep}
 
 abbrev pub without : ℕ → ℕ → ℕ
 without x m = bit_xor x (bit_and x m)

@@ -3,20 +3,20 @@ use Rattle.std.proofs.Common.{◌≡◌, ℕ, ◌^◌, Bool, true, false, cond, 
 use Rattle.std.proofs.Common.{sym, subst, inl, inr}
 use Rattle.lexical_grammar.specs.Answers.{Answer, is_end}
 use Rattle.lexical_grammar.specs.declared.TokenKind.{TokenKind}
+use Rattle.document_grammar.proofs.Booleans.{either, false-true}
 use Rattle.document_grammar.specs.Sentence.{leaf_number}
 use Rattle.document_grammar.specs.Tree.{Token}
-use Rattle.grammar_machine.specs.Machine.{holds as within, class, first as first_class, second as second_class}
 use Rattle.grammar_machine.proofs.Checks.{disjoint}
-use Rattle.document_grammar.proofs.Booleans.{either, false-true}
 use Rattle.grammar_machine.proofs.TableLemmas.{holds-disjoint, holds-or}
-use Rattle.parser_rules.specs.State.{State, Lexeme, second}
+use Rattle.grammar_machine.specs.Machine.{holds as within, class, first as first_class, second as second_class}
+use Rattle.parser_rules.proofs.lookahead.FirstSets.{without}
 use Rattle.parser_rules.proofs.lookahead.TokenSets.{edges, absent, lexeme_class, class_of, ready, not-zero, holds-minus}
 use Rattle.parser_rules.proofs.lookahead.TokenSets.{Seen}
 use Rattle.parser_rules.proofs.reports.NoReport.{EndsWell, Now, rest, answers_tokens, current_tokens, ignored-tokens}
 use Rattle.parser_rules.proofs.reports.NoReport.{ignored-end, end-kind, significant, end-or-token}
 use Rattle.parser_rules.proofs.runs.Reading.{Reading, stops, cuts, bad_text, waits, shows, reading-none, looks}
-use Rattle.parser_rules.proofs.lookahead.FirstSets.{without}
 use Rattle.parser_rules.proofs.soundness.TableCheck.{absent_as_end}
+use Rattle.parser_rules.specs.State.{State, Lexeme, second}
 
 -- ---- the end, where no token is
 

@@ -2,15 +2,15 @@
 --
 -- `near` and `far` are the sets of classes that have those of the current token and of the significant one after it;
 -- `h` says that the check holds, and `a` is known at the position.
-use Rattle.std.specs.Prelude.{⊤}
 use Rattle.std.proofs.Common.{◌≡◌, ℕ, Bool, true, false, cond, not, ◌&&◌, sym, ap, ◌∙◌, subst, inl, inr}
-use Rattle.document_grammar.specs.Booleans.{◌and◌}
+use Rattle.std.specs.Prelude.{⊤}
 use Rattle.document_grammar.proofs.Booleans.{either, and-l, and-r}
-use Rattle.parser_rules.specs.State.{State, is_deep, second}
-use Rattle.parser_rules.specs.RuleLanguage.{Test, Here, Next, Ready, HasNext, Deep, Not, Both, holds}
-use Rattle.parser_rules.proofs.runs.Reading.{Shown, second-shown}
+use Rattle.document_grammar.specs.Booleans.{◌and◌}
 use Rattle.parser_rules.proofs.lookahead.TokenSets.{set_of, fits-set, ready, present, ready-is, present-is, Seen}
 use Rattle.parser_rules.proofs.lookahead.TokenSets.{Branch, by_near, by_far, near-at, far-at, flip}
+use Rattle.parser_rules.proofs.runs.Reading.{Shown, second-shown}
+use Rattle.parser_rules.specs.RuleLanguage.{Test, Here, Next, Ready, HasNext, Deep, Not, Both, holds}
+use Rattle.parser_rules.specs.State.{State, is_deep, second}
 
 -- Within a node: no level of nesting was entered in it, one is entered, or one was entered and left.
 pub data Level : Type 0 where

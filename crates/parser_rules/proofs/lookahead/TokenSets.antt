@@ -4,30 +4,30 @@ use Rattle.std.proofs.Common.{◌≡◌, ℕ, zero, suc, ◌+◌, ◌-◌, ◌^�
 use Rattle.std.proofs.Common.{cond, ◌&&◌, eqb, bit_and, Option, Some, None, refl, sym, ap, ◌∙◌, subst, inl, inr}
 use Rattle.std.proofs.Common.{eqb-true, is_some, arith}
 use Rattle.std.proofs.lemmas.Bool.{eqb-false}
+use Rattle.std.proofs.lemmas.Nat.Bits.{bit_at_and, bit_at_or, bit_at_xor, bit_at-lt, bit_at-pow_same, bit_at-zero}
 use Rattle.std.specs.Int.{bit_at}
 use Rattle.std.specs.Int.Bits.{bit_xor, bit_or}
-use Rattle.parser_rules.specs.RuleLanguage.{TokenTest, Kind, Keyword, Or, fits}
-use Rattle.std.proofs.lemmas.Nat.Bits.{bit_at_and, bit_at_or, bit_at_xor, bit_at-lt, bit_at-pow_same, bit_at-zero}
+use Rattle.lexical_grammar.specs.Answers.{is_end}
 use Rattle.lexical_grammar.specs.declared.TokenKind.{TokenKind}
 use Rattle.lexical_grammar.specs.declared.TokenKind.TheVariants as token
-use Rattle.lexical_grammar.specs.Answers.{is_end}
-use Rattle.document_grammar.specs.declared.kind.SyntaxKind.{SyntaxKind}
+use Rattle.document_grammar.proofs.Booleans.{either, false-true, and-l, and-r}
+use Rattle.document_grammar.specs.Booleans.{◌and◌}
 use Rattle.document_grammar.specs.Kinds.{words, COMMENT, IDENT}
 use Rattle.document_grammar.specs.Numbers.{number}
 use Rattle.document_grammar.specs.Sentence.{leaf_number}
-use Rattle.grammar_machine.specs.Table.{token_kinds}
-use Rattle.grammar_machine.proofs.generated.Follows.{name_classes}
 use Rattle.document_grammar.specs.Tree.{Token}
-use Rattle.document_grammar.specs.Booleans.{◌and◌}
-use Rattle.grammar_machine.specs.Machine.{holds as within, class, word_class}
+use Rattle.document_grammar.specs.declared.kind.SyntaxKind.{SyntaxKind}
 use Rattle.grammar_machine.proofs.Checks.{subset}
 use Rattle.grammar_machine.proofs.Classes.{holds-and}
-use Rattle.document_grammar.proofs.Booleans.{either, false-true, and-l, and-r}
-use Rattle.grammar_machine.proofs.TableLemmas.{holds-subset, holds-disjoint}
-use Rattle.grammar_machine.proofs.Sound.{any, class-any, word-name, holds-one}
 use Rattle.grammar_machine.proofs.Endings.{words-checked}
-use Rattle.parser_rules.specs.State.{State, Text, Lexeme, same_kind, ignored, second, is_at, is_word, is_over}
+use Rattle.grammar_machine.proofs.Sound.{any, class-any, word-name, holds-one}
+use Rattle.grammar_machine.proofs.TableLemmas.{holds-subset, holds-disjoint}
+use Rattle.grammar_machine.proofs.generated.Follows.{name_classes}
+use Rattle.grammar_machine.specs.Machine.{holds as within, class, word_class}
+use Rattle.grammar_machine.specs.Table.{token_kinds}
 use Rattle.parser_rules.proofs.runs.Reading.{Shown, second-shown}
+use Rattle.parser_rules.specs.RuleLanguage.{TokenTest, Kind, Keyword, Or, fits}
+use Rattle.parser_rules.specs.State.{State, Text, Lexeme, same_kind, ignored, second, is_at, is_word, is_over}
 
 -- ---- classes of tokens
 

@@ -1,12 +1,12 @@
 -- The levels of nesting that a rule enters, walked along the rule: the computed check of one rule.
 use Rattle.std.proofs.Common.{ℕ, ◌+◌, ◌-◌, eqb, leb}
+use Rattle.document_grammar.proofs.Nested.{uncounted, is_bare, weight}
+use Rattle.document_grammar.specs.Booleans.{◌and◌}
 use Rattle.document_grammar.specs.Kinds.{DOCUMENT, NON_NULL_TYPE}
 use Rattle.document_grammar.specs.Numbers.{number}
-use Rattle.document_grammar.specs.Booleans.{◌and◌}
-use Rattle.document_grammar.proofs.Nested.{uncounted, is_bare, weight}
-use Rattle.parser_rules.specs.Nodes.{kind_of}
 use Rattle.parser_rules.proofs.runs.Walk.{Domain, steady}
 use Rattle.parser_rules.proofs.soundness.TableCheck.{counts_itself}
+use Rattle.parser_rules.specs.Nodes.{kind_of}
 
 -- The kind of the open node; how many more counted nodes are open than levels were entered where it began; how many
 -- levels were entered in it; and 1 where it still owes its own.

@@ -3,25 +3,25 @@ use Rattle.std.proofs.Common.{◌≡◌, ℕ, ◌+◌, ◌<◌, ◌≤◌, Bool,
 use Rattle.std.proofs.Common.{inr, eqb-true, leb-true, arith}
 use Rattle.std.specs.Prelude.{is_some}
 use Rattle.lexical_grammar.specs.Answers.{Answer}
+use Rattle.document_grammar.proofs.Booleans.{either, false-true, and-l, and-r, or-c, implies}
+use Rattle.document_grammar.specs.Booleans.{◌or◌}
 use Rattle.document_grammar.specs.declared.kind.SyntaxKind.{SyntaxKind}
 use Rattle.document_grammar.specs.declared.kind.SyntaxKind.TheVariants as kind
-use Rattle.document_grammar.specs.Booleans.{◌or◌}
-use Rattle.document_grammar.proofs.Booleans.{either, false-true, and-l, and-r, or-c, implies}
-use Rattle.parser_rules.specs.State.{State, Lexeme, flush, opened, closed, wrapped_from, moved, enter, leave, begun}
-use Rattle.parser_rules.specs.State.{fresh}
+use Rattle.parser_rules.proofs.NodeChecks.{node-passes, document_passes}
+use Rattle.parser_rules.proofs.nesting.TokenCheck.{Taken, untaken, take, forget, token_check}
+use Rattle.parser_rules.proofs.reports.LimitCheck.{tells_inner}
+use Rattle.parser_rules.proofs.reports.PastTheLimit.{test-inner, inner-present}
+use Rattle.parser_rules.proofs.runs.Frame.{left, read-left, moved-left, read-untouched}
+use Rattle.parser_rules.proofs.runs.Fuel.{rules_deep}
+use Rattle.parser_rules.proofs.runs.Reading.{reading}
+use Rattle.parser_rules.proofs.runs.Reporting.{after-note, after-too-deep}
+use Rattle.parser_rules.proofs.runs.TreesWithSources.{TreesWithSources, moved_on}
+use Rattle.parser_rules.proofs.runs.Walk.{Sound, walk, walked_whole, walked_root, always}
 use Rattle.parser_rules.specs.Nodes.{Document}
 use Rattle.parser_rules.specs.RuleLanguage.{Rule, Call}
 use Rattle.parser_rules.specs.Runs.{Runs}
-use Rattle.parser_rules.proofs.runs.Reading.{reading}
-use Rattle.parser_rules.proofs.runs.TreesWithSources.{TreesWithSources, moved_on}
-use Rattle.parser_rules.proofs.runs.Fuel.{rules_deep}
-use Rattle.parser_rules.proofs.runs.Walk.{Sound, walk, walked_whole, walked_root, always}
-use Rattle.parser_rules.proofs.runs.Frame.{left, read-left, moved-left, read-untouched}
-use Rattle.parser_rules.proofs.runs.Reporting.{after-note, after-too-deep}
-use Rattle.parser_rules.proofs.reports.LimitCheck.{tells_inner}
-use Rattle.parser_rules.proofs.reports.PastTheLimit.{test-inner, inner-present}
-use Rattle.parser_rules.proofs.nesting.TokenCheck.{Taken, untaken, take, forget, token_check}
-use Rattle.parser_rules.proofs.NodeChecks.{node-passes, document_passes}
+use Rattle.parser_rules.specs.State.{State, Lexeme, flush, opened, closed, wrapped_from, moved, enter, leave, begun}
+use Rattle.parser_rules.specs.State.{fresh}
 
 module _ (n : ℕ) where
   -- The levels that are entered, the tokens left to read, and one to spare are no more than n, nor is the highest

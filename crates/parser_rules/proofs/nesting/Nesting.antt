@@ -4,36 +4,36 @@
 use Rattle.std.proofs.Common.{◌≡◌, ℕ, suc, ◌+◌, ◌≤◌, max, min, Bool, true, List, [], ◌∷◌, Some, refl, sym, ap, ◌∙◌, eqb}
 use Rattle.std.proofs.Common.{leb, eqb-true, leb-true, arith}
 use Rattle.lexical_grammar.specs.Answers.{Answer, usize_max}
-use Rattle.document_grammar.specs.declared.kind.SyntaxKind.{SyntaxKind}
-use Rattle.document_grammar.specs.declared.kind.SyntaxKind.TheVariants as kind
-use Rattle.document_grammar.specs.Kinds.{DOCUMENT, NON_NULL_TYPE}
-use Rattle.document_grammar.specs.Numbers.{number}
-use Rattle.document_grammar.specs.Forests.{Forest, count}
-use Rattle.document_grammar.specs.Forests as built
-use Rattle.document_grammar.specs.Builds.{Open, close}
-use Rattle.document_grammar.specs.Numbered.{tree_of}
-use Rattle.document_grammar.specs.Pattern.{member}
-use Rattle.document_grammar.specs.Derivation.{nest}
-use Rattle.document_grammar.specs.Booleans.{◌and◌, ◌or◌}
 use Rattle.document_grammar.proofs.Booleans.{false-true, and-l, and-r}
-use Rattle.parser_rules.specs.State.{State, PendingToken, add_all, flush, opened, closed, wrapped_from, moved, enter}
-use Rattle.parser_rules.specs.State.{leave, fresh, begun, finished}
 use Rattle.document_grammar.proofs.Nested.{uncounted, is_bare, weight, weight-none, inner, inner-join, inner-none}
 use Rattle.document_grammar.proofs.Nested.{inner-leaf, inner-node, inner-same, inner-count}
-use Rattle.parser_rules.specs.Nodes.{Document, kind_of}
-use Rattle.parser_rules.specs.RuleLanguage.{Rule, Call}
-use Rattle.parser_rules.specs.Runs.{Runs}
-use Rattle.parser_rules.proofs.runs.Fuel.{rules_deep}
+use Rattle.document_grammar.specs.Booleans.{◌and◌, ◌or◌}
+use Rattle.document_grammar.specs.Builds.{Open, close}
+use Rattle.document_grammar.specs.Derivation.{nest}
+use Rattle.document_grammar.specs.Forests as built
+use Rattle.document_grammar.specs.Forests.{Forest, count}
+use Rattle.document_grammar.specs.Kinds.{DOCUMENT, NON_NULL_TYPE}
+use Rattle.document_grammar.specs.Numbered.{tree_of}
+use Rattle.document_grammar.specs.Numbers.{number}
+use Rattle.document_grammar.specs.Pattern.{member}
+use Rattle.document_grammar.specs.declared.kind.SyntaxKind.{SyntaxKind}
+use Rattle.document_grammar.specs.declared.kind.SyntaxKind.TheVariants as kind
+use Rattle.parser_rules.proofs.NodeChecks.{node-passes, document_passes}
+use Rattle.parser_rules.proofs.nesting.LevelCheck.{Depth, at_first, level_check}
 use Rattle.parser_rules.proofs.runs.Frame.{read-untouched, add_all-above, root-stays}
+use Rattle.parser_rules.proofs.runs.Fuel.{rules_deep}
 use Rattle.parser_rules.proofs.runs.Reading.{Reading, reading, all_kinds, reading-waits}
+use Rattle.parser_rules.proofs.runs.Reporting.{after-note, after-too-deep}
 use Rattle.parser_rules.proofs.runs.TreesWithSources as trees
 use Rattle.parser_rules.proofs.runs.TreesWithSources.{TreesWithSources, append, token, erase, erase-append, set_aside}
 use Rattle.parser_rules.proofs.runs.TreesWithSources.{moved_on, first-part}
 use Rattle.parser_rules.proofs.runs.Walk.{after_pending, Sound, walk, walked_whole, walked_root}
-use Rattle.parser_rules.proofs.runs.Reporting.{after-note, after-too-deep}
 use Rattle.parser_rules.proofs.soundness.TableCheck.{counts_itself}
-use Rattle.parser_rules.proofs.nesting.LevelCheck.{Depth, at_first, level_check}
-use Rattle.parser_rules.proofs.NodeChecks.{node-passes, document_passes}
+use Rattle.parser_rules.specs.Nodes.{Document, kind_of}
+use Rattle.parser_rules.specs.RuleLanguage.{Rule, Call}
+use Rattle.parser_rules.specs.Runs.{Runs}
+use Rattle.parser_rules.specs.State.{State, PendingToken, add_all, flush, opened, closed, wrapped_from, moved, enter}
+use Rattle.parser_rules.specs.State.{leave, fresh, begun, finished}
 
 -- ---- what waits
 

@@ -2,8 +2,8 @@
 -- are no more levels than there are tokens.
 use Rattle.std.proofs.Common.{ℕ, Bool, false, cond, eqb, leb, not}
 use Rattle.document_grammar.specs.Booleans.{◌and◌, ◌or◌}
-use Rattle.parser_rules.proofs.runs.Walk.{Domain, steady}
 use Rattle.parser_rules.proofs.reports.LimitCheck.{tells_inner, begins_level}
+use Rattle.parser_rules.proofs.runs.Walk.{Domain, steady}
 
 -- How many levels were entered in the open node; 1 where a token was taken since the last of them was entered; and
 -- whether the current token is known to be there.

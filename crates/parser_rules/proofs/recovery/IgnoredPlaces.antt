@@ -2,28 +2,28 @@
 -- reports each is where the text fixes it.
 use Rattle.std.proofs.Common.{◌≡◌, ℕ, Bool, true, false, List, [], ◌∷◌, Some, refl, sym, ap, ◌∙◌, subst, true≢false}
 use Rattle.lexical_grammar.specs.Answers.{Answer}
-use Rattle.document_grammar.specs.declared.kind.SyntaxKind.TheVariants as kind
-use Rattle.document_grammar.specs.Forests as built
-use Rattle.document_grammar.specs.Numbered.{tree_of}
+use Rattle.document_grammar.proofs.Booleans.{and-i, and-l, and-r, not-c}
 use Rattle.document_grammar.proofs.Trimmed.{starts_well, ends_with, trim, starts-join, ends-join, trim-join}
 use Rattle.document_grammar.proofs.Trimmed.{root-placed}
+use Rattle.document_grammar.specs.Forests as built
+use Rattle.document_grammar.specs.Numbered.{tree_of}
 use Rattle.document_grammar.specs.Placed.{Placed}
-use Rattle.document_grammar.proofs.Booleans.{and-i, and-l, and-r, not-c}
-use Rattle.parser_rules.specs.State.{State, PendingToken, add_all, flush, opened, closed, wrapped_from, moved, enter}
-use Rattle.parser_rules.specs.State.{leave, begun, finished}
-use Rattle.parser_rules.specs.Nodes.{kind_of, Document}
-use Rattle.parser_rules.specs.RuleLanguage.{Call}
-use Rattle.parser_rules.specs.Runs.{Runs}
-use Rattle.parser_rules.specs.Open.{IsRoot}
-use Rattle.parser_rules.proofs.recovery.RecoveryCheck.{tidy_check}
+use Rattle.document_grammar.specs.declared.kind.SyntaxKind.TheVariants as kind
 use Rattle.parser_rules.proofs.NodeChecks.{node-passes, document_passes}
+use Rattle.parser_rules.proofs.recovery.RecoveryCheck.{tidy_check}
+use Rattle.parser_rules.proofs.reports.NoReport.{EndsWell}
 use Rattle.parser_rules.proofs.runs.Frame.{add_all-above}
+use Rattle.parser_rules.proofs.runs.Reporting.{after-note, after-too-deep}
 use Rattle.parser_rules.proofs.runs.TreesWithSources as trees
 use Rattle.parser_rules.proofs.runs.TreesWithSources.{TreesWithSources, append, token, erase, erase-append, set_aside}
 use Rattle.parser_rules.proofs.runs.Walk.{after_pending, always, Sound, walked_whole}
-use Rattle.parser_rules.proofs.reports.NoReport.{EndsWell}
 use Rattle.parser_rules.proofs.soundness.Soundness.{clean}
-use Rattle.parser_rules.proofs.runs.Reporting.{after-note, after-too-deep}
+use Rattle.parser_rules.specs.Nodes.{kind_of, Document}
+use Rattle.parser_rules.specs.Open.{IsRoot}
+use Rattle.parser_rules.specs.RuleLanguage.{Call}
+use Rattle.parser_rules.specs.Runs.{Runs}
+use Rattle.parser_rules.specs.State.{State, PendingToken, add_all, flush, opened, closed, wrapped_from, moved, enter}
+use Rattle.parser_rules.specs.State.{leave, begun, finished}
 
 -- ---- what a run builds
 

@@ -3,55 +3,55 @@
 use Rattle.std.proofs.Common.{◌≡◌, ◌≢◌, ℕ, ◌+◌, ◌≤◌, Bool, true, false, true≢false, ◌&&◌, ltb, List, [], ◌∷◌, ◌++◌}
 use Rattle.std.proofs.Common.{length, map, Option, Some, None, refl, sym, ap, ap₂, ◌∙◌, subst, inl, inr, ◌⊎◌, arith}
 use Rattle.std.proofs.Common.{is_some, length-append}
-use Rattle.std.specs.List.{list_all}
 use Rattle.std.proofs.lemmas.Bool.{and_parts}
 use Rattle.std.proofs.lemmas.List.Elements.{All-map, All-weaker}
-use Rattle.lexical_grammar.specs.Cut.{Item, Cut, CutFrom, texts, end_at, Significant, significant_word, are_tokens}
-use Rattle.lexical_grammar.specs.Answers.{Answer, gives, limit_at, limited, is_given}
+use Rattle.std.specs.List.{list_all}
 use Rattle.lexical_grammar.proofs.Limited.{all_given, within-limit}
 use Rattle.lexical_grammar.proofs.Offsets.{item-some}
-use Rattle.document_grammar.specs.declared.kind.SyntaxKind.TheVariants as kind
-use Rattle.document_grammar.specs.Numbers.{number}
-use Rattle.document_grammar.specs.Kinds.{ERROR, DOCUMENT}
-use Rattle.document_grammar.specs.Forests as built
-use Rattle.document_grammar.specs.Builds.{Building, add_leaf}
-use Rattle.document_grammar.specs.Tree.{Token, Tree, node}
-use Rattle.document_grammar.specs.Derivation.{document, Spells, nest}
-use Rattle.document_grammar.specs.FirstError.{At}
-use Rattle.document_grammar.specs.Sentence.{tokens_of}
-use Rattle.document_grammar.specs.Recovery.{NoneBeyond}
-use Rattle.document_grammar.specs.Booleans.{◌and◌}
+use Rattle.lexical_grammar.specs.Answers.{Answer, gives, limit_at, limited, is_given}
+use Rattle.lexical_grammar.specs.Cut.{Item, Cut, CutFrom, texts, end_at, Significant, significant_word, are_tokens}
 use Rattle.document_grammar.proofs.Added.{added-leaf}
 use Rattle.document_grammar.proofs.Booleans.{and-i}
 use Rattle.document_grammar.proofs.Joins.{join-none}
 use Rattle.document_grammar.proofs.Shown.{index-at, item-then, cut-from}
+use Rattle.document_grammar.specs.Booleans.{◌and◌}
+use Rattle.document_grammar.specs.Builds.{Building, add_leaf}
+use Rattle.document_grammar.specs.Derivation.{document, Spells, nest}
+use Rattle.document_grammar.specs.FirstError.{At}
+use Rattle.document_grammar.specs.Forests as built
+use Rattle.document_grammar.specs.Kinds.{ERROR, DOCUMENT}
+use Rattle.document_grammar.specs.Numbers.{number}
+use Rattle.document_grammar.specs.Recovery.{NoneBeyond}
+use Rattle.document_grammar.specs.Sentence.{tokens_of}
+use Rattle.document_grammar.specs.Tree.{Token, Tree, node}
+use Rattle.document_grammar.specs.declared.kind.SyntaxKind.TheVariants as kind
 use Rattle.grammar_machine.proofs.TableLemmas.{head-same, tail-same}
-use Rattle.parser_rules.specs.declared.message.Message.TheVariants as message
-use Rattle.parser_rules.specs.State.{State, Lexeme, lexeme, Report, PendingToken, read_on, add_all, flush, note, fresh}
-use Rattle.parser_rules.specs.State.{begun}
-use Rattle.parser_rules.specs.Nodes.{Document, Definition}
-use Rattle.parser_rules.specs.RuleLanguage.{Rule, Skip, Do, Note, Call, Ready, holds, step}
-use Rattle.parser_rules.specs.Rules.{body}
-use Rattle.parser_rules.specs.Runs.{Runs, skip, does, seq, yes, no, done, again, call, Turns, begin, turn}
-use Rattle.parser_rules.proofs.runs.Frame.{parts_forest, read-untouched, root-kept, turned, begun-nesting}
-use Rattle.parser_rules.proofs.runs.Steps.{Holds_along, Keeps_reading, along-reading, along, turns-along}
-use Rattle.parser_rules.proofs.runs.Reading.{Reading, stops, cuts, bad_text, waits, shows, reading, ignored-kinds}
-use Rattle.parser_rules.proofs.runs.Reading.{ignored-leaf}
-use Rattle.parser_rules.proofs.runs.TreesWithSources.{by-kind, Source, token, aside, text_of, TreesWithSources, none}
-use Rattle.parser_rules.proofs.runs.TreesWithSources.{append, erase, flat, set_aside, now_of, source_at, sources}
-use Rattle.parser_rules.proofs.runs.TreesWithSources.{to_come, read-to_come, reports-along, Grown, grown-none}
-use Rattle.parser_rules.proofs.runs.TreesWithSources.{grown-then, grown-note, reports-same}
+use Rattle.parser_rules.proofs.recovery.LeftOver.{source-text, bytes, text-bytes}
+use Rattle.parser_rules.proofs.recovery.OneChild.{Kid, leaf_of, alone, turn-one, behind, added-behind, loop-alike}
+use Rattle.parser_rules.proofs.recovery.OneChild.{next-child}
+use Rattle.parser_rules.proofs.recovery.Recovers.{recovers, none-beyond}
 use Rattle.parser_rules.proofs.reports.Endings.{ends-well}
 use Rattle.parser_rules.proofs.reports.InOrder.{AllUpTo}
 use Rattle.parser_rules.proofs.reports.NoReport.{answers_tokens, all_tokens, current_tokens, kind_tokens, item_tokens}
 use Rattle.parser_rules.proofs.reports.NoReport.{ignored-tokens}
+use Rattle.parser_rules.proofs.runs.Frame.{parts_forest, read-untouched, root-kept, turned, begun-nesting}
+use Rattle.parser_rules.proofs.runs.Reading.{Reading, stops, cuts, bad_text, waits, shows, reading, ignored-kinds}
+use Rattle.parser_rules.proofs.runs.Reading.{ignored-leaf}
+use Rattle.parser_rules.proofs.runs.Steps.{Holds_along, Keeps_reading, along-reading, along, turns-along}
+use Rattle.parser_rules.proofs.runs.TreesWithSources.{by-kind, Source, token, aside, text_of, TreesWithSources, none}
+use Rattle.parser_rules.proofs.runs.TreesWithSources.{append, erase, flat, set_aside, now_of, source_at, sources}
+use Rattle.parser_rules.proofs.runs.TreesWithSources.{to_come, read-to_come, reports-along, Grown, grown-none}
+use Rattle.parser_rules.proofs.runs.TreesWithSources.{grown-then, grown-note, reports-same}
 use Rattle.parser_rules.proofs.soundness.OverTexts.{words-cons}
 use Rattle.parser_rules.proofs.soundness.Soundness.{accepted, loops, Turn, from_now, turn-of}
 use Rattle.parser_rules.proofs.soundness.WithoutIgnored.{strip, all_ignored}
-use Rattle.parser_rules.proofs.recovery.LeftOver.{source-text, bytes, text-bytes}
-use Rattle.parser_rules.proofs.recovery.Recovers.{recovers, none-beyond}
-use Rattle.parser_rules.proofs.recovery.OneChild.{Kid, leaf_of, alone, turn-one, behind, added-behind, loop-alike}
-use Rattle.parser_rules.proofs.recovery.OneChild.{next-child}
+use Rattle.parser_rules.specs.Nodes.{Document, Definition}
+use Rattle.parser_rules.specs.RuleLanguage.{Rule, Skip, Do, Note, Call, Ready, holds, step}
+use Rattle.parser_rules.specs.Rules.{body}
+use Rattle.parser_rules.specs.Runs.{Runs, skip, does, seq, yes, no, done, again, call, Turns, begin, turn}
+use Rattle.parser_rules.specs.State.{State, Lexeme, lexeme, Report, PendingToken, read_on, add_all, flush, note, fresh}
+use Rattle.parser_rules.specs.State.{begun}
+use Rattle.parser_rules.specs.declared.message.Message.TheVariants as message
 
 -- no document is empty
 no-empty : (tree : Tree) → Spells [] tree document → ⊥

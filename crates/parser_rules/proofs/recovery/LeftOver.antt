@@ -3,38 +3,38 @@
 use Rattle.std.proofs.Common.{◌≡◌, ℕ, zero, suc, ◌+◌, ◌<◌, Bool, true, false, true≢false, ◌&&◌, ◌||◌, cond, eqb, eq-eqb}
 use Rattle.std.proofs.Common.{ne_eqb, List, [], ◌∷◌, ◌++◌, length, None, refl, sym, ap, ap₂, ◌∙◌, subst, arith}
 use Rattle.std.proofs.Common.{length-append}
-use Rattle.std.specs.Prelude.{⊤}
 use Rattle.std.proofs.lemmas.Bool.{and_right}
-use Rattle.lexical_grammar.specs.declared.TokenKind.{TokenKind}
-use Rattle.lexical_grammar.specs.declared.TokenKind.TheVariants as token_kind
-use Rattle.lexical_grammar.specs.Cut.{Item, Cut, CutFrom, is_significant_kind}
-use Rattle.lexical_grammar.specs.Answers.{limited, is_end}
+use Rattle.std.specs.Prelude.{⊤}
 use Rattle.lexical_grammar.proofs.Limited.{limited-end}
 use Rattle.lexical_grammar.proofs.Offsets.{item-some}
-use Rattle.document_grammar.specs.declared.kind.SyntaxKind.{SyntaxKind}
-use Rattle.document_grammar.specs.declared.kind.SyntaxKind.TheVariants as kind
-use Rattle.document_grammar.specs.Numbers.{number}
-use Rattle.document_grammar.specs.Kinds.{ERROR, LIST_VALUE}
-use Rattle.document_grammar.specs.Forests as built
-use Rattle.document_grammar.specs.Numbered.{numbered}
-use Rattle.document_grammar.specs.Tree.{Text}
-use Rattle.document_grammar.specs.Derivation.{texts as tree_texts}
-use Rattle.document_grammar.specs.Booleans.{◌and◌}
-use Rattle.document_grammar.specs.Recovery.{AllRowed, is_such, token_at, is_right_bracket, left_over, count_left_over}
-use Rattle.document_grammar.specs.Recovery.{NoBracket, Spares, LeftOver}
+use Rattle.lexical_grammar.specs.Answers.{limited, is_end}
+use Rattle.lexical_grammar.specs.Cut.{Item, Cut, CutFrom, is_significant_kind}
+use Rattle.lexical_grammar.specs.declared.TokenKind.{TokenKind}
+use Rattle.lexical_grammar.specs.declared.TokenKind.TheVariants as token_kind
 use Rattle.document_grammar.proofs.Booleans.{and-l, and-r, or-c, not-c}
 use Rattle.document_grammar.proofs.Shown.{index-at}
-use Rattle.parser_rules.specs.declared.message.Message.{Message}
-use Rattle.parser_rules.specs.State.{State, Lexeme, Report, fault_report, ignored, is_at, same_kind, add_all}
-use Rattle.parser_rules.proofs.reports.NoReport.{shown-kind}
-use Rattle.parser_rules.proofs.recovery.RecoveryCheck.{of_row, leaf_of_row}
-use Rattle.parser_rules.proofs.recovery.RowSymbols.{rows}
+use Rattle.document_grammar.specs.Booleans.{◌and◌}
+use Rattle.document_grammar.specs.Derivation.{texts as tree_texts}
+use Rattle.document_grammar.specs.Forests as built
+use Rattle.document_grammar.specs.Kinds.{ERROR, LIST_VALUE}
+use Rattle.document_grammar.specs.Numbered.{numbered}
+use Rattle.document_grammar.specs.Numbers.{number}
+use Rattle.document_grammar.specs.Recovery.{AllRowed, is_such, token_at, is_right_bracket, left_over, count_left_over}
+use Rattle.document_grammar.specs.Recovery.{NoBracket, Spares, LeftOver}
+use Rattle.document_grammar.specs.Tree.{Text}
+use Rattle.document_grammar.specs.declared.kind.SyntaxKind.{SyntaxKind}
+use Rattle.document_grammar.specs.declared.kind.SyntaxKind.TheVariants as kind
 use Rattle.parser_rules.proofs.recovery.Popped as popped_of
 use Rattle.parser_rules.proofs.recovery.Popped.{lexeme_of, popped, pops_of, Reported_at, Allowed, PoppedReported}
 use Rattle.parser_rules.proofs.recovery.Popped.{Recovery}
+use Rattle.parser_rules.proofs.recovery.RecoveryCheck.{of_row, leaf_of_row}
+use Rattle.parser_rules.proofs.recovery.RowSymbols.{rows}
+use Rattle.parser_rules.proofs.reports.NoReport.{shown-kind}
+use Rattle.parser_rules.proofs.runs.Reading.{ignored-kinds}
 use Rattle.parser_rules.proofs.runs.TreesWithSources.{by-kind, Has, Source, token, aside, text_of, TreesWithSources}
 use Rattle.parser_rules.proofs.runs.TreesWithSources.{none, leaf, node, erase, flat, now_of, sources, source_at}
-use Rattle.parser_rules.proofs.runs.Reading.{ignored-kinds}
+use Rattle.parser_rules.specs.State.{State, Lexeme, Report, fault_report, ignored, is_at, same_kind, add_all}
+use Rattle.parser_rules.specs.declared.message.Message.{Message}
 
 -- ---- the symbols of rows
 

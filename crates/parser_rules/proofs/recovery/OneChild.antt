@@ -2,31 +2,31 @@
 -- tree already.
 use Rattle.std.proofs.Common.{◌≡◌, ℕ, suc, Bool, true, false, if◌then◌else◌, [], ◌∷◌, ◌++◌, Some, None, refl, sym, ap}
 use Rattle.std.proofs.Common.{◌∙◌, subst, ◌⊎◌, inl, inr}
-use Rattle.document_grammar.specs.declared.kind.SyntaxKind.{SyntaxKind}
-use Rattle.document_grammar.specs.Booleans.{◌and◌}
-use Rattle.document_grammar.specs.Forests as built
 use Rattle.document_grammar.proofs.Added.{Added, added-then}
 use Rattle.document_grammar.proofs.Booleans.{false-true, and-l, and-r}
 use Rattle.document_grammar.proofs.Joins.{join-assoc, join-none}
-use Rattle.parser_rules.specs.declared.message.Message.{Message}
-use Rattle.parser_rules.specs.State.{State, Lexeme, fault_report, add_all, flush, opened, moved, bump, noted, note}
-use Rattle.parser_rules.specs.Nodes.{kind_of, Definition}
-use Rattle.parser_rules.specs.RuleLanguage.{Test, Ready, holds, Bump, Note, step, Rule, Do, Seq, When, Child, Call}
-use Rattle.parser_rules.specs.Rules.{body}
-use Rattle.parser_rules.specs.Runs.{Runs, does, seq, yes, no, done, again, child, call}
+use Rattle.document_grammar.specs.Booleans.{◌and◌}
+use Rattle.document_grammar.specs.Forests as built
+use Rattle.document_grammar.specs.declared.kind.SyntaxKind.{SyntaxKind}
 use Rattle.parser_rules.proofs.NodeChecks.{node-passes}
 use Rattle.parser_rules.proofs.recovery.RecoveryCheck.{row_check}
 use Rattle.parser_rules.proofs.recovery.RowSymbols.{Fit, sound}
-use Rattle.parser_rules.proofs.runs.Fuel.{rules_deep}
+use Rattle.parser_rules.proofs.runs.Anew.{built_of, test-same}
 use Rattle.parser_rules.proofs.runs.Frame.{parts_forest, added-all}
+use Rattle.parser_rules.proofs.runs.Fuel.{rules_deep}
+use Rattle.parser_rules.proofs.runs.Progress.{ready-there}
+use Rattle.parser_rules.proofs.runs.Reporting.{after-note}
 use Rattle.parser_rules.proofs.runs.TreesWithSources.{Source, token, TreesWithSources, none, leaf, node, append, erase}
 use Rattle.parser_rules.proofs.runs.TreesWithSources.{erase-append, Grown, grown-none, grown-then, grown-leaf}
 use Rattle.parser_rules.proofs.runs.TreesWithSources.{grown-note, grown-node}
 use Rattle.parser_rules.proofs.runs.Walk.{walked}
-use Rattle.parser_rules.proofs.runs.Anew.{built_of, test-same}
-use Rattle.parser_rules.proofs.runs.Progress.{ready-there}
-use Rattle.parser_rules.proofs.runs.Reporting.{after-note}
 use Rattle.parser_rules.proofs.soundness.Soundness.{loops}
+use Rattle.parser_rules.specs.Nodes.{kind_of, Definition}
+use Rattle.parser_rules.specs.RuleLanguage.{Test, Ready, holds, Bump, Note, step, Rule, Do, Seq, When, Child, Call}
+use Rattle.parser_rules.specs.Rules.{body}
+use Rattle.parser_rules.specs.Runs.{Runs, does, seq, yes, no, done, again, child, call}
+use Rattle.parser_rules.specs.State.{State, Lexeme, fault_report, add_all, flush, opened, moved, bump, noted, note}
+use Rattle.parser_rules.specs.declared.message.Message.{Message}
 
 -- ---- what waits goes into the tree
 

@@ -2,37 +2,37 @@
 -- child of the root, or of a LIST_VALUE and not `]`, or its node's only one.
 --
 -- The letters in a record `Sound` are those of `Walk`.
-use Rattle.std.specs.Prelude.{⊤}
 use Rattle.std.proofs.Common.{◌≡◌, ℕ, ◌+◌, ◌≤◌, Bool, true, false, cond, not, List, [], ◌∷◌, ◌++◌, Option, Some, None}
 use Rattle.std.proofs.Common.{refl, sym, ◌∙◌, subst, inl, inr, arith, true≢false}
-use Rattle.lexical_grammar.specs.declared.TokenKind.TheVariants as token_kind
-use Rattle.lexical_grammar.specs.Answers.{Answer, is_end}
-use Rattle.document_grammar.specs.declared.kind.SyntaxKind.{SyntaxKind}
-use Rattle.document_grammar.specs.declared.kind.SyntaxKind.TheVariants as kind
-use Rattle.document_grammar.specs.Booleans.{◌and◌, ◌or◌}
-use Rattle.document_grammar.proofs.Booleans.{false-true, and-l, and-r, or-c, not-c, not-some, either}
-use Rattle.parser_rules.specs.declared.message.Message.{Message}
-use Rattle.parser_rules.specs.State.{State, Lexeme, PendingToken, Report, fault_report, second, add_all, flush, opened}
-use Rattle.parser_rules.specs.State.{closed, wrapped_from, moved, noted, note, too_deep, enter, leave, is_at, fresh}
-use Rattle.parser_rules.specs.State.{begun}
-use Rattle.parser_rules.specs.Nodes.{kind_of, Document}
-use Rattle.parser_rules.specs.RuleLanguage.{Kind, Test, Here, HasNext, Not, Both, holds, Call}
-use Rattle.parser_rules.specs.Runs.{Runs}
 use Rattle.std.proofs.lemmas.Bool.{and_parts}
 use Rattle.std.proofs.lemmas.Option.{none-some}
+use Rattle.std.specs.Prelude.{⊤}
+use Rattle.lexical_grammar.specs.Answers.{Answer, is_end}
+use Rattle.lexical_grammar.specs.declared.TokenKind.TheVariants as token_kind
+use Rattle.document_grammar.proofs.Booleans.{false-true, and-l, and-r, or-c, not-c, not-some, either}
+use Rattle.document_grammar.specs.Booleans.{◌and◌, ◌or◌}
+use Rattle.document_grammar.specs.declared.kind.SyntaxKind.{SyntaxKind}
+use Rattle.document_grammar.specs.declared.kind.SyntaxKind.TheVariants as kind
+use Rattle.parser_rules.proofs.NodeChecks.{node-passes, document_passes}
+use Rattle.parser_rules.proofs.leaves.LeafCheck.{is_error}
 use Rattle.parser_rules.proofs.recovery.RecoveryCheck.{is_list, excludes, asks_next, Room, any_token, no_bracket}
 use Rattle.parser_rules.proofs.recovery.RecoveryCheck.{one_token, no_token, same_room, room_of, Popping, unknown, pop}
 use Rattle.parser_rules.proofs.recovery.RecoveryCheck.{pop_check}
-use Rattle.parser_rules.proofs.NodeChecks.{node-passes, document_passes}
+use Rattle.parser_rules.proofs.reports.NoReport.{Now, EndsWell, choose, ignored-end, NowOrNone, reading-now, now-along}
 use Rattle.parser_rules.proofs.runs.Reading.{Reading, stops, cuts, bad_text, waits, shows, reading}
+use Rattle.parser_rules.proofs.runs.Reporting.{after-note, after-too-deep}
 use Rattle.parser_rules.proofs.runs.TreesWithSources.{Source, token, aside, TreesWithSources, none, leaf, node, append}
 use Rattle.parser_rules.proofs.runs.TreesWithSources.{append-none, erase, flat, set_aside, now_of, sources, moved_on}
 use Rattle.parser_rules.proofs.runs.TreesWithSources.{has-more, Has, Limited, Reports, read-reports, taken-or-limited}
 use Rattle.parser_rules.proofs.runs.TreesWithSources.{Grown, grown-note, grown-deep}
 use Rattle.parser_rules.proofs.runs.Walk.{after_pending, always, Goes, Sound, walked_whole}
-use Rattle.parser_rules.proofs.runs.Reporting.{after-note, after-too-deep}
-use Rattle.parser_rules.proofs.reports.NoReport.{Now, EndsWell, choose, ignored-end, NowOrNone, reading-now, now-along}
-use Rattle.parser_rules.proofs.leaves.LeafCheck.{is_error}
+use Rattle.parser_rules.specs.Nodes.{kind_of, Document}
+use Rattle.parser_rules.specs.RuleLanguage.{Kind, Test, Here, HasNext, Not, Both, holds, Call}
+use Rattle.parser_rules.specs.Runs.{Runs}
+use Rattle.parser_rules.specs.State.{State, Lexeme, PendingToken, Report, fault_report, second, add_all, flush, opened}
+use Rattle.parser_rules.specs.State.{closed, wrapped_from, moved, noted, note, too_deep, enter, leave, is_at, fresh}
+use Rattle.parser_rules.specs.State.{begun}
+use Rattle.parser_rules.specs.declared.message.Message.{Message}
 
 -- ---- popped tokens
 

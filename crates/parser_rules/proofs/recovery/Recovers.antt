@@ -2,42 +2,42 @@
 -- children follow, without a report.
 use Rattle.std.proofs.Common.{◌≡◌, ℕ, ◌≤◌, Bool, true, is_some, List, [], ◌∷◌, ◌++◌, Option, Some, None, refl, sym, ap}
 use Rattle.std.proofs.Common.{ap₂, ◌∙◌, subst, ◌⊎◌, inl, inr, append-nil}
-use Rattle.lexical_grammar.specs.Cut.{Item, Cut}
 use Rattle.lexical_grammar.specs.Answers.{Answer, gives, limit_at, limited}
+use Rattle.lexical_grammar.specs.Cut.{Item, Cut}
 use Rattle.document_grammar.proofs.Booleans.{false-true, and-l, and-r}
-use Rattle.parser_rules.specs.Reports.{Reported, no_more, passed}
-use Rattle.parser_rules.proofs.reports.InOrder.{AllUpTo, before-last}
-use Rattle.parser_rules.proofs.reports.AlongItems.{reported-at}
-use Rattle.document_grammar.specs.declared.kind.SyntaxKind.TheVariants as kind
-use Rattle.document_grammar.specs.Kinds.{DOCUMENT}
-use Rattle.document_grammar.specs.Forests as built
-use Rattle.document_grammar.specs.Builds.{Building, Open, start, nothing}
 use Rattle.document_grammar.proofs.Joins.{join-assoc}
-use Rattle.document_grammar.specs.Tree.{Tree, node, Forest, none}
+use Rattle.document_grammar.specs.Builds.{Building, Open, start, nothing}
 use Rattle.document_grammar.specs.Derivation.{document, Spells, nest}
-use Rattle.grammar_machine.specs.Machine.{holds as within}
-use Rattle.grammar_machine.proofs.SentenceTheorems.{one-derivation}
-use Rattle.grammar_machine.proofs.Patterns.{label}
-use Rattle.grammar_machine.proofs.TableLemmas.{head-same}
+use Rattle.document_grammar.specs.Forests as built
+use Rattle.document_grammar.specs.Kinds.{DOCUMENT}
+use Rattle.document_grammar.specs.Tree.{Tree, node, Forest, none}
+use Rattle.document_grammar.specs.declared.kind.SyntaxKind.TheVariants as kind
 use Rattle.grammar_machine.proofs.FromMachineTree.{show, shows}
+use Rattle.grammar_machine.proofs.Patterns.{label}
+use Rattle.grammar_machine.proofs.SentenceTheorems.{one-derivation}
 use Rattle.grammar_machine.proofs.Sound.{any}
-use Rattle.parser_rules.specs.declared.message.Message.TheVariants as message
-use Rattle.parser_rules.specs.State.{State, Lexeme, Report, add_all, begun, fault_report, second as second_of}
-use Rattle.parser_rules.specs.Nodes.{Definition}
-use Rattle.parser_rules.specs.RuleLanguage.{Rule, Call, Ready, holds}
-use Rattle.parser_rules.specs.Runs.{Runs, Turns}
-use Rattle.parser_rules.proofs.runs.Frame.{parts_forest, added-all, add_all-above}
-use Rattle.parser_rules.proofs.soundness.WithoutIgnored.{stack, strip, layers, all_ignored}
-use Rattle.parser_rules.proofs.reports.NoReport.{answers_tokens, all_tokens, current_tokens, Now, Held}
-use Rattle.parser_rules.proofs.runs.Reading.{Shown, second-shown}
-use Rattle.parser_rules.proofs.lookahead.TokenSets.{ready-is, of-any, ready}
-use Rattle.parser_rules.proofs.lookahead.Split.{at_start}
-use Rattle.parser_rules.proofs.soundness.TableCheck.{turns_follow}
+use Rattle.grammar_machine.proofs.TableLemmas.{head-same}
+use Rattle.grammar_machine.specs.Machine.{holds as within}
 use Rattle.parser_rules.proofs.NodeChecks.{document_passes}
-use Rattle.parser_rules.proofs.soundness.Positions.{StateFits, RightlyReported}
+use Rattle.parser_rules.proofs.lookahead.Split.{at_start}
+use Rattle.parser_rules.proofs.lookahead.TokenSets.{ready-is, of-any, ready}
+use Rattle.parser_rules.proofs.reports.AlongItems.{reported-at}
+use Rattle.parser_rules.proofs.reports.InOrder.{AllUpTo, before-last}
+use Rattle.parser_rules.proofs.reports.NoReport.{answers_tokens, all_tokens, current_tokens, Now, Held}
 use Rattle.parser_rules.proofs.runs.Anew.{Built, built_of, on, Same_steps, anew}
+use Rattle.parser_rules.proofs.runs.Frame.{parts_forest, added-all, add_all-above}
+use Rattle.parser_rules.proofs.runs.Reading.{Shown, second-shown}
+use Rattle.parser_rules.proofs.soundness.Positions.{StateFits, RightlyReported}
 use Rattle.parser_rules.proofs.soundness.Soundness.{document-label, document_input, root-agrees, loops, Turn, from_now}
 use Rattle.parser_rules.proofs.soundness.Soundness.{now_words, Silent, run-outcome, none-right}
+use Rattle.parser_rules.proofs.soundness.TableCheck.{turns_follow}
+use Rattle.parser_rules.proofs.soundness.WithoutIgnored.{stack, strip, layers, all_ignored}
+use Rattle.parser_rules.specs.Nodes.{Definition}
+use Rattle.parser_rules.specs.Reports.{Reported, no_more, passed}
+use Rattle.parser_rules.specs.RuleLanguage.{Rule, Call, Ready, holds}
+use Rattle.parser_rules.specs.Runs.{Runs, Turns}
+use Rattle.parser_rules.specs.State.{State, Lexeme, Report, add_all, begun, fault_report, second as second_of}
+use Rattle.parser_rules.specs.declared.message.Message.TheVariants as message
 
 -- the same turn in a tree of its own
 abbrev pub own_tree : Built

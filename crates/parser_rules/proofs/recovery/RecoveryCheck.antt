@@ -2,19 +2,19 @@
 -- a node, and that no token becomes an ignored leaf.
 use Rattle.std.proofs.Common.{ℕ, ◌∷◌, Bool, true, false, cond, eqb, ltb, not}
 use Rattle.lexical_grammar.specs.declared.TokenKind.TheVariants as token
-use Rattle.document_grammar.specs.declared.kind.SyntaxKind.{SyntaxKind}
-use Rattle.document_grammar.specs.declared.kind.SyntaxKind.TheVariants as kind
-use Rattle.document_grammar.specs.Numbers.{number}
-use Rattle.document_grammar.specs.Kinds.{ERROR, SPREAD, NON_NULL_TYPE, DOCUMENT}
+use Rattle.document_grammar.specs.Booleans.{◌and◌, ◌or◌}
 use Rattle.document_grammar.specs.Choices.{is_ignored}
+use Rattle.document_grammar.specs.Kinds.{ERROR, SPREAD, NON_NULL_TYPE, DOCUMENT}
+use Rattle.document_grammar.specs.Numbers.{number}
 use Rattle.document_grammar.specs.Pattern.{member}
 use Rattle.document_grammar.specs.Recovery.{symbols}
 use Rattle.document_grammar.specs.Rows.{Row}
-use Rattle.document_grammar.specs.Booleans.{◌and◌, ◌or◌}
+use Rattle.document_grammar.specs.declared.kind.SyntaxKind.{SyntaxKind}
+use Rattle.document_grammar.specs.declared.kind.SyntaxKind.TheVariants as kind
+use Rattle.parser_rules.proofs.leaves.LeafCheck.{is_error}
+use Rattle.parser_rules.proofs.runs.Walk.{Domain, steady}
 use Rattle.parser_rules.specs.Nodes.{kind_of}
 use Rattle.parser_rules.specs.RuleLanguage.{Kind, Test, Here, HasNext, Not, Both}
-use Rattle.parser_rules.proofs.runs.Walk.{Domain, steady}
-use Rattle.parser_rules.proofs.leaves.LeafCheck.{is_error}
 
 -- ---- popped tokens
 

@@ -2,28 +2,28 @@
 -- check of the rules.
 use Rattle.std.proofs.Common.{◌≡◌, ℕ, Bool, true, List, [], ◌∷◌, Some, refl, sym, subst, eqb-true, true≢false}
 use Rattle.lexical_grammar.specs.Answers.{Answer}
-use Rattle.document_grammar.specs.declared.kind.SyntaxKind.{SyntaxKind}
-use Rattle.document_grammar.specs.declared.kind.SyntaxKind.TheVariants as kind
+use Rattle.document_grammar.proofs.Booleans.{and-i, and-l, and-r}
+use Rattle.document_grammar.specs.Booleans.{◌and◌, ◌or◌}
+use Rattle.document_grammar.specs.Forests as built
+use Rattle.document_grammar.specs.Kinds.{DOCUMENT}
 use Rattle.document_grammar.specs.Numbers.{number}
 use Rattle.document_grammar.specs.Pattern.{member}
-use Rattle.document_grammar.specs.Kinds.{DOCUMENT}
-use Rattle.document_grammar.specs.Forests as built
-use Rattle.document_grammar.specs.Booleans.{◌and◌, ◌or◌}
-use Rattle.document_grammar.proofs.Booleans.{and-i, and-l, and-r}
-use Rattle.parser_rules.specs.State.{State, PendingToken, flush, opened, closed, wrapped_from, moved, add_all, enter}
-use Rattle.parser_rules.specs.State.{leave, fresh, begun}
-use Rattle.parser_rules.specs.Nodes.{Document}
-use Rattle.parser_rules.specs.RuleLanguage.{Rule, Call}
-use Rattle.parser_rules.specs.Fragments.{started}
-use Rattle.parser_rules.specs.Runs.{Runs}
-use Rattle.parser_rules.proofs.recovery.RecoveryCheck.{of_row, leaf_of_row, Two_rows, row_check, row_of}
+use Rattle.document_grammar.specs.declared.kind.SyntaxKind.{SyntaxKind}
+use Rattle.document_grammar.specs.declared.kind.SyntaxKind.TheVariants as kind
 use Rattle.parser_rules.proofs.NodeChecks.{node-passes, document_passes}
+use Rattle.parser_rules.proofs.recovery.RecoveryCheck.{of_row, leaf_of_row, Two_rows, row_check, row_of}
+use Rattle.parser_rules.proofs.runs.Fuel.{rules_deep}
 use Rattle.parser_rules.proofs.runs.Reading.{Reading, reading, all_kinds, reading-waits}
+use Rattle.parser_rules.proofs.runs.Reporting.{after-note, after-too-deep}
 use Rattle.parser_rules.proofs.runs.TreesWithSources.{TreesWithSources, none, leaf, node, token, moved_on, append}
 use Rattle.parser_rules.proofs.runs.TreesWithSources.{erase, erase-append, set_aside, first-part}
-use Rattle.parser_rules.proofs.runs.Fuel.{rules_deep}
 use Rattle.parser_rules.proofs.runs.Walk.{after_pending, Sound, walk, walked_root, walked_whole}
-use Rattle.parser_rules.proofs.runs.Reporting.{after-note, after-too-deep}
+use Rattle.parser_rules.specs.Fragments.{started}
+use Rattle.parser_rules.specs.Nodes.{Document}
+use Rattle.parser_rules.specs.RuleLanguage.{Rule, Call}
+use Rattle.parser_rules.specs.Runs.{Runs}
+use Rattle.parser_rules.specs.State.{State, PendingToken, flush, opened, closed, wrapped_from, moved, add_all, enter}
+use Rattle.parser_rules.specs.State.{leave, fresh, begun}
 
 -- the children of a node of the kind with the number, and those below
 abbrev pub rows : ℕ → built.Forest → Bool

@@ -1,19 +1,19 @@
 -- Each run reports along what it reads.
 use Rattle.std.proofs.Common.{◌≡◌, ℕ, Bool, true, List, [], ◌∷◌, ◌++◌, Option, Some, None, refl, sym, ap, ◌∙◌, subst}
 use Rattle.std.proofs.Common.{append_assoc, append-nil}
-use Rattle.lexical_grammar.specs.Cut.{Item}
 use Rattle.lexical_grammar.specs.Answers.{Answer, gives, limit_at}
-use Rattle.document_grammar.specs.declared.kind.SyntaxKind.{SyntaxKind}
+use Rattle.lexical_grammar.specs.Cut.{Item}
 use Rattle.document_grammar.specs.Builds.{add_leaf}
+use Rattle.document_grammar.specs.declared.kind.SyntaxKind.{SyntaxKind}
+use Rattle.parser_rules.proofs.runs.Reading.{Reading, stops, cuts, bad_text, waits, shows, reading, item-is, Shown}
+use Rattle.parser_rules.proofs.runs.Steps.{Holds_along, along, turns-along}
+use Rattle.parser_rules.specs.Reports.{Reported, no_more, bad_text as bad_item, token_limit, fault, recursion_limit}
+use Rattle.parser_rules.specs.Reports.{passed}
+use Rattle.parser_rules.specs.RuleLanguage.{Test, Rule}
+use Rattle.parser_rules.specs.Runs.{Runs, Turns}
 use Rattle.parser_rules.specs.State.{State, Lexeme, Report, bad_report, token_limit_report, recursion_limit_report}
 use Rattle.parser_rules.specs.State.{fault_report, read_on, flush, closed, wrapped_from, enter, leave, fresh, begun}
 use Rattle.parser_rules.specs.declared.message.Message.{Message}
-use Rattle.parser_rules.specs.RuleLanguage.{Test, Rule}
-use Rattle.parser_rules.specs.Runs.{Runs, Turns}
-use Rattle.parser_rules.specs.Reports.{Reported, no_more, bad_text as bad_item, token_limit, fault, recursion_limit}
-use Rattle.parser_rules.specs.Reports.{passed}
-use Rattle.parser_rules.proofs.runs.Reading.{Reading, stops, cuts, bad_text, waits, shows, reading, item-is, Shown}
-use Rattle.parser_rules.proofs.runs.Steps.{Holds_along, along, turns-along}
 
 -- the current token as an item
 abbrev pub item_of : Lexeme → Item

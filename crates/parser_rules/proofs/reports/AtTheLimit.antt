@@ -1,20 +1,20 @@
 -- Where the recursion limit is reported, the highest nesting is one level more than the limit.
 use Rattle.std.proofs.Common.{◌≡◌, ◌+◌, ◌≤◌, ◌||◌, ◌&&◌, if◌then◌else◌, true≢false, ℕ, min, Bool, true, false, List, []}
 use Rattle.std.proofs.Common.{◌∷◌, ◌++◌, refl, sym, ◌∙◌, ap, arith}
-use Rattle.std.specs.List.{list_any}
 use Rattle.std.proofs.lemmas.List.Folds.{list_any-append}
+use Rattle.std.specs.List.{list_any}
 use Rattle.lexical_grammar.specs.Answers.{Answer, is_end, usize_max}
-use Rattle.document_grammar.specs.declared.kind.SyntaxKind.{SyntaxKind}
 use Rattle.document_grammar.specs.Builds.{add_leaf}
+use Rattle.document_grammar.specs.declared.kind.SyntaxKind.{SyntaxKind}
+use Rattle.parser_rules.proofs.runs.Frame.{read-untouched, begun-nesting}
+use Rattle.parser_rules.proofs.runs.Reading.{Reading, stops, cuts, bad_text, waits, shows, reading}
+use Rattle.parser_rules.proofs.runs.Steps.{Holds_along, PastLimit, along}
 use Rattle.parser_rules.specs.Messages.{is_limit}
-use Rattle.parser_rules.specs.State.{State, Lexeme, Report, at_end, at_text, found_at, bad_report, token_limit_report}
-use Rattle.parser_rules.specs.State.{flush, closed, wrapped_from, fault_report, enter, leave, begun, fresh}
 use Rattle.parser_rules.specs.Reports.{is_recursion_limit}
 use Rattle.parser_rules.specs.RuleLanguage.{Rule}
 use Rattle.parser_rules.specs.Runs.{Runs}
-use Rattle.parser_rules.proofs.runs.Steps.{Holds_along, PastLimit, along}
-use Rattle.parser_rules.proofs.runs.Reading.{Reading, stops, cuts, bad_text, waits, shows, reading}
-use Rattle.parser_rules.proofs.runs.Frame.{read-untouched, begun-nesting}
+use Rattle.parser_rules.specs.State.{State, Lexeme, Report, at_end, at_text, found_at, bad_report, token_limit_report}
+use Rattle.parser_rules.specs.State.{flush, closed, wrapped_from, fault_report, enter, leave, begun, fresh}
 
 -- the recursion limit is reported
 abbrev pub IsLimited : State → Type 0

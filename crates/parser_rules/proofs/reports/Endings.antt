@@ -1,11 +1,11 @@
 -- The answers of a limited reader of a cut end.
 use Rattle.std.proofs.Common.{◌≡◌, ℕ, zero, suc, ◌+◌, Bool, false, List, [], ◌∷◌, Option, Some, None, length, refl, sym}
 use Rattle.std.proofs.Common.{subst}
+use Rattle.lexical_grammar.proofs.Limited.{limited-end}
+use Rattle.lexical_grammar.specs.Answers.{gives, limited}
+use Rattle.lexical_grammar.specs.Cut.{Item, IsItem, CutFrom, texts}
 use Rattle.lexical_grammar.specs.declared.TokenKind.{TokenKind}
 use Rattle.lexical_grammar.specs.declared.TokenKind.TheVariants as token
-use Rattle.lexical_grammar.specs.Cut.{Item, IsItem, CutFrom, texts}
-use Rattle.lexical_grammar.specs.Answers.{gives, limited}
-use Rattle.lexical_grammar.proofs.Limited.{limited-end}
 use Rattle.parser_rules.proofs.reports.NoReport.{EndsWell, choose, ends}
 
 no-end : (found : Option TokenKind) (text after : List ℕ) → IsItem found text after → ends found ≡ false

@@ -1,19 +1,19 @@
 -- Reports come in the order of the text.
 use Rattle.std.proofs.Common.{◌≡◌, ℕ, zero, suc, Bool, ◌+◌, ◌-◌, ◌≤◌, List, [], ◌∷◌, ◌++◌, length, map, Option, Some}
 use Rattle.std.proofs.Common.{None, get_or, sym, ap, subst, append-nil, arith}
-use Rattle.std.specs.Prelude.{⊤}
-use Rattle.std.specs.List.{All, AllAdjacentBelow}
-use Rattle.std.specs.List.Sorted.{IsNonDecreasing}
 use Rattle.std.proofs.lemmas.List.Elements.{All-nil, All-cons}
 use Rattle.std.proofs.lemmas.List.Sorted.{IsNonDecreasingBy-from_all_adjacent}
-use Rattle.lexical_grammar.specs.declared.TokenKind.{TokenKind}
-use Rattle.lexical_grammar.specs.declared.TokenKind.TheVariants as token
-use Rattle.lexical_grammar.specs.Cut.{Item, Cut, CutFrom, texts}
-use Rattle.lexical_grammar.specs.Answers.{Answer, gives, limit_at, limit_index_at, limited}
+use Rattle.std.specs.List.{All, AllAdjacentBelow}
+use Rattle.std.specs.List.Sorted.{IsNonDecreasing}
+use Rattle.std.specs.Prelude.{⊤}
 use Rattle.lexical_grammar.proofs.Limited.{limited-end}
 use Rattle.lexical_grammar.proofs.Offsets.{item-some}
-use Rattle.parser_rules.specs.State.{Report}
+use Rattle.lexical_grammar.specs.Answers.{Answer, gives, limit_at, limit_index_at, limited}
+use Rattle.lexical_grammar.specs.Cut.{Item, Cut, CutFrom, texts}
+use Rattle.lexical_grammar.specs.declared.TokenKind.{TokenKind}
+use Rattle.lexical_grammar.specs.declared.TokenKind.TheVariants as token
 use Rattle.parser_rules.specs.Reports.{Reported, no_more, bad_text, token_limit, fault, recursion_limit, passed}
+use Rattle.parser_rules.specs.State.{Report}
 
 abbrev offset_of : Answer → ℕ
 offset_of (gives item) = item.index

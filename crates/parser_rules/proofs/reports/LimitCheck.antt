@@ -4,10 +4,10 @@ use Rattle.std.proofs.Common.{Bool, true, false, cond, not, Option, None, Some}
 use Rattle.std.specs.Prelude.{is_some}
 use Rattle.lexical_grammar.specs.Answers.{is_end}
 use Rattle.document_grammar.specs.Booleans.{◌and◌, ◌or◌}
-use Rattle.parser_rules.specs.State.{Lexeme}
+use Rattle.parser_rules.proofs.runs.Walk.{Domain, steady}
 use Rattle.parser_rules.specs.Nodes.{Node, QueryShorthand, SelectionSet, ListType, ListValue}
 use Rattle.parser_rules.specs.RuleLanguage.{TokenTest, Kind, Keyword, Or, Test, Here, Ready, Both}
-use Rattle.parser_rules.proofs.runs.Walk.{Domain, steady}
+use Rattle.parser_rules.specs.State.{Lexeme}
 
 -- what is known of the current token while the grammar's reports are taken: nothing; that there is one; that it is not
 -- the end

@@ -2,25 +2,25 @@
 use Rattle.std.proofs.Common.{◌≡◌, ℕ, Bool, true, false, not, if◌then◌else◌, List, [], ◌∷◌, ◌++◌, Option, Some, None}
 use Rattle.std.proofs.Common.{refl, sym, ap, ap₂, ◌∙◌, subst, ◌⊎◌, inl, inr, append_assoc}
 use Rattle.std.specs.Prelude.{⊤}
+use Rattle.lexical_grammar.specs.Answers.{Answer, gives, limit_at, is_token, is_end}
+use Rattle.lexical_grammar.specs.Cut.{Item, is_significant_kind}
 use Rattle.lexical_grammar.specs.declared.TokenKind.{TokenKind}
 use Rattle.lexical_grammar.specs.declared.TokenKind.TheVariants as token
-use Rattle.lexical_grammar.specs.Cut.{Item, is_significant_kind}
-use Rattle.lexical_grammar.specs.Answers.{Answer, gives, limit_at, is_token, is_end}
-use Rattle.document_grammar.specs.declared.kind.SyntaxKind.{SyntaxKind}
-use Rattle.document_grammar.specs.Tree.{Token}
-use Rattle.document_grammar.specs.Sentence.{token_of, leaf_number}
 use Rattle.document_grammar.proofs.Booleans.{either, false-true, and-i}
 use Rattle.document_grammar.specs.Booleans.{◌and◌}
-use Rattle.parser_rules.specs.State.{State, Text, Lexeme, Report, bad_report, token_limit_report, ignored, wait, bad}
-use Rattle.parser_rules.specs.State.{met}
+use Rattle.document_grammar.specs.Builds.{add_leaf}
+use Rattle.document_grammar.specs.Sentence.{token_of, leaf_number}
+use Rattle.document_grammar.specs.Tree.{Token}
+use Rattle.document_grammar.specs.declared.kind.SyntaxKind.{SyntaxKind}
+use Rattle.parser_rules.proofs.runs.Frame.{untouched}
 use Rattle.parser_rules.proofs.runs.Reading.{Reading, stops, cuts, bad_text, waits, shows, reading, reading-none}
 use Rattle.parser_rules.proofs.runs.Reading.{item-is, kinds-more, ignored-kinds, ignored-leaf}
-use Rattle.document_grammar.specs.Builds.{add_leaf}
 use Rattle.parser_rules.proofs.runs.Steps.{Holds_along, Keeps_reading, along-reading}
-use Rattle.parser_rules.proofs.runs.Frame.{untouched}
 use Rattle.parser_rules.proofs.runs.TreesWithSources.{Reports, reports-then, read-reports}
-use Rattle.parser_rules.proofs.soundness.WithoutIgnored.{all_ignored}
 use Rattle.parser_rules.proofs.soundness.Settled.{Settled}
+use Rattle.parser_rules.proofs.soundness.WithoutIgnored.{all_ignored}
+use Rattle.parser_rules.specs.State.{State, Text, Lexeme, Report, bad_report, token_limit_report, ignored, wait, bad}
+use Rattle.parser_rules.specs.State.{met}
 
 -- the significant tokens of a kind and a text, of an answer, of the current token: one or none
 abbrev pub kind_tokens : TokenKind → Text → List Token

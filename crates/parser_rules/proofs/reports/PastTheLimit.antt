@@ -1,37 +1,37 @@
 -- Where the highest nesting is more than the recursion limit, a limit is reported.
 use Rattle.std.proofs.Common.{◌≡◌, ℕ, ◌≤◌, ◌<◌, Bool, true, false, ◌||◌, not, cond, if◌then◌else◌, List, [], ◌∷◌, ◌++◌}
 use Rattle.std.proofs.Common.{Option, Some, None, refl, sym, ap, ◌∙◌, subst, true≢false, inl, inr, arith}
-use Rattle.std.specs.Prelude.{is_some}
 use Rattle.std.proofs.lemmas.Bool.{leb-false, and_parts}
+use Rattle.std.specs.Prelude.{is_some}
+use Rattle.lexical_grammar.specs.Answers.{Answer, is_end}
 use Rattle.lexical_grammar.specs.declared.TokenKind.{TokenKind}
 use Rattle.lexical_grammar.specs.declared.TokenKind.TheVariants as token
-use Rattle.lexical_grammar.specs.Answers.{Answer, is_end}
+use Rattle.document_grammar.proofs.Booleans.{either, false-true, and-l, and-r, or-c, not-c, not-some, implies}
+use Rattle.document_grammar.specs.Booleans.{◌or◌}
 use Rattle.document_grammar.specs.declared.kind.SyntaxKind.{SyntaxKind}
 use Rattle.document_grammar.specs.declared.kind.SyntaxKind.TheVariants as kind
-use Rattle.document_grammar.specs.Booleans.{◌or◌}
-use Rattle.document_grammar.proofs.Booleans.{either, false-true, and-l, and-r, or-c, not-c, not-some, implies}
-use Rattle.parser_rules.specs.declared.message.Message.{Message}
-use Rattle.parser_rules.specs.State.{State, Lexeme, Report, recursion_limit_report, read_on, flush, opened, closed}
-use Rattle.parser_rules.specs.State.{wrapped_from, moved, note, is_deep, enter, leave, deepened, limited_at, too_deep}
-use Rattle.parser_rules.specs.State.{is_over, same_kind, begun, fresh}
-use Rattle.parser_rules.specs.Nodes.{Node, kind_of, Document}
-use Rattle.parser_rules.specs.RuleLanguage.{TokenTest, Kind, Keyword, Or, fits, Test, Here, Ready, Both, holds, Rule}
-use Rattle.parser_rules.specs.RuleLanguage.{Call}
-use Rattle.parser_rules.specs.Runs.{Runs}
-use Rattle.parser_rules.proofs.runs.Fuel.{rules_deep}
-use Rattle.parser_rules.proofs.runs.Reading.{reading, found}
-use Rattle.parser_rules.proofs.runs.TreesWithSources as trees
-use Rattle.parser_rules.proofs.runs.TreesWithSources.{TreesWithSources, append, Limited, Reports, taken-or-limited}
-use Rattle.parser_rules.proofs.runs.TreesWithSources.{moved_on, Has, reports-then, read-reports}
-use Rattle.parser_rules.proofs.runs.Walk.{after_pending, always, Sound, walked_whole, walk, walked_root}
-use Rattle.parser_rules.proofs.runs.Frame.{read-untouched}
-use Rattle.parser_rules.proofs.runs.Reporting.{after-note}
-use Rattle.parser_rules.proofs.reports.NoReport.{choose, EndsWell, NowOrNone, reading-now, now-along}
+use Rattle.parser_rules.proofs.NodeChecks.{node-passes, document_passes}
 use Rattle.parser_rules.proofs.recovery.Popped.{cut-off}
 use Rattle.parser_rules.proofs.reports.LimitCheck.{Current, unknown, present, inner, is_inner, known, fits_inner}
 use Rattle.parser_rules.proofs.reports.LimitCheck.{tells_inner, after_token, is_known, same_inner, begins_level}
 use Rattle.parser_rules.proofs.reports.LimitCheck.{limit_check}
-use Rattle.parser_rules.proofs.NodeChecks.{node-passes, document_passes}
+use Rattle.parser_rules.proofs.reports.NoReport.{choose, EndsWell, NowOrNone, reading-now, now-along}
+use Rattle.parser_rules.proofs.runs.Frame.{read-untouched}
+use Rattle.parser_rules.proofs.runs.Fuel.{rules_deep}
+use Rattle.parser_rules.proofs.runs.Reading.{reading, found}
+use Rattle.parser_rules.proofs.runs.Reporting.{after-note}
+use Rattle.parser_rules.proofs.runs.TreesWithSources as trees
+use Rattle.parser_rules.proofs.runs.TreesWithSources.{TreesWithSources, append, Limited, Reports, taken-or-limited}
+use Rattle.parser_rules.proofs.runs.TreesWithSources.{moved_on, Has, reports-then, read-reports}
+use Rattle.parser_rules.proofs.runs.Walk.{after_pending, always, Sound, walked_whole, walk, walked_root}
+use Rattle.parser_rules.specs.Nodes.{Node, kind_of, Document}
+use Rattle.parser_rules.specs.RuleLanguage.{TokenTest, Kind, Keyword, Or, fits, Test, Here, Ready, Both, holds, Rule}
+use Rattle.parser_rules.specs.RuleLanguage.{Call}
+use Rattle.parser_rules.specs.Runs.{Runs}
+use Rattle.parser_rules.specs.State.{State, Lexeme, Report, recursion_limit_report, read_on, flush, opened, closed}
+use Rattle.parser_rules.specs.State.{wrapped_from, moved, note, is_deep, enter, leave, deepened, limited_at, too_deep}
+use Rattle.parser_rules.specs.State.{is_over, same_kind, begun, fresh}
+use Rattle.parser_rules.specs.declared.message.Message.{Message}
 
 -- ---- what a test says
 

@@ -2,26 +2,26 @@
 -- a run that adds the same trees and reports.
 use Rattle.std.proofs.Common.{◌≡◌, ℕ, ◌+◌, max, min, Bool, true, false, not, ◌&&◌, if◌then◌else◌, List, [], ◌∷◌, ◌++◌}
 use Rattle.std.proofs.Common.{Option, Some, None, refl, sym, ap, ap₂, ◌∙◌, subst, append_assoc, append-nil, arith}
-use Rattle.lexical_grammar.specs.declared.TokenKind.TheVariants as token
 use Rattle.lexical_grammar.specs.Answers.{Answer, usize_max}
+use Rattle.lexical_grammar.specs.declared.TokenKind.TheVariants as token
+use Rattle.document_grammar.proofs.Added.{Added, added-none, added-leaf, added-then, added-node, added-wrap}
+use Rattle.document_grammar.specs.Builds.{Building, start, add_leaf, finish, wrap, built_count}
+use Rattle.document_grammar.specs.Forests as built
 use Rattle.document_grammar.specs.declared.kind.SyntaxKind.{SyntaxKind}
 use Rattle.document_grammar.specs.declared.kind.SyntaxKind.TheVariants as kind
-use Rattle.document_grammar.specs.Forests as built
-use Rattle.document_grammar.specs.Builds.{Building, start, add_leaf, finish, wrap, built_count}
-use Rattle.document_grammar.proofs.Added.{Added, added-none, added-leaf, added-then, added-node, added-wrap}
-use Rattle.parser_rules.specs.declared.message.Message.{Message}
-use Rattle.parser_rules.specs.State.{State, Lexeme, PendingToken, Report, bad_report, token_limit_report}
-use Rattle.parser_rules.specs.State.{recursion_limit_report, fault_report, add_all, flush, opened, closed, wrapped_from}
-use Rattle.parser_rules.specs.State.{moved, bump, reported, noted, note, is_deep, deepened, limited_at, too_deep, enter}
-use Rattle.parser_rules.specs.State.{leave}
+use Rattle.parser_rules.proofs.runs.Frame.{parts_forest, added-all}
+use Rattle.parser_rules.proofs.runs.Reading.{Reading, stops, cuts, bad_text, waits, shows, reading, found}
+use Rattle.parser_rules.proofs.runs.TreesWithSources.{moved_on}
 use Rattle.parser_rules.specs.Nodes.{kind_of}
 use Rattle.parser_rules.specs.RuleLanguage.{Test, At, Not, Both, holds, Prim, Bump, Note, step, Rule, Do, TooDeep}
 use Rattle.parser_rules.specs.RuleLanguage.{Nested}
 use Rattle.parser_rules.specs.Runs.{Runs, skip, does, seq, yes, no, done, again, child, limited, deeper, refused, call}
 use Rattle.parser_rules.specs.Runs.{plain, wrapped}
-use Rattle.parser_rules.proofs.runs.Reading.{Reading, stops, cuts, bad_text, waits, shows, reading, found}
-use Rattle.parser_rules.proofs.runs.Frame.{parts_forest, added-all}
-use Rattle.parser_rules.proofs.runs.TreesWithSources.{moved_on}
+use Rattle.parser_rules.specs.State.{State, Lexeme, PendingToken, Report, bad_report, token_limit_report}
+use Rattle.parser_rules.specs.State.{recursion_limit_report, fault_report, add_all, flush, opened, closed, wrapped_from}
+use Rattle.parser_rules.specs.State.{moved, bump, reported, noted, note, is_deep, deepened, limited_at, too_deep, enter}
+use Rattle.parser_rules.specs.State.{leave}
+use Rattle.parser_rules.specs.declared.message.Message.{Message}
 
 -- the trees and the reports, and the highest nesting
 pub record Built : Type 0 where

@@ -2,11 +2,11 @@
 use Rattle.std.proofs.Common.{◌≡◌, Option, Some, None, List, [], ◌∷◌, refl, sym, subst, true}
 use Rattle.lexical_grammar.specs.Answers.{Answer, gives, is_end, IsLast, AreAnswers}
 use Rattle.document_grammar.specs.Builds.{add_leaf}
-use Rattle.parser_rules.specs.State.{State, Lexeme, read_on}
+use Rattle.parser_rules.proofs.runs.Reading.{Reading, stops, cuts, bad_text, waits, shows, reading}
+use Rattle.parser_rules.proofs.runs.Steps.{along, along-reading}
 use Rattle.parser_rules.specs.RuleLanguage.{Rule}
 use Rattle.parser_rules.specs.Runs.{Runs}
-use Rattle.parser_rules.proofs.runs.Steps.{along, along-reading}
-use Rattle.parser_rules.proofs.runs.Reading.{Reading, stops, cuts, bad_text, waits, shows, reading}
+use Rattle.parser_rules.specs.State.{State, Lexeme, read_on}
 
 unfoldable pub EndNow : Option Lexeme → List Answer → Type 0
 EndNow None items = items ≡ []

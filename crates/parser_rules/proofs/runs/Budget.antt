@@ -1,18 +1,18 @@
 -- A run does not depend on how many items may be cut.
 use Rattle.std.proofs.Common.{◌≡◌, ℕ, Bool, true, false, not, ◌&&◌, if◌then◌else◌, List, [], ◌∷◌, ◌++◌, Some, None}
 use Rattle.std.proofs.Common.{refl, sym, ap, ap₂, ◌∙◌}
-use Rattle.lexical_grammar.specs.declared.TokenKind.TheVariants as token
 use Rattle.lexical_grammar.specs.Answers.{Answer}
-use Rattle.document_grammar.specs.declared.kind.SyntaxKind.{SyntaxKind}
+use Rattle.lexical_grammar.specs.declared.TokenKind.TheVariants as token
 use Rattle.document_grammar.specs.Builds.{add_leaf}
+use Rattle.document_grammar.specs.declared.kind.SyntaxKind.{SyntaxKind}
+use Rattle.parser_rules.proofs.runs.Reading.{Reading, stops, cuts, bad_text, waits, shows, reading, found}
+use Rattle.parser_rules.specs.RuleLanguage.{Test, At, Not, Both, holds, Prim, Bump, Note, step, Rule}
+use Rattle.parser_rules.specs.Runs.{Runs, skip, does, seq, yes, no, done, again, child, limited, deeper, refused, call}
+use Rattle.parser_rules.specs.Runs.{plain, wrapped}
 use Rattle.parser_rules.specs.State.{State, Report, read_on, flush, opened, closed, wrapped_from, moved, bump, reported}
 use Rattle.parser_rules.specs.State.{noted, note, fault_report, recursion_limit_report, is_deep, deepened, limited_at}
 use Rattle.parser_rules.specs.State.{too_deep, enter, leave}
 use Rattle.parser_rules.specs.declared.message.Message.{Message}
-use Rattle.parser_rules.specs.RuleLanguage.{Test, At, Not, Both, holds, Prim, Bump, Note, step, Rule}
-use Rattle.parser_rules.specs.Runs.{Runs, skip, does, seq, yes, no, done, again, child, limited, deeper, refused, call}
-use Rattle.parser_rules.specs.Runs.{plain, wrapped}
-use Rattle.parser_rules.proofs.runs.Reading.{Reading, stops, cuts, bad_text, waits, shows, reading, found}
 
 module _ (n : ℕ) where
   -- the same state, where this number of items may be cut

@@ -1,14 +1,14 @@
 -- A run of a rule, and after it a run of the rules that follow: the forms that both together compute to.
 use Rattle.std.proofs.Common.{◌≡◌, Some, ◌∙◌, ap, sym, subst, refl}
-use Rattle.document_grammar.specs.declared.kind.SyntaxKind.{SyntaxKind}
-use Rattle.parser_rules.specs.declared.message.Message.{Message}
 use Rattle.document_grammar.specs.Builds.{start, add_leaf, finish}
-use Rattle.parser_rules.specs.State.{State, Text, Lexeme, read_on, flush, opened, closed, moved, bump}
+use Rattle.document_grammar.specs.declared.kind.SyntaxKind.{SyntaxKind}
+use Rattle.parser_rules.proofs.runs.Frame.{read-closed}
 use Rattle.parser_rules.specs.Nodes.{Node, Name, NameForFragment, NameForEnum, kind_of}
 use Rattle.parser_rules.specs.RuleLanguage.{Test, Prim, Bump, Note, step, Rule, Skip, Do, Seq, When, Child, want}
 use Rattle.parser_rules.specs.Rules.{inside}
 use Rattle.parser_rules.specs.Runs.{Runs, skip, does, seq, yes, no, child}
-use Rattle.parser_rules.proofs.runs.Frame.{read-closed}
+use Rattle.parser_rules.specs.State.{State, Text, Lexeme, read_on, flush, opened, closed, moved, bump}
+use Rattle.parser_rules.specs.declared.message.Message.{Message}
 
 -- a report where the test fails, and what follows
 pub wanted : {test : Test} {message : Message} {rule : Rule} {state after later : State}

@@ -3,21 +3,21 @@
 use Rattle.std.proofs.Common.{◌≡◌, ℕ, ◌+◌, ◌<◌, ◌≤◌, Option, Some, None, List, [], ◌∷◌, length, refl, sym, ◌∙◌, ap}
 use Rattle.std.proofs.Common.{subst, arith, true, false}
 use Rattle.std.proofs.lemmas.Bool.{leb-false}
-use Rattle.lexical_grammar.specs.declared.TokenKind.{TokenKind}
 use Rattle.lexical_grammar.specs.Answers.{Answer}
-use Rattle.document_grammar.specs.declared.kind.SyntaxKind.{SyntaxKind}
-use Rattle.document_grammar.specs.Builds.{Building, nothing, start, add_leaf, built_count, CanOpenAt}
-use Rattle.document_grammar.specs.Forests.{none as no_trees, Forest, join}
-use Rattle.document_grammar.specs.Forests as built
+use Rattle.lexical_grammar.specs.declared.TokenKind.{TokenKind}
 use Rattle.document_grammar.proofs.Added.{Added, added-none, added-leaf, added-then, added-node, added-wrap}
 use Rattle.document_grammar.proofs.Added.{can-open-last, can-open-added}
-use Rattle.parser_rules.specs.State.{State, Text, Lexeme, PendingToken, read_on, add_all, flush, opened, closed}
-use Rattle.parser_rules.specs.State.{wrapped_from, is_at, is_deep, enter, leave, too_deep, fresh, begun}
+use Rattle.document_grammar.specs.Builds.{Building, nothing, start, add_leaf, built_count, CanOpenAt}
+use Rattle.document_grammar.specs.Forests as built
+use Rattle.document_grammar.specs.Forests.{none as no_trees, Forest, join}
+use Rattle.document_grammar.specs.declared.kind.SyntaxKind.{SyntaxKind}
+use Rattle.parser_rules.proofs.runs.Reading.{Reading, stops, cuts, bad_text, waits, shows, reading, found}
+use Rattle.parser_rules.proofs.runs.Steps.{Holds_along, along, turns-along}
 use Rattle.parser_rules.specs.Open.{is_free, is_free_in, IsOpen, IsCheckpoint, IsInside, IsRoot}
 use Rattle.parser_rules.specs.RuleLanguage.{Test, At, holds, Rule, Skip, While}
 use Rattle.parser_rules.specs.Runs.{Runs, done, again, refused, Turns, begin, turn}
-use Rattle.parser_rules.proofs.runs.Reading.{Reading, stops, cuts, bad_text, waits, shows, reading, found}
-use Rattle.parser_rules.proofs.runs.Steps.{Holds_along, along, turns-along}
+use Rattle.parser_rules.specs.State.{State, Text, Lexeme, PendingToken, read_on, add_all, flush, opened, closed}
+use Rattle.parser_rules.specs.State.{wrapped_from, is_at, is_deep, enter, leave, too_deep, fresh, begun}
 
 -- ---- reading on
 

@@ -1,12 +1,12 @@
 -- A run of a rule has one result: from one state, two runs of the same rule end in the same state.
 use Rattle.std.proofs.Common.{◌≡◌, true, false, sym, ap, ◌∙◌, true≢false}
-use Rattle.document_grammar.specs.declared.kind.SyntaxKind.TheVariants as kind
 use Rattle.document_grammar.specs.Builds.{built_count}
-use Rattle.parser_rules.specs.State.{State, flush, opened, closed, wrapped_from, is_deep, enter, leave, too_deep}
+use Rattle.document_grammar.specs.declared.kind.SyntaxKind.TheVariants as kind
 use Rattle.parser_rules.specs.Nodes.{kind_of}
 use Rattle.parser_rules.specs.RuleLanguage.{Test, holds, Prim, step, Rule}
 use Rattle.parser_rules.specs.Runs.{Runs, skip, does, seq, yes, no, done, again, child, deeper, limited, refused, call}
 use Rattle.parser_rules.specs.Runs.{plain, wrapped}
+use Rattle.parser_rules.specs.State.{State, flush, opened, closed, wrapped_from, is_deep, enter, leave, too_deep}
 
 -- a test has one answer
 answered-once : {state after : State} (test : Test) → state ≡ after → true ≡ holds test state

@@ -1,26 +1,26 @@
 -- Rules that surely take the token that is there: so loops end.
 use Rattle.std.proofs.Common.{◌≡◌, ℕ, zero, suc, ltb, length, get_or, List, [], ◌∷◌, ◌<◌, Some, None, refl, sym, ◌∙◌}
 use Rattle.std.proofs.Common.{ap, ap₂, subst, arith, true, false, Bool, not, ◌||◌, ◌⊎◌, inl, inr, true≢false}
+use Rattle.std.proofs.lemmas.Bool.{and_parts, ltb-true}
+use denote.Enum.Declared.{tag_of}
+use Rattle.lexical_grammar.specs.contracts.TokenKind.{the_type}
 use Rattle.lexical_grammar.specs.declared.TokenKind.{TokenKind}
 use Rattle.lexical_grammar.specs.declared.TokenKind.TheVariants as token
-use Rattle.document_grammar.specs.declared.kind.SyntaxKind.{SyntaxKind}
-use Rattle.document_grammar.specs.Booleans.{◌and◌, ◌or◌}
-use Rattle.std.proofs.lemmas.Bool.{and_parts, ltb-true}
-use Rattle.lexical_grammar.specs.contracts.TokenKind.{the_type}
-use denote.Enum.Declared.{tag_of}
 use Rattle.document_grammar.proofs.Booleans.{either, and-i, and-l, and-r, or-l, or-r, not-c}
-use Rattle.parser_rules.specs.State.{State, Lexeme, flush, opened, closed, moved, bump, wrapped_from, same_kind}
-use Rattle.parser_rules.specs.State.{is_over, is_deep, enter, leave}
-use Rattle.parser_rules.specs.declared.constness.Constness.{Constness}
-use Rattle.parser_rules.specs.declared.constness.Constness.TheVariants.{Const, NotConst}
+use Rattle.document_grammar.specs.Booleans.{◌and◌, ◌or◌}
+use Rattle.document_grammar.specs.declared.kind.SyntaxKind.{SyntaxKind}
+use Rattle.parser_rules.proofs.runs.Frame.{left, moved-left, fewer}
+use Rattle.parser_rules.proofs.runs.Fuel.{rules_deep_for_progress}
+use Rattle.parser_rules.proofs.runs.Steps.{Holds_along, along}
 use Rattle.parser_rules.specs.Nodes.{kind_of, Value, NestedValue}
 use Rattle.parser_rules.specs.RuleLanguage.{TokenTest, Kind, Keyword, Or, fits, Here, Ready, holds, Prim, Bump, step}
 use Rattle.parser_rules.specs.RuleLanguage.{Rule, Do, Seq, When, Child, Nested, Call}
 use Rattle.parser_rules.specs.Rules.{has_item, inside, body}
 use Rattle.parser_rules.specs.Runs.{Runs, does, seq, yes, no, child, deeper, refused, call}
-use Rattle.parser_rules.proofs.runs.Fuel.{rules_deep_for_progress}
-use Rattle.parser_rules.proofs.runs.Frame.{left, moved-left, fewer}
-use Rattle.parser_rules.proofs.runs.Steps.{Holds_along, along}
+use Rattle.parser_rules.specs.State.{State, Lexeme, flush, opened, closed, moved, bump, wrapped_from, same_kind}
+use Rattle.parser_rules.specs.State.{is_over, is_deep, enter, leave}
+use Rattle.parser_rules.specs.declared.constness.Constness.{Constness}
+use Rattle.parser_rules.specs.declared.constness.Constness.TheVariants.{Const, NotConst}
 
 -- what is known of a token's kind
 abbrev pub Kinds : Type 0

@@ -2,16 +2,16 @@
 use Rattle.std.proofs.Common.{◌≡◌, ℕ, Bool, true, ltb, Option, Some, None, List, [], ◌∷◌, ◌++◌, refl, sym, ap, ◌∙◌}
 use Rattle.std.proofs.Common.{subst}
 use Rattle.std.specs.Prelude.{⊤}
+use Rattle.lexical_grammar.specs.Answers.{Answer, gives, limit_at}
+use Rattle.lexical_grammar.specs.Cut.{Item}
 use Rattle.lexical_grammar.specs.declared.TokenKind.{TokenKind}
 use Rattle.lexical_grammar.specs.declared.TokenKind.TheVariants as token_kind
-use Rattle.lexical_grammar.specs.Cut.{Item}
-use Rattle.lexical_grammar.specs.Answers.{Answer, gives, limit_at}
+use Rattle.document_grammar.proofs.Booleans.{and-i, and-l, and-r}
+use Rattle.document_grammar.specs.Booleans.{◌and◌}
+use Rattle.document_grammar.specs.Kinds.{ERROR}
+use Rattle.document_grammar.specs.Numbers.{number}
 use Rattle.document_grammar.specs.declared.kind.SyntaxKind.{SyntaxKind}
 use Rattle.document_grammar.specs.declared.kind.SyntaxKind.TheVariants as kind
-use Rattle.document_grammar.specs.Booleans.{◌and◌}
-use Rattle.document_grammar.proofs.Booleans.{and-i, and-l, and-r}
-use Rattle.document_grammar.specs.Numbers.{number}
-use Rattle.document_grammar.specs.Kinds.{ERROR}
 use Rattle.parser_rules.specs.State.{PendingToken, State, Lexeme, ignored, bad, met, wait, lexeme, read_on, second}
 use Rattle.parser_rules.specs.State.{fresh}
 

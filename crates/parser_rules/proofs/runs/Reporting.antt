@@ -1,9 +1,9 @@
 -- What a report changes: the errors, and at the recursion limit also the greatest depth and whether more errors are
 -- taken. So what holds whatever these are, holds after a report.
 use Rattle.std.proofs.Common.{◌≡◌, ap, ◌∙◌, Bool, true, false, if◌then◌else◌, List, [], ◌∷◌, ◌++◌, Option, Some, None}
-use Rattle.parser_rules.specs.declared.message.Message.{Message}
 use Rattle.parser_rules.specs.State.{State, Lexeme, Report, fault_report, recursion_limit_report, noted, note, deepened}
 use Rattle.parser_rules.specs.State.{limited_at, too_deep}
+use Rattle.parser_rules.specs.declared.message.Message.{Message}
 
 with-report : (P : State → Type 0) (state : State) (report : Report) (b : Bool)
     → ((errors : List Report) → P (record state { errors = errors }))

@@ -1,12 +1,12 @@
 -- What the functions of a parser are proved by: the forms of a run, and that nodes and levels stay open.
-use Rattle.parser_rules.specs.State.{same_kind, flush, opened, closed, bump, note, is_deep, enter, leave, too_deep}
-use Rattle.parser_rules.specs.State.{wrapped_from}
-use Rattle.parser_rules.specs.RuleLanguage.{holds, step}
-use Rattle.parser_rules.specs.Open.{IsInside, IsCheckpoint}
-use Rattle.parser_rules.specs.Runs.{skip, does, seq, yes, no, child, deeper, refused, call, plain, wrapped, begin, turn}
 use Rattle.parser_rules.proofs.runs.Forms.{wanted, chosen, optional, in-node, for-fragment, for-enum}
 use Rattle.parser_rules.proofs.runs.Frame.{ended, is-open, still-open, open-in-node, open-in-loop, budget-in-loop}
 use Rattle.parser_rules.proofs.runs.Frame.{open-too-deep, open-inside, open-outside, is-inside, still-inside, still-at}
+use Rattle.parser_rules.specs.Open.{IsInside, IsCheckpoint}
+use Rattle.parser_rules.specs.RuleLanguage.{holds, step}
+use Rattle.parser_rules.specs.Runs.{skip, does, seq, yes, no, child, deeper, refused, call, plain, wrapped, begin, turn}
+use Rattle.parser_rules.specs.State.{same_kind, flush, opened, closed, bump, note, is_deep, enter, leave, too_deep}
+use Rattle.parser_rules.specs.State.{wrapped_from}
 
 -- a step, and one rule after the other
 pub ruleset sequence = (skip, seq, yes, no)

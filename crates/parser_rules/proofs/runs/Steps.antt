@@ -3,17 +3,17 @@ use Rattle.std.proofs.Common.{◌≡◌, refl, sym, subst, true, false, if◌the
 use Rattle.std.proofs.Common.{◌++◌, ◌+◌, ◌≤◌, min, arith}
 use Rattle.std.proofs.lemmas.Bool.{leb-true}
 use Rattle.lexical_grammar.specs.Answers.{Answer, usize_max}
+use Rattle.document_grammar.specs.Builds.{start, add_leaf, built_count}
 use Rattle.document_grammar.specs.declared.kind.SyntaxKind.{SyntaxKind}
 use Rattle.document_grammar.specs.declared.kind.SyntaxKind.TheVariants as kind
-use Rattle.document_grammar.specs.Builds.{start, add_leaf, built_count}
-use Rattle.parser_rules.specs.State.{State, Lexeme, read_on, flush, opened, closed, wrapped_from, moved, bump, noted}
-use Rattle.parser_rules.specs.State.{note, fault_report, recursion_limit_report, is_deep, enter, leave, deepened}
-use Rattle.parser_rules.specs.State.{limited_at, too_deep}
-use Rattle.parser_rules.specs.declared.message.Message.{Message}
 use Rattle.parser_rules.specs.Nodes.{kind_of}
 use Rattle.parser_rules.specs.RuleLanguage.{Test, Prim, Bump, Note, step, Rule}
 use Rattle.parser_rules.specs.Runs.{Runs, skip, does, seq, yes, no, done, again, child, limited, deeper, refused, call}
 use Rattle.parser_rules.specs.Runs.{plain, wrapped, Turns, begin, turn}
+use Rattle.parser_rules.specs.State.{State, Lexeme, read_on, flush, opened, closed, wrapped_from, moved, bump, noted}
+use Rattle.parser_rules.specs.State.{note, fault_report, recursion_limit_report, is_deep, enter, leave, deepened}
+use Rattle.parser_rules.specs.State.{limited_at, too_deep}
+use Rattle.parser_rules.specs.declared.message.Message.{Message}
 
 -- the highest nesting is one level more than the limit
 abbrev pub PastLimit : State → Type 0

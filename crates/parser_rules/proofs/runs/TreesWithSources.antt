@@ -1,25 +1,25 @@
 -- Trees that know which token each leaf is, and what a run adds: its trees, what they are made of, and its reports.
 use Rattle.std.proofs.Common.{◌≡◌, ℕ, true, false, List, [], ◌∷◌, ◌++◌, Option, Some, None, refl, sym, ap, ap₂, ◌∙◌}
 use Rattle.std.proofs.Common.{subst, append_assoc, append-nil, ◌⊎◌, inl, inr}
-use Rattle.lexical_grammar.specs.declared.TokenKind.{TokenKind}
-use Rattle.lexical_grammar.specs.Cut.{Item}
 use Rattle.lexical_grammar.specs.Answers.{Answer, gives, limit_at}
+use Rattle.lexical_grammar.specs.Cut.{Item}
+use Rattle.lexical_grammar.specs.declared.TokenKind.{TokenKind}
+use Rattle.document_grammar.proofs.Added.{Added, added-none, added-then, added-node, added-wrap}
+use Rattle.document_grammar.proofs.Booleans.{false-true, either}
+use Rattle.document_grammar.specs.Builds.{Building, add_leaf, built_count}
+use Rattle.document_grammar.specs.Forests as built
 use Rattle.document_grammar.specs.declared.kind.SyntaxKind.{SyntaxKind}
 use Rattle.document_grammar.specs.declared.kind.SyntaxKind.TheVariants as kind
-use Rattle.document_grammar.specs.Forests as built
-use Rattle.document_grammar.specs.Builds.{Building, add_leaf, built_count}
-use Rattle.document_grammar.proofs.Booleans.{false-true, either}
-use Rattle.document_grammar.proofs.Added.{Added, added-none, added-then, added-node, added-wrap}
-use Rattle.parser_rules.specs.declared.message.Message.{Message}
+use Rattle.parser_rules.proofs.runs.Frame.{read-untouched, parts_forest, added-all, added-read}
+use Rattle.parser_rules.proofs.runs.Reading.{Reading, stops, cuts, bad_text, waits, shows, reading}
+use Rattle.parser_rules.proofs.runs.Reporting.{after-note, after-too-deep}
+use Rattle.parser_rules.proofs.runs.Steps.{Holds_along, step-along, too_deep-along}
+use Rattle.parser_rules.specs.RuleLanguage.{Note, step}
 use Rattle.parser_rules.specs.State.{State, Lexeme, PendingToken, Text, Report, at_limit, bad_report}
 use Rattle.parser_rules.specs.State.{token_limit_report, recursion_limit_report, fault_report, ignored, bad, met}
 use Rattle.parser_rules.specs.State.{lexeme, read_on, add_all, flush, opened, closed, wrapped_from, note, is_deep}
 use Rattle.parser_rules.specs.State.{enter, leave, too_deep, fresh, begun}
-use Rattle.parser_rules.proofs.runs.Reading.{Reading, stops, cuts, bad_text, waits, shows, reading}
-use Rattle.parser_rules.proofs.runs.Steps.{Holds_along, step-along, too_deep-along}
-use Rattle.parser_rules.proofs.runs.Reporting.{after-note, after-too-deep}
-use Rattle.parser_rules.specs.RuleLanguage.{Note, step}
-use Rattle.parser_rules.proofs.runs.Frame.{read-untouched, parts_forest, added-all, added-read}
+use Rattle.parser_rules.specs.declared.message.Message.{Message}
 
 -- what a leaf is: a significant token, or an ignored token or bad text
 pub data Source : Type 0 where

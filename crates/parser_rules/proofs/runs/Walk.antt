@@ -7,26 +7,26 @@
 -- `f` and `g` the trees that were added until each.
 use Rattle.std.proofs.Common.{◌≡◌, ℕ, zero, suc, Bool, true, false, cond, List, Some, None, refl, sym, ap, ◌∙◌, subst}
 use Rattle.std.proofs.Common.{inl, inr}
-use Rattle.lexical_grammar.specs.declared.TokenKind.TheVariants as token_kind
 use Rattle.lexical_grammar.specs.Answers.{Answer}
+use Rattle.lexical_grammar.specs.declared.TokenKind.TheVariants as token_kind
+use Rattle.document_grammar.proofs.Booleans.{false-true, and-l, and-r, either}
+use Rattle.document_grammar.specs.Booleans.{◌and◌}
+use Rattle.document_grammar.specs.Builds.{built_count}
 use Rattle.document_grammar.specs.declared.kind.SyntaxKind.{SyntaxKind}
 use Rattle.document_grammar.specs.declared.kind.SyntaxKind.TheVariants as kind
-use Rattle.document_grammar.specs.Builds.{built_count}
-use Rattle.document_grammar.specs.Booleans.{◌and◌}
-use Rattle.document_grammar.proofs.Booleans.{false-true, and-l, and-r, either}
-use Rattle.parser_rules.specs.declared.message.Message.{Message}
-use Rattle.parser_rules.specs.State.{State, Lexeme, flush, opened, closed, wrapped_from, moved, bump, note, is_deep}
-use Rattle.parser_rules.specs.State.{enter, leave, too_deep, begun}
+use Rattle.parser_rules.proofs.runs.Fuel.{rules_deep}
+use Rattle.parser_rules.proofs.runs.TreesWithSources.{TreesWithSources, none, leaf, node, append, append-none, token}
+use Rattle.parser_rules.proofs.runs.TreesWithSources.{set_aside, Grown, grown-none, grown-then, grown-flush, grown-leaf}
+use Rattle.parser_rules.proofs.runs.TreesWithSources.{grown-note, grown-deep, grown-node, grown-wrap, Whole, whole}
 use Rattle.parser_rules.specs.Nodes.{Node, kind_of}
 use Rattle.parser_rules.specs.RuleLanguage.{Test, At, holds, Prim, Bump, Note, step, Rule, Skip, Do, Seq, When, While}
 use Rattle.parser_rules.specs.RuleLanguage.{Child, TooDeep, Nested, Call, Typed}
 use Rattle.parser_rules.specs.Rules.{inside, body}
 use Rattle.parser_rules.specs.Runs.{Runs, skip, does, seq, yes, no, done, again, child, limited, deeper, refused, call}
 use Rattle.parser_rules.specs.Runs.{plain, wrapped}
-use Rattle.parser_rules.proofs.runs.Fuel.{rules_deep}
-use Rattle.parser_rules.proofs.runs.TreesWithSources.{TreesWithSources, none, leaf, node, append, append-none, token}
-use Rattle.parser_rules.proofs.runs.TreesWithSources.{set_aside, Grown, grown-none, grown-then, grown-flush, grown-leaf}
-use Rattle.parser_rules.proofs.runs.TreesWithSources.{grown-note, grown-deep, grown-node, grown-wrap, Whole, whole}
+use Rattle.parser_rules.specs.State.{State, Lexeme, flush, opened, closed, wrapped_from, moved, bump, note, is_deep}
+use Rattle.parser_rules.specs.State.{enter, leave, too_deep, begun}
+use Rattle.parser_rules.specs.declared.message.Message.{Message}
 
 -- What may be known at a place, and how each step of a rule changes it. A step also has the check of the rest after it.
 pub record Domain (K : Type 0) : Type 0 where

@@ -3,20 +3,20 @@ use Rattle.std.proofs.Common.{◌≡◌, ℕ, suc, ◌+◌, ◌-◌, ◌*◌, �
 use Rattle.std.proofs.Common.{None, List, [], ◌∷◌, ◌++◌, length, length-append, refl, ap, ◌∙◌, arith}
 use Rattle.std.proofs.Math.Nat.{mul-suc}
 use Rattle.lexical_grammar.specs.Answers.{Answer, gives, limit_at}
-use Rattle.document_grammar.specs.declared.kind.SyntaxKind.{SyntaxKind}
-use Rattle.document_grammar.specs.declared.kind.SyntaxKind.TheVariants as kind
-use Rattle.document_grammar.specs.Forests as built
+use Rattle.document_grammar.proofs.Booleans.{false-true}
+use Rattle.document_grammar.proofs.Built.{join-front_back, count-close}
+use Rattle.document_grammar.proofs.Joins.{count-join}
 use Rattle.document_grammar.specs.Builds.{Building, Open, open_count, built_count, add_leaf, close, finish, wrap, front}
 use Rattle.document_grammar.specs.Builds.{back}
-use Rattle.document_grammar.proofs.Booleans.{false-true}
-use Rattle.document_grammar.proofs.Joins.{count-join}
-use Rattle.document_grammar.proofs.Built.{join-front_back, count-close}
-use Rattle.parser_rules.specs.declared.message.Message.{Message}
+use Rattle.document_grammar.specs.Forests as built
+use Rattle.document_grammar.specs.declared.kind.SyntaxKind.{SyntaxKind}
+use Rattle.document_grammar.specs.declared.kind.SyntaxKind.TheVariants as kind
+use Rattle.parser_rules.proofs.runs.Reading.{Reading, stops, cuts, bad_text, waits, shows, reading}
+use Rattle.parser_rules.proofs.sizes.SizeCheck.{Rates}
 use Rattle.parser_rules.specs.State.{State, Text, Lexeme, PendingToken, Report, read_on, add_all, flush, opened, closed}
 use Rattle.parser_rules.specs.State.{wrapped_from, moved, bad_report, token_limit_report, fault_report}
 use Rattle.parser_rules.specs.State.{recursion_limit_report, noted, note, deepened, limited_at, too_deep, enter, leave}
-use Rattle.parser_rules.proofs.runs.Reading.{Reading, stops, cuts, bad_text, waits, shows, reading}
-use Rattle.parser_rules.proofs.sizes.SizeCheck.{Rates}
+use Rattle.parser_rules.specs.declared.message.Message.{Message}
 
 -- the elements that are built, and those that wait
 abbrev pub size : State → ℕ

@@ -8,14 +8,14 @@ use Rattle.document_grammar.specs.Booleans.{◌and◌, ◌or◌}
 use Rattle.grammar_machine.proofs.Checks.{subset}
 use Rattle.grammar_machine.proofs.Sound.{any}
 use Rattle.grammar_machine.proofs.generated.Follows.{name_classes}
+use Rattle.parser_rules.proofs.lookahead.FirstSets.{without}
+use Rattle.parser_rules.proofs.lookahead.Split.{split}
+use Rattle.parser_rules.proofs.lookahead.TokenSets.{absent, present, part}
+use Rattle.parser_rules.proofs.runs.Fuel.{root_rules_deep_for_sizes}
 use Rattle.parser_rules.specs.Nodes.{Node}
 use Rattle.parser_rules.specs.RuleLanguage.{Test, Ready, Deep, Not, Both, At, Bump, Note, Rule, Skip, Do, Seq, When}
 use Rattle.parser_rules.specs.RuleLanguage.{While, Child, TooDeep, Nested, Call, Typed}
 use Rattle.parser_rules.specs.Rules.{inside, body}
-use Rattle.parser_rules.proofs.runs.Fuel.{root_rules_deep_for_sizes}
-use Rattle.parser_rules.proofs.lookahead.TokenSets.{absent, present, part}
-use Rattle.parser_rules.proofs.lookahead.Split.{split}
-use Rattle.parser_rules.proofs.lookahead.FirstSets.{without}
 
 -- ---- rates
 

@@ -6,42 +6,42 @@ use Rattle.std.proofs.Common.{◌≡◌, ℕ, zero, suc, ◌+◌, ◌-◌, ◌*�
 use Rattle.std.proofs.Common.{is_some, Option, Some, None, List, [], ◌∷◌, length, refl, sym, ap, ◌∙◌, subst, ◌⊎◌, inl}
 use Rattle.std.proofs.Common.{inr, arith}
 use Rattle.std.proofs.lemmas.Bool.{leb-true, eqb-true, and_parts}
-use Rattle.lexical_grammar.specs.declared.TokenKind.TheVariants as token
-use Rattle.lexical_grammar.specs.Cut.{Item}
 use Rattle.lexical_grammar.specs.Answers.{Answer, limited}
+use Rattle.lexical_grammar.specs.Cut.{Item}
+use Rattle.lexical_grammar.specs.declared.TokenKind.TheVariants as token
+use Rattle.document_grammar.proofs.Booleans.{false-true, and-i, and-l, and-r, or-c, not-c, implies}
+use Rattle.document_grammar.specs.Booleans.{◌and◌, ◌or◌}
+use Rattle.document_grammar.specs.Forests.{count}
 use Rattle.document_grammar.specs.declared.kind.SyntaxKind.{SyntaxKind}
 use Rattle.document_grammar.specs.declared.kind.SyntaxKind.TheVariants as kind
-use Rattle.document_grammar.specs.Forests.{count}
-use Rattle.document_grammar.specs.Booleans.{◌and◌, ◌or◌}
-use Rattle.document_grammar.proofs.Booleans.{false-true, and-i, and-l, and-r, or-c, not-c, implies}
-use Rattle.grammar_machine.specs.Machine.{holds as within}
 use Rattle.grammar_machine.proofs.Checks.{subset}
 use Rattle.grammar_machine.proofs.Classes.{holds-and}
-use Rattle.grammar_machine.proofs.TableLemmas.{holds-subset}
 use Rattle.grammar_machine.proofs.Sound.{any}
-use Rattle.parser_rules.specs.declared.message.Message.{Message}
-use Rattle.parser_rules.specs.State.{State, Lexeme, second, add_all, flush, opened, closed, wrapped_from, moved, bump}
-use Rattle.parser_rules.specs.State.{note, is_deep, enter, leave, too_deep, fresh, begun, finished}
+use Rattle.grammar_machine.proofs.TableLemmas.{holds-subset}
+use Rattle.grammar_machine.specs.Machine.{holds as within}
+use Rattle.parser_rules.proofs.NodeChecks.{node-passes, document_passes}
+use Rattle.parser_rules.proofs.lookahead.Split.{split-at}
+use Rattle.parser_rules.proofs.lookahead.TokenSets.{absent, present, class_of, of-any, present-is, edges, Seen}
+use Rattle.parser_rules.proofs.lookahead.TokenSets.{seen-same, holds-none, part, part-live}
+use Rattle.parser_rules.proofs.runs.Fuel.{root_rules_deep_for_sizes, rules_deep_for_sizes}
+use Rattle.parser_rules.proofs.runs.Reading.{Shown, second-shown, reading, found}
+use Rattle.parser_rules.proofs.runs.Reporting.{after-note, after-too-deep}
+use Rattle.parser_rules.proofs.runs.TreesWithSources.{moved_on}
+use Rattle.parser_rules.proofs.sizes.Costs.{size, all-count, finish-count, cost, worth, worth_of, outlay, read-cost}
+use Rattle.parser_rules.proofs.sizes.Costs.{moved-cost, flush-cost, opened-cost, closed-cost, wrapped-cost, levels-cost}
+use Rattle.parser_rules.proofs.sizes.Costs.{Reports, note-cost, deep-cost}
+use Rattle.parser_rules.proofs.sizes.SizeCheck.{Rates, Account, opening, spend, by_token, report, report_limit, take}
+use Rattle.parser_rules.proofs.sizes.SizeCheck.{asks_limit, ask, level, takes_first, saving, saved, enough, others}
+use Rattle.parser_rules.proofs.sizes.SizeCheck.{debt, keeps, later, loop, walk, pays_for_itself, settles, root_pays}
+use Rattle.parser_rules.proofs.sizes.SizeCheck.{PaysForAll, element_rates, report_rates}
 use Rattle.parser_rules.specs.Nodes.{Node, kind_of, Document}
 use Rattle.parser_rules.specs.RuleLanguage.{Test, At, Deep, Not, Both, holds, Prim, Bump, Note, step, Rule, Do, Call}
 use Rattle.parser_rules.specs.Rules.{inside}
 use Rattle.parser_rules.specs.Runs.{Runs, skip, does, seq, yes, no, done, again, child, limited as limit_met, deeper}
 use Rattle.parser_rules.specs.Runs.{refused, call, plain, wrapped}
-use Rattle.parser_rules.proofs.runs.Fuel.{root_rules_deep_for_sizes, rules_deep_for_sizes}
-use Rattle.parser_rules.proofs.runs.Reading.{Shown, second-shown, reading, found}
-use Rattle.parser_rules.proofs.runs.TreesWithSources.{moved_on}
-use Rattle.parser_rules.proofs.runs.Reporting.{after-note, after-too-deep}
-use Rattle.parser_rules.proofs.lookahead.TokenSets.{absent, present, class_of, of-any, present-is, edges, Seen}
-use Rattle.parser_rules.proofs.lookahead.TokenSets.{seen-same, holds-none, part, part-live}
-use Rattle.parser_rules.proofs.lookahead.Split.{split-at}
-use Rattle.parser_rules.proofs.NodeChecks.{node-passes, document_passes}
-use Rattle.parser_rules.proofs.sizes.SizeCheck.{Rates, Account, opening, spend, by_token, report, report_limit, take}
-use Rattle.parser_rules.proofs.sizes.SizeCheck.{asks_limit, ask, level, takes_first, saving, saved, enough, others}
-use Rattle.parser_rules.proofs.sizes.SizeCheck.{debt, keeps, later, loop, walk, pays_for_itself, settles, root_pays}
-use Rattle.parser_rules.proofs.sizes.SizeCheck.{PaysForAll, element_rates, report_rates}
-use Rattle.parser_rules.proofs.sizes.Costs.{size, all-count, finish-count, cost, worth, worth_of, outlay, read-cost}
-use Rattle.parser_rules.proofs.sizes.Costs.{moved-cost, flush-cost, opened-cost, closed-cost, wrapped-cost, levels-cost}
-use Rattle.parser_rules.proofs.sizes.Costs.{Reports, note-cost, deep-cost}
+use Rattle.parser_rules.specs.State.{State, Lexeme, second, add_all, flush, opened, closed, wrapped_from, moved, bump}
+use Rattle.parser_rules.specs.State.{note, is_deep, enter, leave, too_deep, fresh, begun, finished}
+use Rattle.parser_rules.specs.declared.message.Message.{Message}
 
 -- ---- what steps leave as it is
 

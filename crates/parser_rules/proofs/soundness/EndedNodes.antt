@@ -3,32 +3,32 @@
 use Rattle.std.proofs.Common.{◌≡◌, ◌≢◌, ℕ, zero, suc, ◌+◌, ◌<◌, ◌≤◌, Bool, true, false, true≢false, cond, ltb, List, []}
 use Rattle.std.proofs.Common.{◌∷◌, ◌++◌, length, Option, Some, None, refl, sym, ap, ◌∙◌, subst, subst₂, inl, inr, ◌⊎◌}
 use Rattle.std.proofs.Common.{arith, is_some, append_assoc, length-append}
-use Rattle.std.specs.Prelude.{map}
 use Rattle.std.proofs.lemmas.Bool.{and_parts, false_from_ne_true}
+use Rattle.std.specs.Prelude.{map}
+use Rattle.lexical_grammar.specs.Answers.{limited, limit_index, is_end}
+use Rattle.lexical_grammar.specs.Cut.{Item, Cut, CutFrom, texts, Significant, Word, significant_word, are_tokens}
 use Rattle.lexical_grammar.specs.declared.TokenKind.{TokenKind}
 use Rattle.lexical_grammar.specs.declared.TokenKind.TheVariants as token
-use Rattle.lexical_grammar.specs.Cut.{Item, Cut, CutFrom, texts, Significant, Word, significant_word, are_tokens}
-use Rattle.lexical_grammar.specs.Answers.{limited, limit_index, is_end}
-use Rattle.document_grammar.specs.Kinds.{ERROR}
-use Rattle.document_grammar.specs.Numbers.{number}
-use Rattle.document_grammar.specs.declared.kind.SyntaxKind.{SyntaxKind}
-use Rattle.document_grammar.specs.Forests as built
-use Rattle.document_grammar.specs.Numbered.{numbered, tree_of}
-use Rattle.document_grammar.specs.Tree.{Text}
-use Rattle.document_grammar.specs.Derivation.{Sort, texts as tree_texts}
-use Rattle.document_grammar.specs.Sentence.{token_of, tokens_of}
-use Rattle.document_grammar.specs.FirstError.{EndedFit, AllEndedFit, EndedNodesFit}
-use Rattle.document_grammar.specs.Leaves.{leaves, IsLeafOf, IsLeafOfToken, OneLeafAnItem, one, the_end, the_limit}
 use Rattle.document_grammar.proofs.Shown.{index-at, item-then, not-the-end, significant-some, tokens-append, earlier}
 use Rattle.document_grammar.proofs.Shown.{tokens-before}
-use Rattle.parser_rules.specs.State.{PendingToken, Report, ignored}
-use Rattle.parser_rules.proofs.runs.Reading.{ignored-leaf}
+use Rattle.document_grammar.specs.Derivation.{Sort, texts as tree_texts}
+use Rattle.document_grammar.specs.FirstError.{EndedFit, AllEndedFit, EndedNodesFit}
+use Rattle.document_grammar.specs.Forests as built
+use Rattle.document_grammar.specs.Kinds.{ERROR}
+use Rattle.document_grammar.specs.Leaves.{leaves, IsLeafOf, IsLeafOfToken, OneLeafAnItem, one, the_end, the_limit}
+use Rattle.document_grammar.specs.Numbered.{numbered, tree_of}
+use Rattle.document_grammar.specs.Numbers.{number}
+use Rattle.document_grammar.specs.Sentence.{token_of, tokens_of}
+use Rattle.document_grammar.specs.Tree.{Text}
+use Rattle.document_grammar.specs.declared.kind.SyntaxKind.{SyntaxKind}
 use Rattle.parser_rules.proofs.reports.InOrder.{limit-near}
 use Rattle.parser_rules.proofs.reports.NoReport.{kind_tokens, item_tokens, end-kind, significant}
+use Rattle.parser_rules.proofs.runs.Reading.{ignored-leaf}
+use Rattle.parser_rules.proofs.soundness.FirstErrors.{offset-is}
+use Rattle.parser_rules.proofs.soundness.OverTexts.{IsRight, words-cons}
 use Rattle.parser_rules.proofs.soundness.Settled as counted
 use Rattle.parser_rules.proofs.soundness.Soundness.{item-words}
-use Rattle.parser_rules.proofs.soundness.OverTexts.{IsRight, words-cons}
-use Rattle.parser_rules.proofs.soundness.FirstErrors.{offset-is}
+use Rattle.parser_rules.specs.State.{PendingToken, Report, ignored}
 
 -- whether a leaf is ignored or not
 abbrev one_leaf : SyntaxKind → ℕ

@@ -3,24 +3,24 @@ use Rattle.std.proofs.Common.{◌≡◌, ◌≢◌, ℕ, zero, suc, ◌+◌, ◌
 use Rattle.std.proofs.Common.{take, Option, None, refl, sym, ap, ap₂, ◌∙◌, subst, ◌⊎◌, inl, inr, arith, is_some}
 use Rattle.std.proofs.Common.{length-append, length-take, ◌≤◌, ◌<◌}
 use Rattle.std.specs.Prelude.{map}
+use Rattle.lexical_grammar.specs.Answers.{limited, limit_index, is_end}
+use Rattle.lexical_grammar.specs.Cut.{Item, Cut, CutFrom}
 use Rattle.lexical_grammar.specs.declared.TokenKind.{TokenKind}
 use Rattle.lexical_grammar.specs.declared.TokenKind.TheVariants as token
-use Rattle.lexical_grammar.specs.Cut.{Item, Cut, CutFrom}
-use Rattle.lexical_grammar.specs.Answers.{limited, limit_index, is_end}
 use Rattle.document_grammar.proofs.Booleans.{either}
+use Rattle.document_grammar.proofs.Shown.{cut-shown, before-shown, cut-from, text-before}
 use Rattle.document_grammar.specs.Derivation.{Sort, Terminal, word, terminals}
-use Rattle.document_grammar.specs.Sentence.{Begins, StartSentence, StartSentenceWithin, tokens_of}
-use Rattle.document_grammar.specs.Tree.{Text, Token}
 use Rattle.document_grammar.specs.FirstError.{At, shown_kind, shown_item, shown, AreAmong, NotLate, NotEarly}
 use Rattle.document_grammar.specs.FirstError.{NotEarlyLimit}
-use Rattle.document_grammar.proofs.Shown.{cut-shown, before-shown, cut-from, text-before}
-use Rattle.parser_rules.specs.State.{State, Report, Lexeme, at_limit, token_limit_report, ignored}
-use Rattle.parser_rules.specs.Messages.{is_limit}
-use Rattle.parser_rules.proofs.runs.Reading.{Reading, bad_text as bad_item, waits, shows, looks, ignored-kinds}
+use Rattle.document_grammar.specs.Sentence.{Begins, StartSentence, StartSentenceWithin, tokens_of}
+use Rattle.document_grammar.specs.Tree.{Text, Token}
 use Rattle.parser_rules.proofs.reports.AlongItems.{item_of}
 use Rattle.parser_rules.proofs.reports.AtTheLimit.{found-other}
 use Rattle.parser_rules.proofs.reports.NoReport.{ends}
+use Rattle.parser_rules.proofs.runs.Reading.{Reading, bad_text as bad_item, waits, shows, looks, ignored-kinds}
 use Rattle.parser_rules.proofs.soundness.OverTexts.{Answered, Reason, fault, too_deep, bad_text, too_many, IsRight}
+use Rattle.parser_rules.specs.Messages.{is_limit}
+use Rattle.parser_rules.specs.State.{State, Report, Lexeme, at_limit, token_limit_report, ignored}
 
 -- ---- what is shown after the current token was answered
 

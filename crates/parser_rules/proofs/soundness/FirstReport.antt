@@ -2,15 +2,15 @@
 -- or an answer is no token.
 use Rattle.std.proofs.Common.{◌≡◌, ℕ, ◌+◌, length, ◌<◌, false, List, ◌∷◌, ◌++◌, Some}
 use Rattle.lexical_grammar.specs.Answers.{Answer, is_token}
-use Rattle.document_grammar.specs.Tree.{Token, Tree}
-use Rattle.grammar_machine.specs.Machine.{first, Frame, Reach}
-use Rattle.grammar_machine.proofs.Depth.{nesting_all}
 use Rattle.document_grammar.specs.Derivation.{Sort}
-use Rattle.grammar_machine.proofs.SentenceTheorems.{FaultIn, start_symbol}
+use Rattle.document_grammar.specs.Tree.{Token, Tree}
+use Rattle.grammar_machine.proofs.Depth.{nesting_all}
 use Rattle.grammar_machine.proofs.MachineTheorems.{Parse}
-use Rattle.parser_rules.specs.declared.message.Message.{Message}
-use Rattle.parser_rules.specs.State.{Lexeme, Report, fault_report, recursion_limit_report}
+use Rattle.grammar_machine.proofs.SentenceTheorems.{FaultIn, start_symbol}
+use Rattle.grammar_machine.specs.Machine.{first, Frame, Reach}
 use Rattle.parser_rules.proofs.reports.NoReport.{answers_tokens, current_tokens, report_of, Passed, Held, Now}
+use Rattle.parser_rules.specs.State.{Lexeme, Report, fault_report, recursion_limit_report}
+use Rattle.parser_rules.specs.declared.message.Message.{Message}
 
 module _ (sort : Sort) (answers : List Answer) (lim : ℕ) (tokens : List Token) where
   -- the start symbol

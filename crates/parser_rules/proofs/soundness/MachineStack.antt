@@ -2,21 +2,21 @@
 -- NON_NULL_TYPE.
 use Rattle.std.proofs.Common.{◌≡◌, ℕ, ◌+◌, true, false, cond, eqb, List, [], ◌∷◌, refl, sym, ap, ap₂, ◌∙◌, subst, inl}
 use Rattle.std.proofs.Common.{inr, eqb-true, add-zero, arith}
-use Rattle.document_grammar.specs.declared.kind.SyntaxKind.TheVariants as kind
-use Rattle.document_grammar.specs.Kinds.{BANG, NAMED_TYPE, LIST_TYPE, NON_NULL_TYPE}
-use Rattle.grammar_machine.specs.Symbols.{TYPE}
-use Rattle.document_grammar.specs.Forests as built
-use Rattle.document_grammar.specs.Builds.{Building, built_count, wrap}
-use Rattle.grammar_machine.specs.Table.{rows}
-use Rattle.document_grammar.specs.Tree.{Text, Tree, leaf, node, Forest, none, ◌▸◌, ◌+++◌, root}
-use Rattle.document_grammar.specs.Booleans.{◌and◌, ◌or◌}
-use Rattle.grammar_machine.specs.Machine.{is_leaf, at, arcs, has, target, Frame, frame, Path, finish as leaves_behind}
-use Rattle.document_grammar.proofs.Booleans.{false-true, or-c, either}
-use Rattle.grammar_machine.proofs.TableLemmas.{exits-at, head-same}
-use Rattle.grammar_machine.proofs.Checks.{exits, row_of}
-use Rattle.grammar_machine.proofs.Patterns.{label}
-use Rattle.grammar_machine.proofs.FromMachineTree.{show, shows, type_of}
 use Rattle.document_grammar.proofs.Added.{wrap-added}
+use Rattle.document_grammar.proofs.Booleans.{false-true, or-c, either}
+use Rattle.document_grammar.specs.Booleans.{◌and◌, ◌or◌}
+use Rattle.document_grammar.specs.Builds.{Building, built_count, wrap}
+use Rattle.document_grammar.specs.Forests as built
+use Rattle.document_grammar.specs.Kinds.{BANG, NAMED_TYPE, LIST_TYPE, NON_NULL_TYPE}
+use Rattle.document_grammar.specs.Tree.{Text, Tree, leaf, node, Forest, none, ◌▸◌, ◌+++◌, root}
+use Rattle.document_grammar.specs.declared.kind.SyntaxKind.TheVariants as kind
+use Rattle.grammar_machine.proofs.Checks.{exits, row_of}
+use Rattle.grammar_machine.proofs.FromMachineTree.{show, shows, type_of}
+use Rattle.grammar_machine.proofs.Patterns.{label}
+use Rattle.grammar_machine.proofs.TableLemmas.{exits-at, head-same}
+use Rattle.grammar_machine.specs.Machine.{is_leaf, at, arcs, has, target, Frame, frame, Path, finish as leaves_behind}
+use Rattle.grammar_machine.specs.Symbols.{TYPE}
+use Rattle.grammar_machine.specs.Table.{rows}
 use Rattle.parser_rules.proofs.soundness.WithoutIgnored.{IsLayered, Stack, stack, layers, layers-join, strip, put}
 
 -- ---- lists of trees

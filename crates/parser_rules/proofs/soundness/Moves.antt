@@ -7,51 +7,41 @@ use Rattle.std.proofs.Common.{◌≡◌, ℕ, ◌+◌, ◌≤◌, ◌<◌, Bool,
 use Rattle.std.proofs.Common.{Option, Some, None, refl, sym, ap, ap₂, ◌∙◌, subst, ◌⊎◌, inl, inr, eqb-true, arith}
 use Rattle.std.proofs.Common.{leb-true}
 use Rattle.lexical_grammar.specs.Answers.{is_end}
-use Rattle.document_grammar.specs.declared.kind.SyntaxKind.{SyntaxKind}
+use Rattle.document_grammar.proofs.Booleans.{false-true, and-l, and-r, or-c, not-c, implies}
+use Rattle.document_grammar.specs.Booleans.{◌and◌, ◌or◌}
+use Rattle.document_grammar.specs.Builds.{add_leaf}
 use Rattle.document_grammar.specs.Numbers.{number}
 use Rattle.document_grammar.specs.Sentence.{leaf_number}
-use Rattle.grammar_machine.specs.Symbols.{TYPE}
-use Rattle.document_grammar.specs.Builds.{add_leaf}
 use Rattle.document_grammar.specs.Tree.{Token, Tree, leaf, node, Forest, none, ◌▸◌, ◌+++◌}
-use Rattle.document_grammar.specs.Booleans.{◌and◌, ◌or◌}
+use Rattle.document_grammar.specs.declared.kind.SyntaxKind.{SyntaxKind}
+use Rattle.grammar_machine.proofs.Checks.{subset}
+use Rattle.grammar_machine.proofs.Depth.{count_in, nesting_all, depth, left-depth}
+use Rattle.grammar_machine.proofs.FromMachineTree.{shows, show, show-root}
+use Rattle.grammar_machine.proofs.MachineTheorems.{Parse, fault, never-stuck, on-the-way, no-leaf as start-no-leaf}
+use Rattle.grammar_machine.proofs.MachineTheorems.{fault-left}
+use Rattle.grammar_machine.proofs.Makes.{makes-on, makes-depth, makes-stuck}
+use Rattle.grammar_machine.proofs.OneTokenLookahead.{Firm, firm-shift, firm-close}
+use Rattle.grammar_machine.proofs.Patterns.{label}
+use Rattle.grammar_machine.proofs.Run.{next}
+use Rattle.grammar_machine.proofs.Sound.{any, second-any, spent, reach-sound, move-ends, move-has, move-fires}
+use Rattle.grammar_machine.proofs.Steps.{goes, sticks, goes-move, closes-move, sticks-move, misses-fires, misses}
+use Rattle.grammar_machine.proofs.TableLemmas.{holds-subset, holds-disjoint, arcs-at}
 use Rattle.grammar_machine.specs.Machine.{holds as within, is_leaf, ends, exit, arcs, target, entries, fires, Move, go}
 use Rattle.grammar_machine.specs.Machine.{close, stuck, class, first as first_class, Frame, frame, Reach, shift, open'}
 use Rattle.grammar_machine.specs.Machine.{closed as closes_node, has}
-use Rattle.document_grammar.proofs.Booleans.{false-true, and-l, and-r, or-c, not-c, implies}
-use Rattle.grammar_machine.proofs.TableLemmas.{holds-subset, holds-disjoint, arcs-at}
-use Rattle.grammar_machine.proofs.Checks.{subset}
-use Rattle.grammar_machine.proofs.Depth.{count_in, nesting_all, depth, left-depth}
-use Rattle.grammar_machine.proofs.Makes.{makes-on, makes-depth, makes-stuck}
-use Rattle.grammar_machine.proofs.Patterns.{label}
-use Rattle.grammar_machine.proofs.FromMachineTree.{shows, show, show-root}
-use Rattle.grammar_machine.proofs.Sound.{any, second-any, spent, reach-sound, move-ends, move-has, move-fires}
-use Rattle.grammar_machine.proofs.Run.{next}
-use Rattle.grammar_machine.proofs.MachineTheorems.{Parse, fault, never-stuck, on-the-way, no-leaf as start-no-leaf}
-use Rattle.grammar_machine.proofs.MachineTheorems.{fault-left}
-use Rattle.grammar_machine.proofs.OneTokenLookahead.{Firm, firm-shift, firm-close}
-use Rattle.grammar_machine.proofs.Steps.{goes, sticks, goes-move, closes-move, sticks-move, misses-fires, misses}
-use Rattle.parser_rules.specs.State.{State, Lexeme, second, flush, opened, closed, moved, bump, is_deep, add_all}
-use Rattle.parser_rules.specs.State.{read_on}
-use Rattle.parser_rules.specs.Nodes.{Node, symbol as symbol_of, kind_of}
-use Rattle.parser_rules.proofs.runs.Frame.{Untouched, read-untouched}
-use Rattle.parser_rules.proofs.soundness.WithoutIgnored.{Stack, stack, put, stack-leaf, stack-finish, stack-flush}
-use Rattle.parser_rules.proofs.reports.NoReport.{Now, choose, EndsWell, rest, answers_tokens, current_tokens, AtToken}
-use Rattle.parser_rules.proofs.reports.NoReport.{end-or-token, given, passed-one, Held, read-on}
-use Rattle.parser_rules.proofs.soundness.FirstReport.{Stuck, TooMany, no_token}
+use Rattle.grammar_machine.specs.Symbols.{TYPE}
+use Rattle.parser_rules.proofs.NodeChecks.{node-passes}
 use Rattle.parser_rules.proofs.lookahead.MachineClasses.{Next, sees-next}
 use Rattle.parser_rules.proofs.lookahead.Split.{Level, Certainty, Nothing, OpenWhateverFollows, AtLimit, Position}
 use Rattle.parser_rules.proofs.lookahead.Split.{in_row, machine_is_stuck, at_start}
-use Rattle.parser_rules.proofs.runs.Reading.{second-shown, reading, found}
 use Rattle.parser_rules.proofs.lookahead.TokenSets.{edges, class_of, of-any, over, Seen, seen-any}
+use Rattle.parser_rules.proofs.reports.NoReport.{Now, choose, EndsWell, rest, answers_tokens, current_tokens, AtToken}
+use Rattle.parser_rules.proofs.reports.NoReport.{end-or-token, given, passed-one, Held, read-on}
+use Rattle.parser_rules.proofs.runs.Frame.{Untouched, read-untouched}
+use Rattle.parser_rules.proofs.runs.Reading.{second-shown, reading, found}
+use Rattle.parser_rules.proofs.soundness.FirstReport.{Stuck, TooMany, no_token}
 use Rattle.parser_rules.proofs.soundness.MachineStack.{image, image-some, shows-snoc, put-image, image-node, lay}
 use Rattle.parser_rules.proofs.soundness.MachineStack.{lay-put}
-use Rattle.parser_rules.proofs.soundness.Settled.{Fitting, settled-at}
-use Rattle.parser_rules.proofs.soundness.TableCheck.{Then, absent_as_end, level_entered, counts_itself, only_root}
-use Rattle.parser_rules.proofs.soundness.TableCheck.{levels_agree, leaf_of, may_be_cut_off, takes_token, ends_at}
-use Rattle.parser_rules.proofs.soundness.TableCheck.{after_node, after_inlined, after_stuck_node, all_counted}
-use Rattle.parser_rules.proofs.soundness.TableCheck.{may_report_limit, may_report, is_node, node_may_end, follows_table}
-use Rattle.parser_rules.proofs.soundness.TableCheck.{no_brace, exit_is_right, goes_deeper}
-use Rattle.parser_rules.proofs.NodeChecks.{node-passes}
 use Rattle.parser_rules.proofs.soundness.Positions.{ParserInput, OnlyBuilds, opened-builds, closed-builds, unread-rest}
 use Rattle.parser_rules.proofs.soundness.Positions.{unread-grows, top, MachineIsAt, OpenNodesAgree, StuckUnreported}
 use Rattle.parser_rules.proofs.soundness.Positions.{CertaintyHolds, PositionHolds, ReportIsRight, NoReportYet}
@@ -59,6 +49,16 @@ use Rattle.parser_rules.proofs.soundness.Positions.{RightlyReported, Made, State
 use Rattle.parser_rules.proofs.soundness.Positions.{certainly-open, start_begins, shown, spent-before, fitting}
 use Rattle.parser_rules.proofs.soundness.Positions.{agree-taken, unread-stuck, leveled-leaf, leveled-begin, leveled-end}
 use Rattle.parser_rules.proofs.soundness.Positions.{still-leveled, moved-on}
+use Rattle.parser_rules.proofs.soundness.Settled.{Fitting, settled-at}
+use Rattle.parser_rules.proofs.soundness.TableCheck.{Then, absent_as_end, level_entered, counts_itself, only_root}
+use Rattle.parser_rules.proofs.soundness.TableCheck.{levels_agree, leaf_of, may_be_cut_off, takes_token, ends_at}
+use Rattle.parser_rules.proofs.soundness.TableCheck.{after_node, after_inlined, after_stuck_node, all_counted}
+use Rattle.parser_rules.proofs.soundness.TableCheck.{may_report_limit, may_report, is_node, node_may_end, follows_table}
+use Rattle.parser_rules.proofs.soundness.TableCheck.{no_brace, exit_is_right, goes_deeper}
+use Rattle.parser_rules.proofs.soundness.WithoutIgnored.{Stack, stack, put, stack-leaf, stack-finish, stack-flush}
+use Rattle.parser_rules.specs.Nodes.{Node, symbol as symbol_of, kind_of}
+use Rattle.parser_rules.specs.State.{State, Lexeme, second, flush, opened, closed, moved, bump, is_deep, add_all}
+use Rattle.parser_rules.specs.State.{read_on}
 
 module _ (R : ParserInput) where
   open R use {sort, answers, limit as lim, words as w}

@@ -1,50 +1,50 @@
 -- A run over a text: a sentence within both limits gets no report, and where the first report is, the text before
 -- begins a sentence.
-use Rattle.std.proofs.lemmas.Bool.{and_parts, and_from}
-use Rattle.grammar_machine.proofs.TableLemmas.{head-same, tail-same, no-cons}
-use Rattle.document_grammar.specs.Numbered.{tree_of}
-use Rattle.document_grammar.specs.Placed.{bare}
-use Rattle.grammar_machine.proofs.Starts.{read, next_one, next_two}
 use Rattle.std.proofs.Common.{◌≡◌, ℕ, zero, suc, ◌≤◌, ◌+◌, length, Bool, true, false, List, [], ◌∷◌, ◌++◌, Some, None}
 use Rattle.std.proofs.Common.{refl, sym, ap, ap₂, ◌∙◌, subst, inl, inr, true≢false, arith, is_some, ◌-◌, ◌⊎◌}
+use Rattle.std.proofs.lemmas.Bool.{and_parts, and_from}
+use Rattle.std.proofs.lemmas.List.{map-append, length-append}
 use Rattle.std.specs.Prelude.{map, take}
 use Rattle.std.specs.Str.{IsUtf8}
-use Rattle.std.proofs.lemmas.List.{map-append, length-append}
-use Rattle.grammar_machine.proofs.SentenceTheorems.{not-starts, read-map, two-terminals, one-sentence}
-use Rattle.lexical_grammar.specs.Cut.{Item, Cut, texts, Significant, significant_word, are_tokens}
 use Rattle.lexical_grammar.proofs.Limited.{limited-end}
 use Rattle.lexical_grammar.specs.Answers.{Answer, gives, limited, is_token, limit_at, limit_index, is_end, answers_text}
-use Rattle.document_grammar.specs.declared.kind.SyntaxKind.TheVariants as kind
-use Rattle.document_grammar.specs.Derivation.{Sort, document, Spells, Terminal, word, terminals}
+use Rattle.lexical_grammar.specs.Cut.{Item, Cut, texts, Significant, significant_word, are_tokens}
+use Rattle.document_grammar.proofs.Booleans.{and-i, and-l, and-r, either, not-some}
+use Rattle.document_grammar.proofs.Texts.{one-cut, sentence-starts, sentence-starts-within}
 use Rattle.document_grammar.specs.Beginnings.{Starts, StartsWithin}
+use Rattle.document_grammar.specs.Derivation.{Sort, document, Spells, Terminal, word, terminals}
+use Rattle.document_grammar.specs.Forests as built
+use Rattle.document_grammar.specs.Numbered.{tree_of}
+use Rattle.document_grammar.specs.Placed.{bare}
 use Rattle.document_grammar.specs.Sentence.{token_of, Sentence, Within, Begins, StartSentence, StartSentenceWithin}
 use Rattle.document_grammar.specs.Sentence.{leaf_number, tokens_of}
 use Rattle.document_grammar.specs.Tree.{Token, Tree}
-use Rattle.document_grammar.proofs.Booleans.{and-i, and-l, and-r, either, not-some}
+use Rattle.document_grammar.specs.declared.kind.SyntaxKind.TheVariants as kind
 use Rattle.grammar_machine.proofs.Beginnings.{begins-text}
-use Rattle.document_grammar.proofs.Texts.{one-cut, sentence-starts, sentence-starts-within}
-use Rattle.parser_rules.specs.Open.{IsRoot}
-use Rattle.parser_rules.specs.Nodes.{Document}
-use Rattle.parser_rules.specs.RuleLanguage.{Call}
-use Rattle.parser_rules.specs.Runs.{Runs}
-use Rattle.parser_rules.specs.declared.message.Message.{Message}
-use Rattle.parser_rules.specs.State.{State, Report, begun, Lexeme, fault_report, recursion_limit_report}
-use Rattle.parser_rules.specs.State.{token_limit_report, bad_report, finished, second, lexeme, add_all, ignored}
+use Rattle.grammar_machine.proofs.SentenceTheorems.{not-starts, read-map, two-terminals, one-sentence}
+use Rattle.grammar_machine.proofs.Starts.{read, next_one, next_two}
+use Rattle.grammar_machine.proofs.TableLemmas.{head-same, tail-same, no-cons}
+use Rattle.parser_rules.proofs.reports.AlongItems.{item_of}
+use Rattle.parser_rules.proofs.reports.Endings.{ends-well}
 use Rattle.parser_rules.proofs.reports.NoReport.{Passed, all_tokens, answers_tokens, item_tokens, report_of}
 use Rattle.parser_rules.proofs.reports.NoReport.{given as given_by, Now, choose, EndsWell, kind_tokens, significant}
 use Rattle.parser_rules.proofs.reports.NoReport.{ignored-tokens, ignored-end}
-use Rattle.parser_rules.proofs.reports.AlongItems.{item_of}
-use Rattle.parser_rules.proofs.reports.Endings.{ends-well}
-use Rattle.document_grammar.specs.Forests as built
-use Rattle.parser_rules.proofs.runs.Reading.{Reading, stops, cuts, bad_text as bad_item, waits, shows, looks}
 use Rattle.parser_rules.proofs.runs.Frame.{add_all-above, added-all}
-use Rattle.parser_rules.proofs.soundness.Settled.{EndedFit, ended-root, settled-added}
-use Rattle.parser_rules.proofs.soundness.Positions.{RightlyReported}
-use Rattle.parser_rules.proofs.soundness.Roots.{input_of}
+use Rattle.parser_rules.proofs.runs.Reading.{Reading, stops, cuts, bad_text as bad_item, waits, shows, looks}
 use Rattle.parser_rules.proofs.soundness.FirstReport.{RightReport, Viable, TokensBefore, stuck_here, deep_here}
 use Rattle.parser_rules.proofs.soundness.FirstReport.{no_token}
+use Rattle.parser_rules.proofs.soundness.Positions.{RightlyReported}
+use Rattle.parser_rules.proofs.soundness.Roots.{input_of}
+use Rattle.parser_rules.proofs.soundness.Settled.{EndedFit, ended-root, settled-added}
 use Rattle.parser_rules.proofs.soundness.Soundness.{given, parsed, accepted, sound, item-words, answers-append}
 use Rattle.parser_rules.proofs.soundness.Soundness.{no-token-words, words-before, viable-begins, not-within-one}
+use Rattle.parser_rules.specs.Nodes.{Document}
+use Rattle.parser_rules.specs.Open.{IsRoot}
+use Rattle.parser_rules.specs.RuleLanguage.{Call}
+use Rattle.parser_rules.specs.Runs.{Runs}
+use Rattle.parser_rules.specs.State.{State, Report, begun, Lexeme, fault_report, recursion_limit_report}
+use Rattle.parser_rules.specs.State.{token_limit_report, bad_report, finished, second, lexeme, add_all, ignored}
+use Rattle.parser_rules.specs.declared.message.Message.{Message}
 
 -- ---- all items are given
 

@@ -2,48 +2,48 @@
 -- levels, and what is known of them; and which reports are right there.
 use Rattle.std.proofs.Common.{◌≡◌, ℕ, suc, ◌+◌, ◌-◌, ◌≤◌, ◌<◌, max, true, false, cond, eqb, List, [], ◌∷◌, ◌++◌, length}
 use Rattle.std.proofs.Common.{Option, Some, None, refl, sym, ap, ap₂, ◌∙◌, subst, ◌⊎◌, eqb-true, arith}
+use Rattle.std.proofs.lemmas.List.{length-append}
 use Rattle.std.specs.Prelude.{⊤}
 use Rattle.lexical_grammar.specs.Answers.{Answer}
-use Rattle.document_grammar.specs.declared.kind.SyntaxKind.{SyntaxKind}
-use Rattle.document_grammar.specs.Kinds.{SELECTION_SET, LIST_TYPE}
-use Rattle.grammar_machine.specs.Symbols.{BARE_SELECTIONS}
-use Rattle.document_grammar.specs.Builds.{Building}
-use Rattle.document_grammar.specs.Tree.{Text, Token, Tree, leaf, node, Forest, none, ◌▸◌, ◌+++◌}
-use Rattle.document_grammar.specs.Booleans.{◌or◌}
-use Rattle.grammar_machine.specs.Machine.{is_leaf, first as first_class, Frame, frame, Reach}
 use Rattle.document_grammar.proofs.Booleans.{false-true, and-l, and-r}
+use Rattle.document_grammar.specs.Booleans.{◌or◌}
+use Rattle.document_grammar.specs.Builds.{Building}
+use Rattle.document_grammar.specs.Derivation.{Sort}
+use Rattle.document_grammar.specs.Kinds.{SELECTION_SET, LIST_TYPE}
+use Rattle.document_grammar.specs.Tree.{Text, Token, Tree, leaf, node, Forest, none, ◌▸◌, ◌+++◌}
+use Rattle.document_grammar.specs.declared.kind.SyntaxKind.{SyntaxKind}
 use Rattle.grammar_machine.proofs.Depth.{depth_above, nesting_all, peak, peak-open, peak-close, peak-shift}
-use Rattle.grammar_machine.proofs.Sound.{spent, reach-sound, reach-spent}
 use Rattle.grammar_machine.proofs.MachineTheorems.{begins_parse, no-leaf as start-no-leaf}
 use Rattle.grammar_machine.proofs.Makes.{Makes}
-use Rattle.grammar_machine.proofs.Starts.{opens}
 use Rattle.grammar_machine.proofs.OneTokenLookahead.{Firm}
-use Rattle.document_grammar.specs.Derivation.{Sort}
 use Rattle.grammar_machine.proofs.SentenceTheorems.{start_symbol}
-use Rattle.std.proofs.lemmas.List.{length-append}
-use Rattle.parser_rules.specs.declared.message.Message.{Message}
-use Rattle.parser_rules.specs.State.{State, PendingToken, Lexeme, Report, fault_report, recursion_limit_report, note}
-use Rattle.parser_rules.specs.State.{flush, opened, closed, wrapped_from, is_deep, leave, too_deep}
-use Rattle.parser_rules.specs.RuleLanguage.{Prim, Rule}
-use Rattle.parser_rules.specs.Runs.{Runs}
-use Rattle.parser_rules.proofs.runs.Steps.{along}
-use Rattle.parser_rules.proofs.runs.Reporting.{note-is, too_deep-is}
-use Rattle.parser_rules.proofs.runs.Frame.{adds, added-all}
-use Rattle.parser_rules.proofs.runs.TreesWithSources.{reports-along, reports-same}
-use Rattle.parser_rules.proofs.soundness.WithoutIgnored.{all_ignored, stack}
-use Rattle.parser_rules.proofs.reports.NoReport.{Now, rest, answers_tokens, current_tokens, Grows, Stays, Held}
-use Rattle.parser_rules.proofs.reports.NoReport.{FirstReportIsRight, first-right-on, first-right, NothingReported}
-use Rattle.parser_rules.proofs.soundness.FirstReport.{Stuck, TooMany, TokensBefore, RightReport, stuck_here, deep_here}
+use Rattle.grammar_machine.proofs.Sound.{spent, reach-sound, reach-spent}
+use Rattle.grammar_machine.proofs.Starts.{opens}
+use Rattle.grammar_machine.specs.Machine.{is_leaf, first as first_class, Frame, frame, Reach}
+use Rattle.grammar_machine.specs.Symbols.{BARE_SELECTIONS}
 use Rattle.parser_rules.proofs.lookahead.Split.{Level, NotEntered, Entered, Left, Certainty, Nothing}
 use Rattle.parser_rules.proofs.lookahead.Split.{OpenWhateverFollows, AtLimit, Position, in_row, machine_is_stuck}
 use Rattle.parser_rules.proofs.lookahead.Split.{with_limit_known}
-use Rattle.parser_rules.proofs.runs.Reading.{Shown}
 use Rattle.parser_rules.proofs.lookahead.TokenSets.{Seen, seen-same}
+use Rattle.parser_rules.proofs.reports.NoReport.{Now, rest, answers_tokens, current_tokens, Grows, Stays, Held}
+use Rattle.parser_rules.proofs.reports.NoReport.{FirstReportIsRight, first-right-on, first-right, NothingReported}
+use Rattle.parser_rules.proofs.runs.Frame.{adds, added-all}
+use Rattle.parser_rules.proofs.runs.Reading.{Shown}
+use Rattle.parser_rules.proofs.runs.Reporting.{note-is, too_deep-is}
+use Rattle.parser_rules.proofs.runs.Steps.{along}
+use Rattle.parser_rules.proofs.runs.TreesWithSources.{reports-along, reports-same}
+use Rattle.parser_rules.proofs.soundness.FirstReport.{Stuck, TooMany, TokensBefore, RightReport, stuck_here, deep_here}
 use Rattle.parser_rules.proofs.soundness.MachineStack.{image}
 use Rattle.parser_rules.proofs.soundness.Settled.{Settled, Fitting, fitting-image, settled-at, settled-added}
 use Rattle.parser_rules.proofs.soundness.Settled.{settled-start, settled-finish, settled-wrap}
 use Rattle.parser_rules.proofs.soundness.TableCheck.{Then, level_entered, counts_itself, only_root, level_due}
 use Rattle.parser_rules.proofs.soundness.TableCheck.{open_whatever_follows, limit_forgotten, levels_agree}
+use Rattle.parser_rules.proofs.soundness.WithoutIgnored.{all_ignored, stack}
+use Rattle.parser_rules.specs.RuleLanguage.{Prim, Rule}
+use Rattle.parser_rules.specs.Runs.{Runs}
+use Rattle.parser_rules.specs.State.{State, PendingToken, Lexeme, Report, fault_report, recursion_limit_report, note}
+use Rattle.parser_rules.specs.State.{flush, opened, closed, wrapped_from, is_deep, leave, too_deep}
+use Rattle.parser_rules.specs.declared.message.Message.{Message}
 
 -- ---- levels, on plain numbers
 

@@ -3,38 +3,38 @@ use Rattle.std.proofs.Common.{◌≡◌, ℕ, ◌≤◌, true, false, eqb, List,
 use Rattle.std.proofs.Common.{◌⊎◌, inl, inr, arith}
 use Rattle.lexical_grammar.specs.Answers.{Answer, is_token}
 use Rattle.document_grammar.proofs.Booleans.{false-true, and-l, and-r}
+use Rattle.document_grammar.specs.Builds.{Building, nothing, start as start_node}
+use Rattle.document_grammar.specs.Derivation.{Sort, Spells, nest}
+use Rattle.document_grammar.specs.Kinds.{DOCUMENT}
+use Rattle.document_grammar.specs.Numbers.{number}
+use Rattle.document_grammar.specs.Tree.{Token, Tree, node, Forest, none}
 use Rattle.document_grammar.specs.declared.kind.SyntaxKind.{SyntaxKind}
 use Rattle.document_grammar.specs.declared.kind.SyntaxKind.TheVariants as kind
-use Rattle.document_grammar.specs.Numbers.{number}
-use Rattle.document_grammar.specs.Kinds.{DOCUMENT}
-use Rattle.document_grammar.specs.Tree.{Token, Tree, node, Forest, none}
-use Rattle.document_grammar.specs.Derivation.{Sort, Spells, nest}
-use Rattle.grammar_machine.specs.Symbols.{TYPE}
-use Rattle.document_grammar.specs.Builds.{Building, nothing, start as start_node}
-use Rattle.grammar_machine.specs.Machine.{yields, frame, Reach, start, close as closes_move}
 use Rattle.grammar_machine.proofs.Depth.{count_in, nesting_all, nest-show, peak-end, peak-start}
 use Rattle.grammar_machine.proofs.FromMachineTree.{show}
-use Rattle.grammar_machine.proofs.Makes.{made, makes-from}
 use Rattle.grammar_machine.proofs.MachineTheorems.{Parse, done}
+use Rattle.grammar_machine.proofs.Makes.{made, makes-from}
 use Rattle.grammar_machine.proofs.Patterns.{label}
 use Rattle.grammar_machine.proofs.Run.{next}
 use Rattle.grammar_machine.proofs.SentenceTheorems.{start_symbol, sentence-parse, accepts, sound as ended_sound}
 use Rattle.grammar_machine.proofs.SentenceTheorems.{sound-all}
 use Rattle.grammar_machine.proofs.Sound.{any}
-use Rattle.parser_rules.specs.State.{State, Report, read_on, fresh}
-use Rattle.parser_rules.proofs.runs.Frame.{Untouched, read-untouched}
-use Rattle.parser_rules.proofs.runs.Reading.{reading}
+use Rattle.grammar_machine.specs.Machine.{yields, frame, Reach, start, close as closes_move}
+use Rattle.grammar_machine.specs.Symbols.{TYPE}
+use Rattle.parser_rules.proofs.lookahead.Split.{Level, NotEntered, at_root_start}
+use Rattle.parser_rules.proofs.lookahead.TokenSets.{seen-any}
 use Rattle.parser_rules.proofs.reports.NoReport.{answers_tokens, all_tokens, rest, given as given_by, EndsWell}
 use Rattle.parser_rules.proofs.reports.NoReport.{WouldBeRight, read-on}
-use Rattle.parser_rules.proofs.lookahead.TokenSets.{seen-any}
-use Rattle.parser_rules.proofs.lookahead.Split.{Level, NotEntered, at_root_start}
-use Rattle.parser_rules.proofs.soundness.WithoutIgnored.{stack}
-use Rattle.parser_rules.proofs.soundness.MachineStack.{image, image-node}
-use Rattle.parser_rules.proofs.soundness.Settled.{Settled, settled-at}
-use Rattle.parser_rules.proofs.soundness.TableCheck.{counts_itself, level_due}
+use Rattle.parser_rules.proofs.runs.Frame.{Untouched, read-untouched}
+use Rattle.parser_rules.proofs.runs.Reading.{reading}
 use Rattle.parser_rules.proofs.soundness.FirstReport.{RightReport, stuck_here, deep_here, no_token}
+use Rattle.parser_rules.proofs.soundness.MachineStack.{image, image-node}
 use Rattle.parser_rules.proofs.soundness.Positions.{ParserInput, top, start_begins, Leveled, MachineIsAt, PositionHolds}
 use Rattle.parser_rules.proofs.soundness.Positions.{StateFits, RightlyReported, ReportIsRight, shown, fitting}
+use Rattle.parser_rules.proofs.soundness.Settled.{Settled, settled-at}
+use Rattle.parser_rules.proofs.soundness.TableCheck.{counts_itself, level_due}
+use Rattle.parser_rules.proofs.soundness.WithoutIgnored.{stack}
+use Rattle.parser_rules.specs.State.{State, Report, read_on, fresh}
 
 -- all the answers, to a parser with nothing reported
 abbrev pub input_of : Sort → ℕ → List Answer → ParserInput

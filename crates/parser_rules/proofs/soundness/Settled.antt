@@ -1,29 +1,29 @@
 -- The nodes of a tree that end before a number of tokens fit their rows; and what an unfinished tree keeps of it,
 -- whatever is built later.
-use Rattle.std.specs.Prelude.{⊤}
 use Rattle.std.proofs.Common.{◌≡◌, ℕ, ◌+◌, ◌-◌, ◌<◌, ◌≤◌, Bool, true, false, cond, ltb, eqb, List, [], ◌∷◌, ◌++◌}
 use Rattle.std.proofs.Common.{length, refl, sym, ap, ap₂, ◌∙◌, subst, inl, inr, arith}
 use Rattle.std.proofs.lemmas.List.{length-append}
-use Rattle.document_grammar.specs.declared.kind.SyntaxKind.{SyntaxKind}
-use Rattle.document_grammar.specs.Kinds.{ERROR}
-use Rattle.document_grammar.specs.Numbers.{number}
-use Rattle.document_grammar.specs.Forests as built
-use Rattle.document_grammar.specs.Builds.{Building, Open, start, close, finish, wrap, front, back, open_count}
-use Rattle.document_grammar.specs.Numbered.{numbered}
-use Rattle.document_grammar.specs.Tree.{Token, leaf, node, Forest, none, ◌▸◌, ◌+++◌, root}
-use Rattle.document_grammar.specs.Derivation.{Yields, Fits, AllFit}
-use Rattle.document_grammar.proofs.Booleans.{either}
+use Rattle.std.specs.Prelude.{⊤}
 use Rattle.document_grammar.proofs.Added.{Added}
-use Rattle.document_grammar.proofs.Trimmed.{fits-tail}
+use Rattle.document_grammar.proofs.Booleans.{either}
 use Rattle.document_grammar.proofs.Built.{Yields-append, Yields-bares, join-front_back}
-use Rattle.grammar_machine.specs.Symbols.{TYPE}
-use Rattle.grammar_machine.specs.Machine.{is_leaf, target, finish as leaves_behind, Frame, frame, Path, yields}
-use Rattle.grammar_machine.proofs.ShownDerivation.{path-fits, show-yield}
-use Rattle.grammar_machine.proofs.Patterns.{label}
+use Rattle.document_grammar.proofs.Trimmed.{fits-tail}
+use Rattle.document_grammar.specs.Builds.{Building, Open, start, close, finish, wrap, front, back, open_count}
+use Rattle.document_grammar.specs.Derivation.{Yields, Fits, AllFit}
+use Rattle.document_grammar.specs.Forests as built
+use Rattle.document_grammar.specs.Kinds.{ERROR}
+use Rattle.document_grammar.specs.Numbered.{numbered}
+use Rattle.document_grammar.specs.Numbers.{number}
+use Rattle.document_grammar.specs.Tree.{Token, leaf, node, Forest, none, ◌▸◌, ◌+++◌, root}
+use Rattle.document_grammar.specs.declared.kind.SyntaxKind.{SyntaxKind}
 use Rattle.grammar_machine.proofs.FromMachineTree.{shows}
+use Rattle.grammar_machine.proofs.Patterns.{label}
+use Rattle.grammar_machine.proofs.ShownDerivation.{path-fits, show-yield}
 use Rattle.grammar_machine.proofs.Sound.{Sound, spent}
-use Rattle.parser_rules.proofs.soundness.WithoutIgnored.{Stack, IsLayered, stack, layers, strip, put}
+use Rattle.grammar_machine.specs.Machine.{is_leaf, target, finish as leaves_behind, Frame, frame, Path, yields}
+use Rattle.grammar_machine.specs.Symbols.{TYPE}
 use Rattle.parser_rules.proofs.soundness.MachineStack.{image, image-some, lay}
+use Rattle.parser_rules.proofs.soundness.WithoutIgnored.{Stack, IsLayered, stack, layers, strip, put}
 
 -- how many leaves are not ignored
 abbrev pub tokens : built.Forest → ℕ

@@ -11,38 +11,43 @@
 -- `state_fits` says that the first of them fits, and `h` is the check.
 use Rattle.std.proofs.Common.{◌≡◌, ℕ, zero, suc, ◌+◌, ◌<◌, max, Bool, true, false, cond, eqb, List, [], ◌∷◌, refl, sym}
 use Rattle.std.proofs.Common.{ap, ◌∙◌, subst, inl, inr, eqb-true, leb-false}
+use Rattle.std.specs.Prelude.{⊤}
 use Rattle.lexical_grammar.specs.declared.TokenKind.TheVariants as token
-use Rattle.document_grammar.specs.declared.kind.SyntaxKind.TheVariants as kind
-use Rattle.document_grammar.specs.Kinds.{BANG, NON_NULL_TYPE}
-use Rattle.grammar_machine.specs.Symbols.{TYPE}
-use Rattle.document_grammar.specs.Builds.{built_count}
-use Rattle.document_grammar.specs.Tree.{Text, Tree, leaf, node, Forest, none, ◌▸◌, ◌+++◌}
-use Rattle.document_grammar.specs.Booleans.{◌and◌}
-use Rattle.grammar_machine.specs.Machine.{holds as within, is_leaf, exit, target, Frame, frame, Path}
 use Rattle.document_grammar.proofs.Booleans.{either, false-true, and-l, and-r, or-c, not-c}
+use Rattle.document_grammar.specs.Booleans.{◌and◌}
+use Rattle.document_grammar.specs.Builds.{built_count}
+use Rattle.document_grammar.specs.Kinds.{BANG, NON_NULL_TYPE}
+use Rattle.document_grammar.specs.Tree.{Text, Tree, leaf, node, Forest, none, ◌▸◌, ◌+++◌}
+use Rattle.document_grammar.specs.declared.kind.SyntaxKind.TheVariants as kind
 use Rattle.grammar_machine.proofs.Checks.{subset}
 use Rattle.grammar_machine.proofs.Depth.{nesting_all}
 use Rattle.grammar_machine.proofs.FromMachineTree.{shows, show}
-use Rattle.grammar_machine.proofs.Sound.{any, reach-sound}
 use Rattle.grammar_machine.proofs.MachineTheorems.{no-leaf as start-no-leaf}
-use Rattle.std.specs.Prelude.{⊤}
-use Rattle.parser_rules.specs.State.{State, flush, opened, closed, wrapped_from, bump, is_deep, enter, leave}
-use Rattle.parser_rules.specs.Nodes.{Node, symbol as symbol_of, kind_of}
-use Rattle.parser_rules.specs.RuleLanguage.{Test, At, holds, Prim, Bump, Note, step, Rule, While, Nested}
-use Rattle.parser_rules.specs.Rules.{inside, body}
-use Rattle.parser_rules.specs.Runs.{Runs, skip, does, seq, yes, no, done, again, child, limited, deeper, refused, call}
-use Rattle.parser_rules.specs.Runs.{plain, wrapped}
-use Rattle.parser_rules.proofs.runs.Fuel.{rules_deep}
-use Rattle.parser_rules.proofs.runs.Frame.{Adds, adds}
-use Rattle.parser_rules.proofs.soundness.WithoutIgnored.{put-none, Stack, stack, put, stack-finish}
-use Rattle.parser_rules.proofs.reports.NoReport.{rest, Grows, grows-on}
+use Rattle.grammar_machine.proofs.Sound.{any, reach-sound}
+use Rattle.grammar_machine.specs.Machine.{holds as within, is_leaf, exit, target, Frame, frame, Path}
+use Rattle.grammar_machine.specs.Symbols.{TYPE}
+use Rattle.parser_rules.proofs.NodeChecks.{node-passes}
+use Rattle.parser_rules.proofs.lookahead.FirstSets.{first_of, second_of, inlined}
 use Rattle.parser_rules.proofs.lookahead.MachineClasses.{sees-next}
 use Rattle.parser_rules.proofs.lookahead.Split.{Level, NotEntered, Entered, Left, Certainty, Nothing}
 use Rattle.parser_rules.proofs.lookahead.Split.{OpenWhateverFollows, AtLimit, Position, in_row, machine_is_stuck}
 use Rattle.parser_rules.proofs.lookahead.Split.{with_limit_known, divide, divide-at, at_start}
 use Rattle.parser_rules.proofs.lookahead.TokenSets.{class_of, seen-more, near-at}
-use Rattle.parser_rules.proofs.lookahead.FirstSets.{first_of, second_of, inlined}
+use Rattle.parser_rules.proofs.reports.NoReport.{rest, Grows, grows-on}
+use Rattle.parser_rules.proofs.runs.Frame.{Adds, adds}
+use Rattle.parser_rules.proofs.runs.Fuel.{rules_deep}
 use Rattle.parser_rules.proofs.soundness.MachineStack.{image, image-some, image-plain, show-bang, stack-wrap}
+use Rattle.parser_rules.proofs.soundness.Moves.{next-classes, stuck-at, report-right, made-passes, goes-deeper}
+use Rattle.parser_rules.proofs.soundness.Moves.{too-many, flushed, Shaped, token-taken, bump-outcome, begun, node-begun}
+use Rattle.parser_rules.proofs.soundness.Moves.{ended, inlined-ended, rightly-closed, with-sets, node-outcome}
+use Rattle.parser_rules.proofs.soundness.Moves.{inlined-outcome, stuck-outcome}
+use Rattle.parser_rules.proofs.soundness.Positions.{ParserInput, unread-rest, OnlyBuilds, same-builds, flush-builds}
+use Rattle.parser_rules.proofs.soundness.Positions.{opened-builds, closed-builds, wrapped-builds, renested}
+use Rattle.parser_rules.proofs.soundness.Positions.{leave-unread, unread-seen, unread-grows, run-grows, top, Made}
+use Rattle.parser_rules.proofs.soundness.Positions.{OpenNodesAgree, PositionHolds, StateFits, Continues, RunOutcome}
+use Rattle.parser_rules.proofs.soundness.Positions.{rightly-on, limit-known-holds, certainty-forgotten, start_begins}
+use Rattle.parser_rules.proofs.soundness.Positions.{unread-no-report, shown, note-rightly, limit-rightly, taken-at}
+use Rattle.parser_rules.proofs.soundness.Positions.{unread-stuck, leveled-enter, leveled-leave, still-leveled, moved-on}
 use Rattle.parser_rules.proofs.soundness.Settled.{fitting-image, fitting-path}
 use Rattle.parser_rules.proofs.soundness.TableCheck.{LoopState, most_turns, Then, same_level, same_certainty}
 use Rattle.parser_rules.proofs.soundness.TableCheck.{limit_forgotten, same_position, covered, turns, levels_agree}
@@ -51,18 +56,13 @@ use Rattle.parser_rules.proofs.soundness.TableCheck.{after_inlined, after_stuck_
 use Rattle.parser_rules.proofs.soundness.TableCheck.{child_at, may_report_limit, enters_level, after_type, type_at}
 use Rattle.parser_rules.proofs.soundness.TableCheck.{keeps_to_table, node_may_end, follows_table, bang_follows}
 use Rattle.parser_rules.proofs.soundness.TableCheck.{no_bang_follows}
-use Rattle.parser_rules.proofs.NodeChecks.{node-passes}
-use Rattle.parser_rules.proofs.soundness.Positions.{ParserInput, unread-rest, OnlyBuilds, same-builds, flush-builds}
-use Rattle.parser_rules.proofs.soundness.Positions.{opened-builds, closed-builds, wrapped-builds, renested}
-use Rattle.parser_rules.proofs.soundness.Positions.{leave-unread, unread-seen, unread-grows, run-grows, top, Made}
-use Rattle.parser_rules.proofs.soundness.Positions.{OpenNodesAgree, PositionHolds, StateFits, Continues, RunOutcome}
-use Rattle.parser_rules.proofs.soundness.Positions.{rightly-on, limit-known-holds, certainty-forgotten, start_begins}
-use Rattle.parser_rules.proofs.soundness.Positions.{unread-no-report, shown, note-rightly, limit-rightly, taken-at}
-use Rattle.parser_rules.proofs.soundness.Positions.{unread-stuck, leveled-enter, leveled-leave, still-leveled, moved-on}
-use Rattle.parser_rules.proofs.soundness.Moves.{next-classes, stuck-at, report-right, made-passes, goes-deeper}
-use Rattle.parser_rules.proofs.soundness.Moves.{too-many, flushed, Shaped, token-taken, bump-outcome, begun, node-begun}
-use Rattle.parser_rules.proofs.soundness.Moves.{ended, inlined-ended, rightly-closed, with-sets, node-outcome}
-use Rattle.parser_rules.proofs.soundness.Moves.{inlined-outcome, stuck-outcome}
+use Rattle.parser_rules.proofs.soundness.WithoutIgnored.{put-none, Stack, stack, put, stack-finish}
+use Rattle.parser_rules.specs.Nodes.{Node, symbol as symbol_of, kind_of}
+use Rattle.parser_rules.specs.RuleLanguage.{Test, At, holds, Prim, Bump, Note, step, Rule, While, Nested}
+use Rattle.parser_rules.specs.Rules.{inside, body}
+use Rattle.parser_rules.specs.Runs.{Runs, skip, does, seq, yes, no, done, again, child, limited, deeper, refused, call}
+use Rattle.parser_rules.specs.Runs.{plain, wrapped}
+use Rattle.parser_rules.specs.State.{State, flush, opened, closed, wrapped_from, bump, is_deep, enter, leave}
 
 module _ (R : ParserInput) where
   open R use {words as w}

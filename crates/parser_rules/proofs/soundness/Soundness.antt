@@ -1,68 +1,68 @@
 -- A run of the document's rule over a text: its first report is right; or it reports nothing, and the text is a
 -- sentence within both limits, whose derivation is the tree without its ignored leaves.
-use Rattle.parser_rules.proofs.runs.Fuel.{rules_deep}
-use Rattle.parser_rules.proofs.runs.Steps.{along, turns-along}
 use Rattle.std.proofs.Common.{◌≡◌, ℕ, zero, suc, ◌≤◌, Bool, cond, true, false, List, [], ◌∷◌, ◌++◌, Option, Some, None}
 use Rattle.std.proofs.Common.{if◌then◌else◌, length, refl, sym, ap, ap₂, ◌∙◌, subst, ◌⊎◌, inl, inr, true≢false, is_some}
 use Rattle.std.proofs.Common.{eqb-true, append-nil, append_assoc, arith}
-use Rattle.std.specs.Prelude.{map}
 use Rattle.std.proofs.lemmas.Bool.{and_from}
 use Rattle.std.proofs.lemmas.List.{map-append, append_cancel_right}
-use Rattle.lexical_grammar.specs.declared.TokenKind.{TokenKind}
-use Rattle.lexical_grammar.specs.Cut.{Item, Cut, Significant, significant_word, is_significant_kind, are_tokens}
+use Rattle.std.specs.Prelude.{map}
 use Rattle.lexical_grammar.specs.Answers.{Answer, gives, limit_at, limited, is_token}
-use Rattle.document_grammar.specs.declared.kind.SyntaxKind.TheVariants as kind
-use Rattle.document_grammar.specs.Numbers.{number}
-use Rattle.document_grammar.specs.Kinds.{DOCUMENT}
-use Rattle.document_grammar.specs.Forests as built
-use Rattle.document_grammar.specs.Builds.{Building, Open, close}
-use Rattle.document_grammar.specs.Numbered.{tree_of}
-use Rattle.grammar_machine.proofs.generated.Labels.{labels}
-use Rattle.document_grammar.specs.Pattern.{member}
-use Rattle.document_grammar.specs.Tree.{Token, Tree, node, Forest, none}
-use Rattle.document_grammar.specs.Derivation.{Sort, document, Spells, nest}
+use Rattle.lexical_grammar.specs.Cut.{Item, Cut, Significant, significant_word, is_significant_kind, are_tokens}
+use Rattle.lexical_grammar.specs.declared.TokenKind.{TokenKind}
+use Rattle.document_grammar.proofs.Booleans.{false-true, and-l, and-r}
 use Rattle.document_grammar.specs.Beginnings.{StartsWithin}
+use Rattle.document_grammar.specs.Booleans.{◌and◌, ◌or◌}
+use Rattle.document_grammar.specs.Builds.{Building, Open, close}
+use Rattle.document_grammar.specs.Derivation.{Sort, document, Spells, nest}
+use Rattle.document_grammar.specs.Forests as built
+use Rattle.document_grammar.specs.Kinds.{DOCUMENT}
+use Rattle.document_grammar.specs.Numbered.{tree_of}
+use Rattle.document_grammar.specs.Numbers.{number}
+use Rattle.document_grammar.specs.Pattern.{member}
 use Rattle.document_grammar.specs.Placed.{bare}
 use Rattle.document_grammar.specs.Sentence.{token_of, leaf_number, Sentence, Within}
-use Rattle.document_grammar.specs.Booleans.{◌and◌, ◌or◌}
-use Rattle.grammar_machine.specs.Machine.{holds as within, is_leaf, class, first, opening, second, yields}
-use Rattle.grammar_machine.specs.Machine.{close as closes_move}
-use Rattle.document_grammar.proofs.Booleans.{false-true, and-l, and-r}
-use Rattle.grammar_machine.proofs.TableLemmas.{holds-subset, holds-disjoint, head-same, no-cons}
+use Rattle.document_grammar.specs.Tree.{Token, Tree, node, Forest, none}
+use Rattle.document_grammar.specs.declared.kind.SyntaxKind.TheVariants as kind
 use Rattle.grammar_machine.proofs.Depth.{count_in, nest-show, nesting_all}
-use Rattle.grammar_machine.proofs.SentenceTheorems.{sentence-parse, begins-at}
-use Rattle.grammar_machine.proofs.Patterns.{label}
-use Rattle.grammar_machine.proofs.MachineTheorems.{Parse}
-use Rattle.grammar_machine.proofs.Run.{next}
 use Rattle.grammar_machine.proofs.FromMachineTree.{show, shows}
+use Rattle.grammar_machine.proofs.MachineTheorems.{Parse}
+use Rattle.grammar_machine.proofs.Patterns.{label}
+use Rattle.grammar_machine.proofs.Run.{next}
+use Rattle.grammar_machine.proofs.SentenceTheorems.{sentence-parse, begins-at}
 use Rattle.grammar_machine.proofs.Sound.{any, AllSpelt}
 use Rattle.grammar_machine.proofs.Starts.{first-same, read, next_one, after-one}
 use Rattle.grammar_machine.proofs.Steps.{closes-move}
-use Rattle.parser_rules.specs.State.{State, Lexeme, Report, add_all, fresh, begun, finished}
-use Rattle.parser_rules.specs.Nodes.{Definition, Document}
-use Rattle.parser_rules.specs.RuleLanguage.{Rule, Call, While, Ready, holds}
-use Rattle.parser_rules.specs.Runs.{Runs, Turns}
-use Rattle.parser_rules.specs.Open.{IsRoot}
-use Rattle.parser_rules.proofs.runs.Frame.{Untouched, add_all-above, turned, begun-nesting}
-use Rattle.parser_rules.proofs.soundness.WithoutIgnored.{stack, strip, layers, stack-flush}
+use Rattle.grammar_machine.proofs.TableLemmas.{holds-subset, holds-disjoint, head-same, no-cons}
+use Rattle.grammar_machine.proofs.generated.Labels.{labels}
+use Rattle.grammar_machine.specs.Machine.{holds as within, is_leaf, class, first, opening, second, yields}
+use Rattle.grammar_machine.specs.Machine.{close as closes_move}
+use Rattle.parser_rules.proofs.NodeChecks.{document_passes}
+use Rattle.parser_rules.proofs.lookahead.MachineClasses.{Next}
+use Rattle.parser_rules.proofs.lookahead.Split.{Level, NotEntered, Entered, Left, in_row, machine_is_stuck, at_start}
+use Rattle.parser_rules.proofs.lookahead.TokenSets.{class_of, over, ready, not-zero}
 use Rattle.parser_rules.proofs.reports.NoReport.{NowOrNone, reading-now, now-along, answers_tokens, all_tokens, rest}
 use Rattle.parser_rules.proofs.reports.NoReport.{current_tokens, item_tokens, EndsWell, Now, end-or-token}
 use Rattle.parser_rules.proofs.reports.NoReport.{given as given_by, Held, all_tokens-append}
+use Rattle.parser_rules.proofs.runs.Frame.{Untouched, add_all-above, turned, begun-nesting}
+use Rattle.parser_rules.proofs.runs.Fuel.{rules_deep}
 use Rattle.parser_rules.proofs.runs.Progress.{ready-there}
 use Rattle.parser_rules.proofs.runs.Reading.{reading}
-use Rattle.parser_rules.proofs.lookahead.TokenSets.{class_of, over, ready, not-zero}
-use Rattle.parser_rules.proofs.lookahead.Split.{Level, NotEntered, Entered, Left, in_row, machine_is_stuck, at_start}
-use Rattle.parser_rules.proofs.lookahead.MachineClasses.{Next}
-use Rattle.parser_rules.proofs.soundness.TableCheck.{keeps_to_table, level_entered, counts_itself, level_due}
-use Rattle.parser_rules.proofs.soundness.TableCheck.{absent_as_end, document_may_end, document_follows}
-use Rattle.parser_rules.proofs.NodeChecks.{document_passes}
+use Rattle.parser_rules.proofs.runs.Steps.{along, turns-along}
 use Rattle.parser_rules.proofs.soundness.FirstReport.{Viable, TooMany, RightReport}
+use Rattle.parser_rules.proofs.soundness.Moves.{next-classes}
 use Rattle.parser_rules.proofs.soundness.Positions.{PositionHolds, ParserInput, run-grows, MachineIsAt, StateFits}
 use Rattle.parser_rules.proofs.soundness.Positions.{RunOutcome, RightlyReported, rightly-on}
-use Rattle.parser_rules.proofs.soundness.Moves.{next-classes}
 use Rattle.parser_rules.proofs.soundness.Roots.{input_of, IsRootSymbol, symbol-begins, root-opened, root-starts}
 use Rattle.parser_rules.proofs.soundness.Roots.{root-ended, never-right}
 use Rattle.parser_rules.proofs.soundness.Simulation.{checked, simulation}
+use Rattle.parser_rules.proofs.soundness.TableCheck.{keeps_to_table, level_entered, counts_itself, level_due}
+use Rattle.parser_rules.proofs.soundness.TableCheck.{absent_as_end, document_may_end, document_follows}
+use Rattle.parser_rules.proofs.soundness.WithoutIgnored.{stack, strip, layers, stack-flush}
+use Rattle.parser_rules.specs.Nodes.{Definition, Document}
+use Rattle.parser_rules.specs.Open.{IsRoot}
+use Rattle.parser_rules.specs.RuleLanguage.{Rule, Call, While, Ready, holds}
+use Rattle.parser_rules.specs.Runs.{Runs, Turns}
+use Rattle.parser_rules.specs.State.{State, Lexeme, Report, add_all, fresh, begun, finished}
 
 -- ---- what was answered, where all answers are tokens
 

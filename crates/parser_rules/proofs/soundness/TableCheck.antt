@@ -15,29 +15,29 @@ use Rattle.std.proofs.Common.{ℕ, zero, suc, ◌+◌, ◌^◌, Bool, true, fals
 use Rattle.std.proofs.Common.{bit_or}
 use Rattle.std.specs.Int.Bits.{bit_xor}
 use Rattle.lexical_grammar.specs.declared.TokenKind.TheVariants as token
-use Rattle.document_grammar.specs.declared.kind.SyntaxKind.TheVariants as kind
-use Rattle.document_grammar.specs.Kinds.{ERROR, SELECTION_SET, LIST_TYPE, DOCUMENT, BANG}
-use Rattle.grammar_machine.specs.Symbols.{TYPE, IDENT_FOR_FRAGMENT, IDENT_FOR_ENUM, NAME_FOR_FRAGMENT, NAME_FOR_ENUM}
-use Rattle.grammar_machine.specs.Symbols.{BARE_SELECTIONS}
-use Rattle.document_grammar.specs.Numbers.{number}
 use Rattle.document_grammar.specs.Booleans.{◌and◌, ◌or◌}
-use Rattle.grammar_machine.specs.Machine.{is_leaf, ends, exit, arcs, target}
+use Rattle.document_grammar.specs.Kinds.{ERROR, SELECTION_SET, LIST_TYPE, DOCUMENT, BANG}
+use Rattle.document_grammar.specs.Numbers.{number}
+use Rattle.document_grammar.specs.declared.kind.SyntaxKind.TheVariants as kind
 use Rattle.grammar_machine.proofs.Checks.{subset, disjoint, exits, all_arcs}
-use Rattle.grammar_machine.proofs.Steps.{goes, closes, sticks, misses}
+use Rattle.grammar_machine.proofs.Depth.{count_in}
 use Rattle.grammar_machine.proofs.Patterns.{label}
 use Rattle.grammar_machine.proofs.Sound.{any}
-use Rattle.grammar_machine.proofs.Depth.{count_in}
+use Rattle.grammar_machine.proofs.Steps.{goes, closes, sticks, misses}
+use Rattle.grammar_machine.specs.Machine.{is_leaf, ends, exit, arcs, target}
+use Rattle.grammar_machine.specs.Symbols.{TYPE, IDENT_FOR_FRAGMENT, IDENT_FOR_ENUM, NAME_FOR_FRAGMENT, NAME_FOR_ENUM}
+use Rattle.grammar_machine.specs.Symbols.{BARE_SELECTIONS}
+use Rattle.parser_rules.proofs.lookahead.FirstSets.{without, first_of, second_of, inlined}
+use Rattle.parser_rules.proofs.lookahead.Split.{Level, NotEntered, Entered, Left, Certainty, Nothing}
+use Rattle.parser_rules.proofs.lookahead.Split.{OpenWhateverFollows, AtLimit, Position, in_row, machine_is_stuck}
+use Rattle.parser_rules.proofs.lookahead.Split.{at_start, with_limit_known, divide}
+use Rattle.parser_rules.proofs.lookahead.TokenSets.{absent, over, ready, by_near, kind_set}
+use Rattle.parser_rules.proofs.runs.Fuel.{rules_deep}
 use Rattle.parser_rules.specs.Nodes.{Node, Argument, VariableDefinition, DefaultValue, ListValue, ObjectField}
 use Rattle.parser_rules.specs.Nodes.{InputValueDefinition, symbol as symbol_of, kind_of}
 use Rattle.parser_rules.specs.RuleLanguage.{Prim, Bump, Note, At, Rule, Skip, Do, Seq, When, While, Child, TooDeep}
 use Rattle.parser_rules.specs.RuleLanguage.{Nested, Call, Typed}
 use Rattle.parser_rules.specs.Rules.{inside, body}
-use Rattle.parser_rules.proofs.lookahead.TokenSets.{absent, over, ready, by_near, kind_set}
-use Rattle.parser_rules.proofs.lookahead.Split.{Level, NotEntered, Entered, Left, Certainty, Nothing}
-use Rattle.parser_rules.proofs.lookahead.Split.{OpenWhateverFollows, AtLimit, Position, in_row, machine_is_stuck}
-use Rattle.parser_rules.proofs.lookahead.Split.{at_start, with_limit_known, divide}
-use Rattle.parser_rules.proofs.runs.Fuel.{rules_deep}
-use Rattle.parser_rules.proofs.lookahead.FirstSets.{without, first_of, second_of, inlined}
 
 abbrev pub Then : Type 0
 Then = Position → ℕ → ℕ → Bool

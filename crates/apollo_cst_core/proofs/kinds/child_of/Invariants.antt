@@ -2,8 +2,8 @@ use Rattle.std.proofs.Common.{◌≡◌, find}
 use Rattle.apollo_tree.specs.Children.{child_nodes}
 use Rattle.apollo_tree.specs.References.{node_place}
 use Rattle.apollo_tree.specs.Yields.{rest_nodes}
-use Rattle.apollo_cst_core.specs.Kinds.{is_of_one}
 use Rattle.apollo_cst_core.proofs.kinds.child_of.Given as goal
+use Rattle.apollo_cst_core.specs.Kinds.{is_of_one}
 
 abbrev pub invariant-loop-child : goal.invariant-loop-child
 invariant-loop-child l =

@@ -2,10 +2,10 @@ use Rattle.std.proofs.Common.{◌≡◌, ◌∙◌, ap, sym, subst, None}
 use Rattle.std.specs.Prelude.{string_bytes}
 use Rattle.memchr.specs.Find.{IsFirstByte, is_byte}
 use Rattle.lexical_grammar.specs.Values.{block_string_value}
-use Rattle.apollo_cst_core.specs.Blocks.{raw_of}
 use Rattle.apollo_cst_core.proofs.BlockReads.{raw-plain}
 use Rattle.apollo_cst_core.proofs.StringForms.{if-ok}
 use Rattle.apollo_cst_core.proofs.strings.inside_value.Goals as goal
+use Rattle.apollo_cst_core.specs.Blocks.{raw_of}
 
 pub returns-in-None : goal.returns-in-None
 returns-in-None g c =

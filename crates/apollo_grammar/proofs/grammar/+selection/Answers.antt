@@ -1,14 +1,14 @@
 use Rattle.std.proofs.Common.{◌≡◌, true, refl, sym, ap, subst, arith}
 use Rattle.lexical_grammar.specs.declared.TokenKind.TheVariants as token
 use Rattle.document_grammar.specs.declared.kind.SyntaxKind.TheVariants as kind
-use Rattle.parser_rules.specs.RuleLanguage.{Kind, At, Call, holds}
-use Rattle.parser_rules.specs.Nodes.{Spread}
-use Rattle.parser_rules.specs.State.{State, opened, flush}
-use Rattle.parser_rules.specs.Rules.{selection_start}
-use Rattle.parser_state.specs.Parses.{Parses}
-use Rattle.apollo_grammar.proofs.Looks.{other-at}
 use Rattle.parser_rules.proofs.runs.Frame.{fewer, turned, left, still-at}
 use Rattle.parser_rules.proofs.runs.Progress.{consuming, here-there, taken, opened-takes, entered-left}
+use Rattle.parser_rules.specs.Nodes.{Spread}
+use Rattle.parser_rules.specs.RuleLanguage.{Kind, At, Call, holds}
+use Rattle.parser_rules.specs.Rules.{selection_start}
+use Rattle.parser_rules.specs.State.{State, opened, flush}
+use Rattle.parser_state.specs.Parses.{Parses}
+use Rattle.apollo_grammar.proofs.Looks.{other-at}
 use Rattle.apollo_grammar.proofs.grammar.+selection.Goals as goal
 
 pub field::field-selection_set-requires : goal.field::field-selection_set-requires

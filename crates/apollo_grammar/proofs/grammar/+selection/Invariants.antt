@@ -1,9 +1,9 @@
 use Rattle.std.proofs.Common.{◌+◌, ◌*◌}
+use Rattle.parser_rules.proofs.runs.Frame.{left}
 use Rattle.parser_rules.specs.Nodes.{Selection}
 use Rattle.parser_rules.specs.RuleLanguage.{Here, Call}
 use Rattle.parser_rules.specs.Rules.{selection_start}
 use Rattle.parser_rules.specs.Runs.{Turns}
-use Rattle.parser_rules.proofs.runs.Frame.{left}
 use Rattle.apollo_grammar.proofs.grammar.+selection.Given as goal
 
 abbrev pub decreases-field::field : goal.decreases-field::field

@@ -1,7 +1,7 @@
 use Rattle.std.proofs.Common.{arith}
 use Rattle.std.proofs.lemmas.List.FromFn.{get_or-map-range_with_len}
-use Rattle.apollo_lexer.specs.Starts.{start_of}
 use Rattle.apollo_lexer.proofs.bytes.start_of.Goals as goal
+use Rattle.apollo_lexer.specs.Starts.{start_of}
 
 -- the table says it of each byte
 pub returns : goal.returns

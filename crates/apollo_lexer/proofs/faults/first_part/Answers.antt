@@ -1,9 +1,9 @@
 use Rattle.std.proofs.Common.{◌-◌, Some, arith, drop, eq-eqb, length, take}
 use Rattle.std.proofs.lemmas.Bool.{ne_eqb}
-use Rattle.apollo_lexer.specs.Parts.{or_last}
 use Rattle.apollo_lexer.proofs.BadStrings.{part-open, part-quote, part-slash, good-escape, bad-escape}
 use Rattle.apollo_lexer.proofs.Searches.{backslash-there}
 use Rattle.apollo_lexer.proofs.faults.first_part.Goals as goal
+use Rattle.apollo_lexer.specs.Parts.{or_last}
 
 -- what is neither a quote nor a plain character is a backslash
 pub bad_escape_len-n-requires : goal.bad_escape_len-n-requires

@@ -1,7 +1,7 @@
 use Rattle.std.proofs.Common.{◌≡◌, ◌≤◌, ◌-◌, length, drop}
+use Rattle.apollo_lexer.proofs.faults.last_fault.Given as goal
 use Rattle.apollo_lexer.specs.BadText.{last_fault}
 use Rattle.apollo_lexer.specs.declared.faults.LexFault.TheVariants.{UnterminatedString}
-use Rattle.apollo_lexer.proofs.faults.last_fault.Given as goal
 
 abbrev pub invariant-loop-part : goal.invariant-loop-part
 invariant-loop-part l =

@@ -1,9 +1,9 @@
 use Rattle.std.proofs.Common.{ℕ, bit_and, refl, w8}
 use Rattle.std.proofs.lemmas.Simd.{zip2_splat, zip2_of_maps, length-chunk, chunk-fits}
 use lib.Lanes.{chunk}
-use Rattle.apollo_lexer.specs.Starts.{is_blank_byte}
 use Rattle.apollo_lexer.proofs.LaneRuns.{lanes-run}
 use Rattle.apollo_lexer.proofs.lanes.blank_lanes.Goals as goal
+use Rattle.apollo_lexer.specs.Starts.{is_blank_byte}
 
 -- what is computed of each lane
 pub returns : goal.returns

@@ -1,6 +1,6 @@
 use Rattle.std.proofs.Common.{ap, ◌∙◌, ◌-◌, drop, length, arith}
-use Rattle.lexical_grammar.specs.Reads.{blank_len}
 use Rattle.std.proofs.lemmas.List.{take_all, length-drop}
+use Rattle.lexical_grammar.specs.Reads.{blank_len}
 use Rattle.apollo_lexer.proofs.Blanks.{blanks-more}
 use Rattle.apollo_lexer.proofs.scan.marked_len.Goals as goal
 

@@ -1,12 +1,12 @@
 use Rattle.std.proofs.Common.{◌∙◌, ◌+◌, ◌==◌, if◌then◌else◌, Some, None, ap, sym}
 use Rattle.std.specs.List.{prefix_len}
-use Rattle.lexical_grammar.specs.declared.TokenKind.TheVariants as token
 use Rattle.lexical_grammar.specs.Characters.{is_name_continue}
 use Rattle.lexical_grammar.specs.Reads.{blank_len, blanks_len, number_at, string_at}
-use Rattle.apollo_lexer.specs.declared.bytes.Start.TheVariants.{Name, Number, Quote, NumberSign, Dot, Blank, Punctuator}
-use Rattle.apollo_lexer.specs.declared.bytes.Start.TheVariants.{Other}
+use Rattle.lexical_grammar.specs.declared.TokenKind.TheVariants as token
 use Rattle.apollo_lexer.proofs.Starts.{token-by-start}
 use Rattle.apollo_lexer.proofs.scan.token_at.Goals as goal
+use Rattle.apollo_lexer.specs.declared.bytes.Start.TheVariants.{Name, Number, Quote, NumberSign, Dot, Blank, Punctuator}
+use Rattle.apollo_lexer.specs.declared.bytes.Start.TheVariants.{Other}
 
 pub returns-in-Name : goal.returns-in-Name
 returns-in-Name c =

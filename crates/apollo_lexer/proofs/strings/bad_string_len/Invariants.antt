@@ -1,7 +1,7 @@
 use Rattle.std.proofs.Common.{◌≡◌, ◌-◌, ◌≤◌, length, drop}
-use Rattle.apollo_lexer.specs.StringParts.{read_bad}
 use Rattle.apollo_lexer.proofs.Searches.{longer}
 use Rattle.apollo_lexer.proofs.strings.bad_string_len.Given as goal
+use Rattle.apollo_lexer.specs.StringParts.{read_bad}
 
 abbrev pub invariant-loop-k : goal.invariant-loop-k
 invariant-loop-k l = record {

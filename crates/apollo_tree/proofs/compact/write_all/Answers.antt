@@ -1,9 +1,9 @@
 use Rattle.std.proofs.Common.{map, arith}
 use Rattle.std.proofs.lemmas.List.{length-map}
-use Rattle.apollo_tree.specs.Compact.{compact_record}
 use Rattle.apollo_tree.proofs.Compacts.{next-compact, next-fits}
 use Rattle.apollo_tree.proofs.Filling.{filled-as-far}
 use Rattle.apollo_tree.proofs.compact.write_all.Goals as goal
+use Rattle.apollo_tree.specs.Compact.{compact_record}
 
 pub compact-requires : goal.compact-requires
 compact-requires g c =

@@ -1,7 +1,7 @@
 use Rattle.std.proofs.Common.{◌≡◌, map, take}
+use Rattle.apollo_tree.proofs.compact.write_all.Given as goal
 use Rattle.apollo_tree.specs.Compact.{compact_record}
 use Rattle.apollo_tree.specs.Filled.{filled}
-use Rattle.apollo_tree.proofs.compact.write_all.Given as goal
 
 -- the records that were passed are written
 abbrev pub invariant-loop-index : goal.invariant-loop-index

@@ -1,10 +1,10 @@
 use Rattle.std.proofs.Common.{◌≡◌, ◌/◌, ℕ, map, take, sym, subst}
-use Rattle.std.specs.List.{All}
 use Rattle.std.proofs.lemmas.List.{drop-map, take-map, take_rest}
 use Rattle.std.proofs.lemmas.List.Elements.{All-drop, All-take}
-use Rattle.apollo_tree.specs.Widened.{IsSmall}
+use Rattle.std.specs.List.{All}
 use Rattle.apollo_tree.proofs.Compacts.{in-two}
 use Rattle.apollo_tree.proofs.compact.write_and_free.Goals as goal
+use Rattle.apollo_tree.specs.Widened.{IsSmall}
 
 pub write_all-requires-2 : goal.write_all-requires-2
 write_all-requires-2 g c =

@@ -1,9 +1,9 @@
 use Rattle.std.proofs.Common.{arith, rules, ◌≡◌, ◌<◌, true, subst, length}
-use Rattle.std.specs.List.{All}
 use Rattle.std.proofs.lemmas.List.{take_all}
 use Rattle.std.proofs.lemmas.List.Elements.{All-more}
-use Rattle.c_parsing.specs.Rows.{EndFits}
+use Rattle.std.specs.List.{All}
 use Rattle.c_parsing.proofs.errors.ends_fit.Goals as goal
+use Rattle.c_parsing.specs.Rows.{EndFits}
 
 pub loop-error-preserved : goal.loop-error-preserved
 loop-error-preserved g c =

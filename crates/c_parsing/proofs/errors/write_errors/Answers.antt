@@ -1,8 +1,8 @@
 use Rattle.std.proofs.Common.{arith, ◌∙◌, ◌<◌, sym, subst, length}
-use Rattle.c_parsing.specs.Rows.{EndFits, error_rows}
 use Rattle.apollo_tree.proofs.Filling.{filled-as-far}
 use Rattle.c_parsing.proofs.Messages.{length-error_rows, next-fits, next-offset, next-row}
 use Rattle.c_parsing.proofs.errors.write_errors.Goals as goal
+use Rattle.c_parsing.specs.Rows.{EndFits, error_rows}
 
 pub row_of-requires : goal.row_of-requires
 row_of-requires g c =

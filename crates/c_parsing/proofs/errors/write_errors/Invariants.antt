@@ -1,7 +1,7 @@
 use Rattle.std.proofs.Common.{◌≡◌, length, take}
 use Rattle.apollo_parser.specs.Filled.{filled}
-use Rattle.c_parsing.specs.Rows.{error_rows, messages}
 use Rattle.c_parsing.proofs.errors.write_errors.Given as goal
+use Rattle.c_parsing.specs.Rows.{error_rows, messages}
 
 -- the errors that were passed have their rows
 abbrev pub invariant-loop-index : goal.invariant-loop-index

@@ -1,8 +1,8 @@
 use Rattle.std.proofs.Common.{arith, ◌∙◌, ◌<◌, ap, sym, List, ℕ, length, take}
 use Rattle.apollo_parser.specs.Filled.{filled}
-use Rattle.c_parsing.specs.Rows.{messages}
 use Rattle.c_parsing.proofs.Messages.{next-fits, next-messages, next-offset}
 use Rattle.c_parsing.proofs.errors.write_messages.Goals as goal
+use Rattle.c_parsing.specs.Rows.{messages}
 
 pub overflow_add-at : goal.overflow_add-at
 overflow_add-at g c =

@@ -1,8 +1,8 @@
 use Rattle.std.proofs.Common.{◌≡◌, ◌^◌, arith}
 use Rattle.apollo_lexer.specs.Answers.{answers_left}
-use Rattle.c_parsing.specs.Items.{IsLexed, ItemBuffers}
 use Rattle.c_parsing.proofs.ItemRows.{ends-before, items-written}
 use Rattle.c_parsing.proofs.items.lex_into.Goals as goal
+use Rattle.c_parsing.specs.Items.{IsLexed, ItemBuffers}
 
 pub write_items-requires : goal.write_items-requires
 write_items-requires g c =

@@ -1,17 +1,17 @@
 use Rattle.std.proofs.Common.{arith, ap, sym, ◌∙◌, ◌≡◌, List, ◌∷◌, [], ◌++◌, length, length-append, refl, subst}
-use Rattle.std.specs.Prelude.{map}
 use Rattle.std.proofs.lemmas.List.{length-map}
-use Rattle.apollo_lexer.specs.Answers.{answer_of, answers_left}
-use Rattle.apollo_lexer.specs.LexErrors.{AreLexErrors}
+use Rattle.std.specs.Prelude.{map}
 use Rattle.lexical_grammar.specs.Answers.{Answer}
 use Rattle.apollo_lexer.proofs.Law.{answers-fit}
 use Rattle.apollo_lexer.proofs.Lexing.{lex-error-made}
-use Rattle.c_parsing.specs.declared.rows.ItemRow.{ItemRow}
-use Rattle.c_parsing.specs.Items.{item_row}
+use Rattle.apollo_lexer.specs.Answers.{answer_of, answers_left}
+use Rattle.apollo_lexer.specs.LexErrors.{AreLexErrors}
 use Rattle.apollo_parser.specs.Filled.{filled}
 use Rattle.c_parsing.proofs.ItemRows.{all-given, begun, errors_of, no-token, passed-error, passed-token}
-use Rattle.c_parsing.proofs.items.write_items.Goals.{in-Err+in_ok-to_error+in_ok-push, in_default}
 use Rattle.c_parsing.proofs.items.write_items.Goals as goal
+use Rattle.c_parsing.proofs.items.write_items.Goals.{in-Err+in_ok-to_error+in_ok-push, in_default}
+use Rattle.c_parsing.specs.Items.{item_row}
+use Rattle.c_parsing.specs.declared.rows.ItemRow.{ItemRow}
 
 pub row_of-requires : goal.row_of-requires
 row_of-requires g c = (rw c.in-Some.ensures.steps.answers at c.loop-item.invariant.short).0

@@ -1,8 +1,8 @@
 use Rattle.std.proofs.Common.{◌∙◌, arith, ap, length}
-use Rattle.c_parsing.specs.Outcomes.{IsParse}
 use Rattle.c_parsing.proofs.Messages.{text-within}
 use Rattle.c_parsing.proofs.Outcomes.{of-its-parse}
 use Rattle.c_parsing.proofs.parse.parse_into.Goals as goal
+use Rattle.c_parsing.specs.Outcomes.{IsParse}
 
 pub write_parse-requires : goal.write_parse-requires
 write_parse-requires g c =

@@ -1,7 +1,7 @@
 use Rattle.std.proofs.Common.{◌∙◌}
-use Rattle.c_parsing.specs.Outcomes.{IsSelectionSetParse}
 use Rattle.c_parsing.proofs.Outcomes.{of-its-parse}
 use Rattle.c_parsing.proofs.parse.parse_selection_set_into.Goals as goal
+use Rattle.c_parsing.specs.Outcomes.{IsSelectionSetParse}
 
 pub returns-in-Ok-parse_selection_set : goal.returns-in-Ok-parse_selection_set
 returns-in-Ok-parse_selection_set g c =

@@ -1,7 +1,7 @@
 use Rattle.std.proofs.Common.{◌∙◌}
-use Rattle.c_parsing.specs.Outcomes.{IsTypeParse}
 use Rattle.c_parsing.proofs.Outcomes.{of-its-parse}
 use Rattle.c_parsing.proofs.parse.parse_type_into.Goals as goal
+use Rattle.c_parsing.specs.Outcomes.{IsTypeParse}
 
 pub returns-in-Ok-parse_type : goal.returns-in-Ok-parse_type
 returns-in-Ok-parse_type g c =

@@ -2,9 +2,9 @@ use Rattle.std.proofs.Common.{arith, ap, ◌≡◌, ◌∙◌, ◌≤◌, ◌^�
 use Rattle.apollo_parser.specs.Forests.{text}
 use Rattle.apollo_parser.specs.Order.{order}
 use Rattle.apollo_parser.specs.Parsed.{Parsed}
-use Rattle.c_parsing.specs.Outcomes.{Buffers}
 use Rattle.c_parsing.proofs.Outcomes.{of-no-memory, of-too-long, of-written}
 use Rattle.c_parsing.proofs.parse.write_parse.Goals as goal
+use Rattle.c_parsing.specs.Outcomes.{Buffers}
 
 pub returns-then-element_count : goal.returns-then-element_count
 returns-then-element_count g c = λ source.

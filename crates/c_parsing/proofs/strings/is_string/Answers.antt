@@ -1,7 +1,7 @@
 use Rattle.std.proofs.Common.{◌≡◌, ◌∙◌, ◌∷◌, sym, ap, arith, length, eq-eqb, true, false}
 use Rattle.std.proofs.lemmas.Bool.Decides.{nat_tests}
-use Rattle.apollo_parser.specs.Reads.{items_from}
 use Rattle.apollo_parser.specs.LexerAnswers.{answer_of, answers_left}
+use Rattle.apollo_parser.specs.Reads.{items_from}
 use Rattle.c_parsing.proofs.OneString.{first-answer, is-string, no-error, some-answer, string-token}
 use Rattle.c_parsing.proofs.strings.is_string.Goals as goal
 

@@ -1,8 +1,8 @@
 use Rattle.std.proofs.Common.{◌≡◌, ◌∙◌, sym, false, arith}
 use Rattle.std.proofs.lemmas.Bool.Decides.{nat_tests}
-use Rattle.c_validation.specs.Outcomes.{no_memory, not_a_document, not_utf8}
 use Rattle.c_validation.proofs.Readings.{has-errors, no-errors}
 use Rattle.c_validation.proofs.documents.read_document.Goals as goal
+use Rattle.c_validation.specs.Outcomes.{no_memory, not_a_document, not_utf8}
 
 pub returns-in_default-clause-refusal : goal.returns-in_default-clause-refusal
 returns-in_default-clause-refusal g c = not_utf8 c.in_default.ensures.cases.0

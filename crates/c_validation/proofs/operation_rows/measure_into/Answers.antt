@@ -1,13 +1,13 @@
 use Rattle.std.proofs.Common.{◌≡◌, ◌∙◌, List, ap, length, map, subst, [], ◌∷◌}
-use Rattle.apollo_parser.specs.Filled.{filled}
 use Rattle.apollo_tree.specs.Order.{Place}
+use Rattle.apollo_parser.specs.Filled.{filled}
 use Rattle.validation_names.specs.Definitions.{defined}
 use Rattle.cost_limits.specs.Measures.{AreMeasures, IsMeasureError, Measure, as_measure, everything}
-use Rattle.c_validation.specs.declared.rows.OperationRow.{OperationRow}
-use Rattle.c_validation.specs.Outcomes.{no_memory, root}
-use Rattle.c_validation.specs.Rows.{operation_row}
 use Rattle.c_validation.proofs.Outcomes.{no-measure, of-fault, of-figures}
 use Rattle.c_validation.proofs.operation_rows.measure_into.Goals as goal
+use Rattle.c_validation.specs.Outcomes.{no_memory, root}
+use Rattle.c_validation.specs.Rows.{operation_row}
+use Rattle.c_validation.specs.declared.rows.OperationRow.{OperationRow}
 
 pub returns-in-Err : goal.returns-in-Err
 returns-in-Err g c = no-measure _ _ _ c.in-Err.status _ c.refused.result c.refused.ensures c.in-Err.ensures.refusal

@@ -1,9 +1,9 @@
 use Rattle.std.proofs.Common.{◌≡◌, map, ap, ◌∙◌, option_map, arith}
 use Rattle.apollo_tree.specs.References.{node_place}
 use Rattle.validation_rules.specs.Violations.{as_breach}
-use Rattle.c_validation.specs.Rows.{messages, violation_rows}
 use Rattle.c_validation.proofs.Findings.{found_of, is-found, node_of}
 use Rattle.c_validation.proofs.violation_rows.find_violations.Goals as goal
+use Rattle.c_validation.specs.Rows.{messages, violation_rows}
 
 pub returns : goal.returns
 returns c =

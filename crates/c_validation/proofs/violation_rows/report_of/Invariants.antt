@@ -1,7 +1,7 @@
 use Rattle.std.proofs.Common.{◌≡◌}
-use Rattle.c_validation.specs.Rows.{messages, violation_rows}
 use Rattle.c_validation.proofs.Reports.{first}
 use Rattle.c_validation.proofs.violation_rows.report_of.Given as goal
+use Rattle.c_validation.specs.Rows.{messages, violation_rows}
 
 -- the violations that were passed have their rows and messages
 abbrev pub invariant-loop-violation : goal.invariant-loop-violation

@@ -1,8 +1,8 @@
 use Rattle.std.proofs.Common.{◌∙◌, ap, length}
 use Rattle.apollo_parser.specs.Filled.{filled}
-use Rattle.c_validation.specs.Outcomes.{no_memory}
 use Rattle.c_validation.proofs.Outcomes.{no-validation, of-report}
 use Rattle.c_validation.proofs.violation_rows.validate_into.Goals as goal
+use Rattle.c_validation.specs.Outcomes.{no_memory}
 
 pub returns-in-Err : goal.returns-in-Err
 returns-in-Err c =

@@ -1,7 +1,7 @@
-use Rattle.command_lines.specs.Options.{given_from}
-use Rattle.command_lines.specs.Reading.{as_rows}
 use Rattle.command_lines.proofs.Taking.{goes-on, stays-within}
 use Rattle.command_lines.proofs.options.plan_of.Goals as goal
+use Rattle.command_lines.specs.Options.{given_from}
+use Rattle.command_lines.specs.Reading.{as_rows}
 
 pub loop-index-preserved : goal.loop-index-preserved
 loop-index-preserved g c =

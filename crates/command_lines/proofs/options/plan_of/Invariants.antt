@@ -1,8 +1,8 @@
 use Rattle.std.proofs.Common.{◌≡◌, ◌-◌, ◌≤◌, drop, length}
+use Rattle.command_lines.proofs.options.plan_of.Given as goal
 use Rattle.command_lines.specs.Options.{given_from, nothing_given}
 use Rattle.command_lines.specs.Reading.{as_given, as_rows}
 use Rattle.command_lines.specs.Words.{texts}
-use Rattle.command_lines.proofs.options.plan_of.Given as goal
 
 abbrev pub invariant-loop-index : goal.invariant-loop-index
 invariant-loop-index g l =

@@ -1,12 +1,12 @@
 use Rattle.std.proofs.Common.{◌≡◌, ◌∙◌, ◌+◌, ◌++◌, ◌∷◌, [], map, arith, length, get_or, take, replicate, sym, ap, subst}
 use Rattle.std.proofs.lemmas.Grind.{common_steps}
 use Rattle.std.proofs.lemmas.List.{length-map, take_more}
-use Rattle.cost_figures.proofs.Steps.{idle_first}
 use Rattle.cost_figures.proofs.Expansions.{is_measured, measured-append, one_of, all_at}
+use Rattle.cost_figures.proofs.Steps.{idle_first}
+use Rattle.cost_figures.proofs.walk.measure.Goals as goal
 use Rattle.cost_figures.specs.Counts.{figures_of}
 use Rattle.cost_figures.specs.Outcome.{AreMeasured, none}
 use Rattle.cost_figures.specs.declared.walk.Mark.TheVariants.{Untouched}
-use Rattle.cost_figures.proofs.walk.measure.Goals as goal
 
 pub loop-root-init : goal.loop-root-init
 loop-root-init g c =

@@ -1,7 +1,7 @@
 use Rattle.std.proofs.Common.{map, take}
-use Rattle.cost_figures.specs.Walks.{Idle}
-use Rattle.cost_figures.specs.Outcome.{AreMeasured}
 use Rattle.cost_figures.proofs.walk.measure.Given as goal
+use Rattle.cost_figures.specs.Outcome.{AreMeasured}
+use Rattle.cost_figures.specs.Walks.{Idle}
 
 abbrev pub invariant-loop-root : goal.invariant-loop-root
 invariant-loop-root g l = record {

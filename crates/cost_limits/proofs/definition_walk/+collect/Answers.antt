@@ -3,10 +3,10 @@ use Rattle.std.proofs.lemmas.Grind.{common_steps}
 use Rattle.apollo_tree.specs.Order.{order}
 use Rattle.apollo_tree.specs.References.{node_place}
 use Rattle.apollo_tree.specs.Yields.{rest_nodes}
-use Rattle.cost_limits.specs.Collecting.{number_of}
 use Rattle.cost_limits.proofs.Parts.{in_range, inside-le, left_first, next_later, next_whole, left_on, left_past}
 use Rattle.cost_limits.proofs.Parts.{left_none}
 use Rattle.cost_limits.proofs.definition_walk.+collect.Goals as goal
+use Rattle.cost_limits.specs.Collecting.{number_of}
 
 pub loop-node-init : goal.loop-node-init
 loop-node-init g t c =

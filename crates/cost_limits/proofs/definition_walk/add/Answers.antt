@@ -1,7 +1,7 @@
 use Rattle.validation_names.specs.Sites.{as_located}
-use Rattle.cost_limits.specs.Collecting.{number_of}
 use Rattle.cost_limits.proofs.Parts.{adds_field}
 use Rattle.cost_limits.proofs.definition_walk.add.Goals as goal
+use Rattle.cost_limits.specs.Collecting.{number_of}
 
 pub returns-then-is : goal.returns-then-is
 returns-then-is g c seen h =

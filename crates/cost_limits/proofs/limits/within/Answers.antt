@@ -1,10 +1,10 @@
 use Rattle.std.proofs.Common.{◌≡◌, ◌∙◌, All, map, take, get_or, sym, ap, subst, refl, arith}
 use Rattle.std.proofs.lemmas.List.{get_or-map, length-map, take_all}
 use Rattle.std.proofs.lemmas.List.Elements.{All-more}
-use Rattle.cost_limits.specs.Measures.{as_measure}
-use Rattle.cost_limits.specs.Limits.{IsWithin}
 use Rattle.cost_limits.proofs.Lists.{is_within}
 use Rattle.cost_limits.proofs.limits.within.Goals as goal
+use Rattle.cost_limits.specs.Limits.{IsWithin}
+use Rattle.cost_limits.specs.Measures.{as_measure}
 
 pub returns-in-Some-clause-exceeded : goal.returns-in-Some-clause-exceeded
 returns-in-Some-clause-exceeded c =

@@ -3,10 +3,10 @@ use Rattle.std.proofs.lemmas.List.{map_more, map_push, take_all}
 use Rattle.validation_names.specs.Sites.{as_located}
 use Rattle.validation_names.specs.declared.executables.ExecutableDefinition.{ExecutableDefinition}
 use Rattle.cost_figures.specs.declared.items.Item.{Item}
-use Rattle.cost_limits.specs.Items.{definition_items}
-use Rattle.cost_limits.specs.Collecting.{number_of}
 use Rattle.cost_limits.proofs.Lists.{items_are}
 use Rattle.cost_limits.proofs.measures.all_items.Goals as goal
+use Rattle.cost_limits.specs.Collecting.{number_of}
+use Rattle.cost_limits.specs.Items.{definition_items}
 
 pub loop-definition-preserved : goal.loop-definition-preserved
 loop-definition-preserved g c =

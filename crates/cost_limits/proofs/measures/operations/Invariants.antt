@@ -1,8 +1,8 @@
 use Rattle.std.proofs.Common.{◌≡◌, map, take}
 use Rattle.std.specs.List.{filter}
 use Rattle.validation_names.specs.Definitions.{as_defined}
-use Rattle.cost_limits.specs.Measures.{is_measured, operations}
 use Rattle.cost_limits.proofs.measures.operations.Given as goal
+use Rattle.cost_limits.specs.Measures.{is_measured, operations}
 
 abbrev pub invariant-loop-number : goal.invariant-loop-number
 invariant-loop-number g l = record {

@@ -1,7 +1,7 @@
 use Rattle.std.proofs.Common.{◌≡◌, map, take}
 use Rattle.validation_names.specs.Definitions.{as_defined}
-use Rattle.cost_limits.specs.Measures.{as_measure}
 use Rattle.cost_limits.proofs.measures.paired.Given as goal
+use Rattle.cost_limits.specs.Measures.{as_measure}
 
 abbrev pub invariant-loop-number : goal.invariant-loop-number
 invariant-loop-number g l = record {

@@ -1,10 +1,10 @@
 use Rattle.std.proofs.Common.{◌≡◌, ◌≤◌, [], ◌∷◌, arith, get_or, length, refl, sym, ◌∙◌, ap, drop}
-use Rattle.std.specs.List.{find}
 use Rattle.std.proofs.lemmas.List.{at_drop_more}
 use Rattle.std.proofs.lemmas.List.Elements.{Contains-get_or}
+use Rattle.std.specs.List.{find}
+use Rattle.directed_graph.proofs.cycles.first_return.Goals as goal
 use Rattle.directed_graph.specs.Graph.{HasEdge}
 use Rattle.directed_graph.specs.Reach.{reaches}
-use Rattle.directed_graph.proofs.cycles.first_return.Goals as goal
 
 pub leads_back-requires-clause-edge : goal.leads_back-requires-clause-edge
 leads_back-requires-clause-edge c =

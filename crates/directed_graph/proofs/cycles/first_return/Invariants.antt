@@ -1,8 +1,8 @@
 use Rattle.std.proofs.Common.{◌≡◌, [], ◌∷◌, drop, length}
 use Rattle.std.specs.List.{find}
+use Rattle.directed_graph.proofs.cycles.first_return.Given as goal
 use Rattle.directed_graph.specs.Marks.{AreUnmarked}
 use Rattle.directed_graph.specs.Reach.{first_return, reaches}
-use Rattle.directed_graph.proofs.cycles.first_return.Given as goal
 
 abbrev pub invariant-loop-other : goal.invariant-loop-other
 invariant-loop-other l = record {

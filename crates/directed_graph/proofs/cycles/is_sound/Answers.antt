@@ -1,7 +1,7 @@
 use Rattle.std.proofs.Common.{arith, length, ◌≤◌}
-use Rattle.directed_graph.specs.Parts.{Follows, GoesOut, part_of}
 use Rattle.directed_graph.proofs.SearchLemmas.{in_row}
 use Rattle.directed_graph.proofs.cycles.is_sound.Goals as goal
+use Rattle.directed_graph.specs.Parts.{Follows, GoesOut, part_of}
 
 pub returns-then-goes_out : goal.returns-then-goes_out
 returns-then-goes_out c = λ is.

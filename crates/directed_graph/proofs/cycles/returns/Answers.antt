@@ -1,7 +1,7 @@
 use Rattle.std.proofs.Common.{arith, refl, sym, ◌∙◌, ap}
 use Rattle.std.proofs.lemmas.List.FromFn.{map-range_with_len_more}
-use Rattle.directed_graph.specs.Reach.{first_return}
 use Rattle.directed_graph.proofs.cycles.returns.Goals as goal
+use Rattle.directed_graph.specs.Reach.{first_return}
 
 pub loop-vertex-preserved : goal.loop-vertex-preserved
 loop-vertex-preserved c = record {

@@ -1,8 +1,8 @@
 use Rattle.std.proofs.Common.{◌≡◌, length, map}
 use Rattle.std.specs.List.{range_with_len}
+use Rattle.directed_graph.proofs.cycles.returns.Given as goal
 use Rattle.directed_graph.specs.Marks.{AreUnmarked}
 use Rattle.directed_graph.specs.Reach.{first_return}
-use Rattle.directed_graph.proofs.cycles.returns.Given as goal
 
 abbrev pub invariant-loop-vertex : goal.invariant-loop-vertex
 invariant-loop-vertex l = record {

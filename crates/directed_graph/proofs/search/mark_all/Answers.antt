@@ -1,6 +1,6 @@
 use Rattle.std.proofs.Common.{arith, length, ◌≡◌, ◌<◌, get_or}
-use Rattle.std.proofs.lemmas.List.{take_more}
 use Rattle.std.proofs.Math.Seq.{take-length}
+use Rattle.std.proofs.lemmas.List.{take_more}
 use Rattle.directed_graph.proofs.MarkLemmas.{marks_old, marks_new, read_false, read_true}
 use Rattle.directed_graph.proofs.search.mark_all.Goals as goal
 use Rattle.directed_graph.proofs.search.mark_all.Goals.{then-not-index+in_ok-push, else-not-index}

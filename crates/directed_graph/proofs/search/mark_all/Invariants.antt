@@ -1,6 +1,6 @@
 use Rattle.std.proofs.Common.{take}
-use Rattle.directed_graph.specs.Marks.{MarksAll}
 use Rattle.directed_graph.proofs.search.mark_all.Given as goal
+use Rattle.directed_graph.specs.Marks.{MarksAll}
 
 abbrev pub invariant-loop-vertex : goal.invariant-loop-vertex
 invariant-loop-vertex l =

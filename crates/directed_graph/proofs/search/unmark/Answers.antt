@@ -1,6 +1,6 @@
 use Rattle.std.proofs.Common.{arith, length, ◌≡◌, ◌<◌, get_or}
-use Rattle.std.proofs.lemmas.List.{take_more}
 use Rattle.std.proofs.Math.Seq.{take-length}
+use Rattle.std.proofs.lemmas.List.{take_more}
 use Rattle.directed_graph.proofs.MarkLemmas.{unmarks_none, unmarks_more}
 use Rattle.directed_graph.proofs.search.unmark.Goals as goal
 

@@ -1,9 +1,9 @@
 use Rattle.std.proofs.Common.{◌≡◌, true, refl, subst}
 use Rattle.std.proofs.lemmas.List.{take_all}
 use Rattle.std.proofs.lemmas.List.Elements.{All-more}
+use Rattle.document_checks.proofs.documents.all_pass.Goals as goal
 use Rattle.document_checks.specs.Documents.{AllPass}
 use Rattle.document_checks.specs.declared.report.Report.{Report}
-use Rattle.document_checks.proofs.documents.all_pass.Goals as goal
 
 pub loop-report-preserved : goal.loop-report-preserved
 loop-report-preserved c =

@@ -1,8 +1,8 @@
 use Rattle.std.proofs.Common.{◌≡◌, ◌≤◌, length, take}
-use Rattle.std.specs.Prelude.{nat_lt}
 use Rattle.std.specs.List.{filter}
-use Rattle.document_checks.specs.Documents.{numbers_of}
+use Rattle.std.specs.Prelude.{nat_lt}
 use Rattle.document_checks.proofs.documents.judged_documents.Given as goal
+use Rattle.document_checks.specs.Documents.{numbers_of}
 
 -- those of the documents so far are counted
 abbrev pub invariant-loop-document : goal.invariant-loop-document

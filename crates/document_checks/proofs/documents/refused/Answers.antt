@@ -4,9 +4,9 @@ use Rattle.std.proofs.lemmas.List.{take_all}
 use Rattle.apollo_tree.specs.References.{node_place}
 use Rattle.apollo_parser.specs.Errors.{error_of}
 use Rattle.first_errors.specs.Places.{shown_at}
-use Rattle.document_checks.specs.declared.report.Finding.{Finding}
 use Rattle.document_checks.proofs.Found.{first_found}
 use Rattle.document_checks.proofs.documents.refused.Goals as goal
+use Rattle.document_checks.specs.declared.report.Finding.{Finding}
 
 -- all the errors that are shown are found
 pub returns-clause-found : goal.returns-clause-found

@@ -1,8 +1,8 @@
 use Rattle.std.proofs.Common.{◌<◌, ap, arith, get_or, length, refl}
 use Rattle.std.proofs.Math.ListN.{length-set}
-use Rattle.document_checks.specs.declared.report.Report.{Report}
 use Rattle.document_checks.proofs.Passing.{alone}
 use Rattle.document_checks.proofs.operations.add_fault.Goals as goal
+use Rattle.document_checks.specs.declared.report.Report.{Report}
 
 -- the text of the place alone does not pass
 pub returns-clause-failed : goal.returns-clause-failed

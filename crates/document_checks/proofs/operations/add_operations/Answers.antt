@@ -2,10 +2,10 @@ use Rattle.std.proofs.Common.{◌++◌, ◌∷◌, [], ◌∙◌, List, ap, arit
 use Rattle.std.proofs.lemmas.List.{map_more}
 use Rattle.cost_limits.specs.Measures.{Measure, as_measure}
 use Rattle.cost_limits.specs.declared.measures.OperationFigures.{OperationFigures}
-use Rattle.document_checks.specs.Documents.{numbers_of}
-use Rattle.document_checks.specs.declared.report.Report.{Report}
 use Rattle.document_checks.proofs.Passing.{operation_more}
 use Rattle.document_checks.proofs.operations.add_operations.Goals as goal
+use Rattle.document_checks.specs.Documents.{numbers_of}
+use Rattle.document_checks.specs.declared.report.Report.{Report}
 
 pub loop-measured-preserved : goal.loop-measured-preserved
 loop-measured-preserved c =

@@ -1,8 +1,8 @@
 use Rattle.std.proofs.Common.{map, take}
 use Rattle.cost_limits.specs.Measures.{as_measure}
+use Rattle.document_checks.proofs.operations.add_operations.Given as goal
 use Rattle.document_checks.specs.Documents.{AreJudged, numbers_of}
 use Rattle.document_checks.specs.Passing.{HasWithin}
-use Rattle.document_checks.proofs.operations.add_operations.Given as goal
 
 -- the reports are those of the operations so far
 abbrev pub invariant-loop-measured : goal.invariant-loop-measured

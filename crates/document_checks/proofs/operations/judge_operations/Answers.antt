@@ -5,11 +5,11 @@ use Rattle.validation_names.specs.Definitions.{defined}
 use Rattle.cost_limits.specs.Measures.{AreMeasures, as_measure}
 use Rattle.cost_limits.specs.declared.measures.MeasureOptions.{MeasureOptions}
 use Rattle.cost_limits.specs.declared.measures.OperationFigures.{OperationFigures}
-use Rattle.document_checks.specs.Checking.{as_asked, measuring}
-use Rattle.document_checks.specs.Documents.{numbers_of}
 use Rattle.document_checks.proofs.Passing.{both_clauses, measured, measuring_is, three_clauses, unmeasured}
 use Rattle.document_checks.proofs.Verdicts.{no_figures}
 use Rattle.document_checks.proofs.operations.judge_operations.Goals as goal
+use Rattle.document_checks.specs.Checking.{as_asked, measuring}
+use Rattle.document_checks.specs.Documents.{numbers_of}
 
 pub returns-in-Ok : goal.returns-in-Ok
 returns-in-Ok c =

@@ -1,12 +1,12 @@
 use Rattle.std.proofs.Common.{◌<◌, length, arith, subst, sym}
 use Rattle.std.proofs.lemmas.Bool.Decides.{nat_tests}
 use Rattle.std.proofs.lemmas.List.{length-map}
-use Rattle.document_checks.specs.Checking.{as_asked, texts_of}
-use Rattle.document_checks.specs.Documents.{AllPass, AreClean}
 use Rattle.document_checks.proofs.Judging.{all_of, errors_each, errors_sound, errors_warned, inside_of, judged_each}
 use Rattle.document_checks.proofs.Judging.{judged_in_place, judged_sound, judged_warned, not_all_of, together}
 use Rattle.document_checks.proofs.ParsedTexts.{are_clean, inside, of_errors_alone, of_findings}
 use Rattle.document_checks.proofs.text_check.check.Goals as goal
+use Rattle.document_checks.specs.Checking.{as_asked, texts_of}
+use Rattle.document_checks.specs.Documents.{AllPass, AreClean}
 
 -- ---- a text has errors
 

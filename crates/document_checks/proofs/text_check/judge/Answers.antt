@@ -1,10 +1,10 @@
 use Rattle.std.proofs.Common.{◌≡◌, ◌∙◌, List, ap, arith, map, subst}
 use Rattle.apollo_tree.specs.Order.{Place}
 use Rattle.apollo_tree.specs.References.{node_place}
-use Rattle.document_checks.specs.Checking.{as_asked}
-use Rattle.document_checks.specs.Documents.{AreChecked, numbers_of, root_of}
 use Rattle.document_checks.proofs.Passing.{told_after}
 use Rattle.document_checks.proofs.text_check.judge.Goals as goal
+use Rattle.document_checks.specs.Checking.{as_asked}
+use Rattle.document_checks.specs.Documents.{AreChecked, numbers_of, root_of}
 
 pub warn-requires-clause-inside : goal.warn-requires-clause-inside
 warn-requires-clause-inside c =

@@ -3,11 +3,11 @@ use Rattle.apollo_tree.specs.Order.{Place}
 use Rattle.apollo_tree.specs.References.{node_place}
 use Rattle.document_validation.specs.Validation.{IsValidation}
 use Rattle.document_validation.specs.declared.validation.ValidationOptions.{ValidationOptions}
-use Rattle.document_checks.specs.Checking.{as_asked}
-use Rattle.document_checks.specs.Documents.{numbers_of}
 use Rattle.document_checks.proofs.Passing.{by_limits, by_rules, kept_if_clean, options_are}
 use Rattle.document_checks.proofs.Warnings.{not_both}
 use Rattle.document_checks.proofs.text_check.judge_documents.Goals as goal
+use Rattle.document_checks.specs.Checking.{as_asked}
+use Rattle.document_checks.specs.Documents.{numbers_of}
 
 -- no rule is broken
 pub returns-then-finds_nothing : goal.returns-then-finds_nothing

@@ -1,14 +1,14 @@
 use Rattle.std.proofs.Common.{◌∙◌, List, map, subst, sym}
 use Rattle.apollo_tree.specs.Order.{Place}
 use Rattle.apollo_tree.specs.References.{node_place}
+use Rattle.validation_rules.specs.declared.violations.Violation.{Violation}
 use Rattle.document_validation.specs.Validation.{IsValidation}
 use Rattle.document_validation.specs.declared.validation.ValidationOptions.{ValidationOptions}
-use Rattle.validation_rules.specs.declared.violations.Violation.{Violation}
+use Rattle.document_checks.proofs.Passing.{warned_of_none, warned_of_some, warning_options_are}
+use Rattle.document_checks.proofs.text_check.warn.Goals as goal
 use Rattle.document_checks.specs.Checking.{as_asked}
 use Rattle.document_checks.specs.Documents.{AreTold, numbers_of}
 use Rattle.document_checks.specs.Passing.{violation_sites}
-use Rattle.document_checks.proofs.Passing.{warned_of_none, warned_of_some, warning_options_are}
-use Rattle.document_checks.proofs.text_check.warn.Goals as goal
 
 -- no rule is only told
 pub returns-then-not-has_any : goal.returns-then-not-has_any

@@ -1,9 +1,9 @@
 use Rattle.std.proofs.Common.{◌++◌, ◌∷◌, [], ap, arith, get_or, refl}
 use Rattle.validation_names.specs.Sites.{as_located}
-use Rattle.document_checks.specs.Documents.{numbers_of}
-use Rattle.document_checks.specs.declared.report.Report.{Report}
 use Rattle.document_checks.proofs.Passing.{place_more}
 use Rattle.document_checks.proofs.violations.add_undecided.Goals as goal
+use Rattle.document_checks.specs.Documents.{numbers_of}
+use Rattle.document_checks.specs.declared.report.Report.{Report}
 
 pub returns : goal.returns
 returns c = λ sites begun judged.

@@ -3,9 +3,9 @@ use Rattle.std.specs.Prelude.{option_map}
 use Rattle.validation_names.specs.Sites.{as_located}
 use Rattle.validation_names.specs.declared.sites.Site.{Site}
 use Rattle.validation_rules.specs.declared.violations.Violation.{Violation}
+use Rattle.document_checks.proofs.violations.add_validation.Goals as goal
 use Rattle.document_checks.specs.Documents.{AreJudged, numbers_of}
 use Rattle.document_checks.specs.Passing.{IsWithout, undecided_sites, violation_sites}
-use Rattle.document_checks.proofs.violations.add_validation.Goals as goal
 
 -- the operation before which the steps were used up comes after the violations
 pub returns-in_ok-add_undecided : goal.returns-in_ok-add_undecided

@@ -2,11 +2,11 @@ use Rattle.std.proofs.Common.{◌++◌, ◌∷◌, [], ◌∙◌, List, ap, arit
 use Rattle.std.proofs.lemmas.List.{map_more}
 use Rattle.validation_names.specs.Sites.{Located, as_located}
 use Rattle.validation_rules.specs.declared.violations.Violation.{Violation}
+use Rattle.document_checks.proofs.Passing.{place_more}
+use Rattle.document_checks.proofs.violations.add_violations.Goals as goal
 use Rattle.document_checks.specs.Documents.{numbers_of}
 use Rattle.document_checks.specs.Passing.{violation_sites}
 use Rattle.document_checks.specs.declared.report.Report.{Report}
-use Rattle.document_checks.proofs.Passing.{place_more}
-use Rattle.document_checks.proofs.violations.add_violations.Goals as goal
 
 pub loop-violation-preserved : goal.loop-violation-preserved
 loop-violation-preserved c =

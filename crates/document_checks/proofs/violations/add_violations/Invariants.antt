@@ -1,7 +1,7 @@
 use Rattle.std.proofs.Common.{take}
+use Rattle.document_checks.proofs.violations.add_violations.Given as goal
 use Rattle.document_checks.specs.Documents.{AreJudged, numbers_of}
 use Rattle.document_checks.specs.Passing.{IsWithout, violation_sites}
-use Rattle.document_checks.proofs.violations.add_violations.Given as goal
 
 -- the reports are those of the violations so far
 abbrev pub invariant-loop-violation : goal.invariant-loop-violation

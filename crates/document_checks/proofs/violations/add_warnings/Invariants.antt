@@ -1,7 +1,7 @@
 use Rattle.std.proofs.Common.{take}
+use Rattle.document_checks.proofs.violations.add_warnings.Given as goal
 use Rattle.document_checks.specs.Documents.{AreTold, numbers_of}
 use Rattle.document_checks.specs.Passing.{violation_sites}
-use Rattle.document_checks.proofs.violations.add_warnings.Given as goal
 
 -- the warnings so far are added
 abbrev pub invariant-loop-warning : goal.invariant-loop-warning

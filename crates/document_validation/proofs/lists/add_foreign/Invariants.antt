@@ -1,8 +1,8 @@
 use Rattle.std.proofs.Common.{drop, map}
 use Rattle.apollo_tree.specs.References.{node_place}
-use Rattle.document_validation.specs.Breaches.{foreign_in}
 use Rattle.document_validation.proofs.EachLemmas.{AreLeft}
 use Rattle.document_validation.proofs.lists.add_foreign.Given as goal
+use Rattle.document_validation.specs.Breaches.{foreign_in}
 
 abbrev pub invariant-loop-number : goal.invariant-loop-number
 invariant-loop-number l =

@@ -4,8 +4,8 @@ use Rattle.apollo_tree.specs.References.{node_place}
 use Rattle.apollo_tree.specs.Yields.{rest_nodes}
 use Rattle.validation_names.specs.Sites.{located}
 use Rattle.validation_rules.proofs.AddLemmas.{left_ends, left_next}
-use Rattle.document_validation.specs.Breaches.{foreign_at}
 use Rattle.document_validation.proofs.lists.add_foreign_of.Goals as goal
+use Rattle.document_validation.specs.Breaches.{foreign_at}
 
 pub loop-node-init : goal.loop-node-init
 loop-node-init c = λ new

@@ -1,9 +1,9 @@
 use Rattle.std.proofs.Common.{◌≡◌, ◌+◌, ◌≤◌, length, ◌∷◌, arith, drop, drop_of_length-le, map, ap}
 use Rattle.std.proofs.lemmas.List.{drop_more}
 use Rattle.apollo_tree.specs.References.{node_place}
-use Rattle.document_validation.specs.Breaches.{repeats_in}
 use Rattle.document_validation.proofs.EachLemmas.{each_ends, each_next}
 use Rattle.document_validation.proofs.lists.add_lists.Goals as goal
+use Rattle.document_validation.specs.Breaches.{repeats_in}
 
 pub loop-number-preserved : goal.loop-number-preserved
 loop-number-preserved c =

@@ -3,8 +3,8 @@ use Rattle.apollo_tree.specs.References.{node_place}
 use Rattle.apollo_tree.specs.Yields.{rest_descendant_nodes}
 use Rattle.validation_names.specs.Sites.{located, nodes}
 use Rattle.validation_rules.proofs.AddLemmas.{left_ends, left_next}
-use Rattle.document_validation.specs.Breaches.{repeats_at}
 use Rattle.document_validation.proofs.lists.add_lists_as.Goals as goal
+use Rattle.document_validation.specs.Breaches.{repeats_at}
 
 pub loop-node-init : goal.loop-node-init
 loop-node-init c = λ new adds.

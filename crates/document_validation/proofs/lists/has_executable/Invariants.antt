@@ -3,8 +3,8 @@ use Rattle.std.specs.List.{list_any}
 use Rattle.apollo_tree.specs.Children.{child_nodes}
 use Rattle.apollo_tree.specs.References.{node_place}
 use Rattle.apollo_tree.specs.Yields.{rest_nodes}
-use Rattle.document_validation.specs.Lists.{is_executable}
 use Rattle.document_validation.proofs.lists.has_executable.Given as goal
+use Rattle.document_validation.specs.Lists.{is_executable}
 
 abbrev pub invariant-loop-node : goal.invariant-loop-node
 invariant-loop-node l =

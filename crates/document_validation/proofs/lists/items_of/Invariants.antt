@@ -3,8 +3,8 @@ use Rattle.std.specs.List.{filter_map}
 use Rattle.apollo_tree.specs.Yields.{rest_nodes}
 use Rattle.validation_names.specs.Mentions.{as_named}
 use Rattle.validation_names.specs.Sites.{as_located, located}
-use Rattle.document_validation.specs.Lists.{item_of, items_of}
 use Rattle.document_validation.proofs.lists.items_of.Given as goal
+use Rattle.document_validation.specs.Lists.{item_of, items_of}
 
 abbrev pub invariant-loop-node : goal.invariant-loop-node
 invariant-loop-node l =

@@ -1,9 +1,9 @@
 use Rattle.std.proofs.Common.{◌<◌, map, length, get_or, subst}
-use Rattle.std.specs.List.{Contains}
 use Rattle.std.proofs.lemmas.List.{length-map}
 use Rattle.std.proofs.lemmas.List.Elements.{Contains-get_or}
-use Rattle.validation_rules.specs.Parts.{as_parts}
+use Rattle.std.specs.List.{Contains}
 use Rattle.validation_rules.proofs.SpreadLemmas.{operations_inside}
+use Rattle.validation_rules.specs.Parts.{as_parts}
 use Rattle.document_validation.proofs.validation.operation_site.Goals as goal
 
 pub part_at-requires : goal.part_at-requires

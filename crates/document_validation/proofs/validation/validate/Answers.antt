@@ -1,9 +1,9 @@
 use Rattle.std.proofs.Common.{None, map, refl, subst}
 use Rattle.apollo_tree.specs.References.{node_place}
 use Rattle.validation_rules.specs.Violations.{as_breach}
-use Rattle.document_validation.specs.Breaches.{AreFound, breaches}
 use Rattle.document_validation.proofs.FoundLemmas.{all_selected, found_none}
 use Rattle.document_validation.proofs.validation.validate.Goals as goal
+use Rattle.document_validation.specs.Breaches.{AreFound, breaches}
 
 pub returns-clause-exact : goal.returns-clause-exact
 returns-clause-exact c =

@@ -1,12 +1,12 @@
 use Rattle.std.proofs.Common.{◌≡◌, map, ap, sym, ◌∙◌}
+use Rattle.apollo_tree.specs.References.{node_place}
 use Rattle.validation_names.specs.Definitions.{as_defined}
 use Rattle.validation_rules.specs.Parts.{as_parts, operations, parts_in, parts_of}
-use Rattle.apollo_tree.specs.References.{node_place}
 use Rattle.variable_rules.proofs.WalkLemmas.{ends_somewhere}
-use Rattle.document_validation.specs.Breaches.{breaches_before}
 use Rattle.document_validation.proofs.FoundLemmas.{added, decided_and_valid, full_before, none_of, room_before}
 use Rattle.document_validation.proofs.ReadLemmas.{definitions_are, parts_are}
 use Rattle.document_validation.proofs.validation.validate_with.Goals as goal
+use Rattle.document_validation.specs.Breaches.{breaches_before}
 
 pub add_all-requires-clause-parts : goal.add_all-requires-clause-parts
 add_all-requires-clause-parts c =

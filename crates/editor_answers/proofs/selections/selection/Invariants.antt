@@ -1,6 +1,6 @@
 use Rattle.std.specs.List.{All, AllPairs}
-use Rattle.editor_answers.specs.Parts.{Encloses, Holds}
 use Rattle.editor_answers.proofs.selections.selection.Given as goal
+use Rattle.editor_answers.specs.Parts.{Encloses, Holds}
 
 abbrev pub invariant-loop-node : goal.invariant-loop-node
 invariant-loop-node l = record {

@@ -1,6 +1,6 @@
 use Rattle.std.proofs.Common.{◌-◌, max}
-use Rattle.editor_answers.specs.Parts.{AreInOrder, EndBefore}
 use Rattle.editor_answers.proofs.tokens.push_token.Given as goal
+use Rattle.editor_answers.specs.Parts.{AreInOrder, EndBefore}
 
 abbrev pub invariant-loop-start : goal.invariant-loop-start
 invariant-loop-start l = record {

@@ -1,5 +1,5 @@
-use Rattle.editor_answers.specs.Parts.{AreInOrder, EndBefore}
 use Rattle.editor_answers.proofs.tokens.semantic_tokens.Given as goal
+use Rattle.editor_answers.specs.Parts.{AreInOrder, EndBefore}
 
 abbrev pub invariant-loop-element : goal.invariant-loop-element
 invariant-loop-element l = record {

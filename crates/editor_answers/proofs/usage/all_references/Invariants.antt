@@ -4,9 +4,9 @@ use Rattle.apollo_tree.specs.Below.{at_or_below}
 use Rattle.apollo_tree.specs.Order.{range_at}
 use Rattle.apollo_tree.specs.References.{node_place}
 use Rattle.apollo_tree.specs.Yields.{rest_descendants}
+use Rattle.editor_answers.proofs.usage.all_references.Given as goal
 use Rattle.editor_answers.specs.Names.{is_reference}
 use Rattle.editor_answers.specs.Parts.{bounds}
-use Rattle.editor_answers.proofs.usage.all_references.Given as goal
 
 abbrev pub invariant-loop-element : goal.invariant-loop-element
 invariant-loop-element l =

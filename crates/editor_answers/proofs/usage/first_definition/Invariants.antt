@@ -3,8 +3,8 @@ use Rattle.std.specs.List.{find}
 use Rattle.apollo_tree.specs.Below.{at_or_below}
 use Rattle.apollo_tree.specs.References.{node_place}
 use Rattle.apollo_tree.specs.Yields.{rest_descendants}
-use Rattle.editor_answers.specs.Names.{is_definition}
 use Rattle.editor_answers.proofs.usage.first_definition.Given as goal
+use Rattle.editor_answers.specs.Names.{is_definition}
 
 abbrev pub invariant-loop-element : goal.invariant-loop-element
 invariant-loop-element l =

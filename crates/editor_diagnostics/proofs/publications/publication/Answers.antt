@@ -1,9 +1,9 @@
 use Rattle.std.proofs.Common.{map}
 use Rattle.editor_diagnostics.proofs.Cursors.{read_at}
-use Rattle.editor_diagnostics.specs.Remarks.{as_remarked}
-use Rattle.editor_diagnostics.specs.Publication.{publish_params, remark_diagnostic}
 use Rattle.editor_diagnostics.proofs.RemarkTokens.{whole_params}
 use Rattle.editor_diagnostics.proofs.publications.publication.Goals as goal
+use Rattle.editor_diagnostics.specs.Publication.{publish_params, remark_diagnostic}
+use Rattle.editor_diagnostics.specs.Remarks.{as_remarked}
 
 pub end-requires : goal.end-requires
 end-requires c = record {

@@ -1,6 +1,6 @@
-use Rattle.editor_diagnostics.specs.Tokens.{remark_tokens}
 use Rattle.editor_diagnostics.proofs.RemarkTokens.{one_more}
 use Rattle.editor_diagnostics.proofs.publications.push_remarks.Goals as goal
+use Rattle.editor_diagnostics.specs.Tokens.{remark_tokens}
 
 pub loop-remark-preserved : goal.loop-remark-preserved
 loop-remark-preserved c =

@@ -1,8 +1,8 @@
 use Rattle.std.proofs.Common.{◌≡◌, ◌++◌, take}
 use Rattle.std.specs.List.{flat_map}
 use Rattle.rpc_messages.specs.Pieces.{tokens_of}
-use Rattle.editor_diagnostics.specs.Tokens.{remark_tokens}
 use Rattle.editor_diagnostics.proofs.publications.push_remarks.Given as goal
+use Rattle.editor_diagnostics.specs.Tokens.{remark_tokens}
 
 abbrev pub invariant-loop-remark : goal.invariant-loop-remark
 invariant-loop-remark l =

@@ -1,7 +1,7 @@
 use Rattle.std.proofs.Common.{◌≡◌, ◌++◌, drop, map}
 use Rattle.first_errors.specs.Groups.{groups}
-use Rattle.editor_diagnostics.specs.Syntax.{as_group}
 use Rattle.editor_diagnostics.proofs.syntax.groups.Given as goal
+use Rattle.editor_diagnostics.specs.Syntax.{as_group}
 
 -- the groups so far, and those of the errors that are left
 abbrev pub invariant-loop-start : goal.invariant-loop-start

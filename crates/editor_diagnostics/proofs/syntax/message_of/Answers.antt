@@ -1,6 +1,6 @@
 use Rattle.std.proofs.Common.{◌++◌, List, ℕ, ap, ◌∙◌}
-use Rattle.editor_diagnostics.specs.Syntax.{others_words, words_for}
 use Rattle.editor_diagnostics.proofs.syntax.message_of.Goals as goal
+use Rattle.editor_diagnostics.specs.Syntax.{others_words, words_for}
 
 pub returns : goal.returns
 returns c =

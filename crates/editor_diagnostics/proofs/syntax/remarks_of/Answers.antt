@@ -1,7 +1,7 @@
-use Rattle.editor_diagnostics.specs.Remarks.{as_remarked}
-use Rattle.editor_diagnostics.specs.Syntax.{as_group, syntax_remark}
 use Rattle.editor_diagnostics.proofs.Groups.{one_made}
 use Rattle.editor_diagnostics.proofs.syntax.remarks_of.Goals as goal
+use Rattle.editor_diagnostics.specs.Remarks.{as_remarked}
+use Rattle.editor_diagnostics.specs.Syntax.{as_group, syntax_remark}
 
 pub loop-group-preserved : goal.loop-group-preserved
 loop-group-preserved c =

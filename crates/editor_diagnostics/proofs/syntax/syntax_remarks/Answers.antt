@@ -1,8 +1,8 @@
 use Rattle.std.proofs.Common.{◌≡◌, List, length, min, rules, subst, sym}
-use Rattle.editor_diagnostics.specs.Remarks.{Remarked}
-use Rattle.editor_diagnostics.specs.Syntax.{IsAboutFirst}
 use Rattle.editor_diagnostics.proofs.Groups.{about_first, capped}
 use Rattle.editor_diagnostics.proofs.syntax.syntax_remarks.Goals as goal
+use Rattle.editor_diagnostics.specs.Remarks.{Remarked}
+use Rattle.editor_diagnostics.specs.Syntax.{IsAboutFirst}
 
 remarks : goal.returns-clause-remarks
 remarks c =

@@ -1,6 +1,6 @@
 use Rattle.std.proofs.Common.{◌+◌, ◌-◌, length}
-use Rattle.editor_text.specs.Finding.{IsStep}
 use Rattle.editor_text.proofs.differences.joined.Given as goal
+use Rattle.editor_text.specs.Finding.{IsStep}
 
 abbrev pub invariant-loop-step : goal.invariant-loop-step
 invariant-loop-step l = IsStep l.fn.old l.fn.new l.from l.to l.step

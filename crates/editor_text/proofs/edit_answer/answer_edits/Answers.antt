@@ -1,11 +1,11 @@
 use Rattle.std.proofs.Common.{ap, map, ◌∙◌, List, ◌++◌, ◌∷◌, []}
+use Rattle.std.specs.List.{flat_map}
+use Rattle.json.specs.Token.{begin_array, end_array}
+use Rattle.editor_text.proofs.Clients.{edits_of, result_tokens, written}
+use Rattle.editor_text.proofs.edit_answer.answer_edits.Goals as goal
 use Rattle.editor_text.specs.Answered.{edit_tokens, text_edit}
 use Rattle.editor_text.specs.Edited.{edits_value}
 use Rattle.editor_text.specs.declared.differences.Edit.{Edit}
-use Rattle.json.specs.Token.{begin_array, end_array}
-use Rattle.std.specs.List.{flat_map}
-use Rattle.editor_text.proofs.Clients.{edits_of, result_tokens, written}
-use Rattle.editor_text.proofs.edit_answer.answer_edits.Goals as goal
 
 pub returns-clause-edits : goal.returns-clause-edits
 returns-clause-edits c =

@@ -2,8 +2,8 @@ use Rattle.std.proofs.Common.{◌≡◌, ◌++◌, take}
 use Rattle.std.specs.List.{flat_map}
 use Rattle.json.specs.Json.{Json}
 use Rattle.rpc_messages.specs.Answers.{IsBegun}
-use Rattle.editor_text.specs.Answered.{edit_tokens}
 use Rattle.editor_text.proofs.edit_answer.put_edits.Given as goal
+use Rattle.editor_text.specs.Answered.{edit_tokens}
 
 abbrev pub invariant-loop-edit : goal.invariant-loop-edit
 invariant-loop-edit l =

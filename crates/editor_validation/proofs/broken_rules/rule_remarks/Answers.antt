@@ -1,13 +1,13 @@
 use Rattle.std.proofs.Common.{List, ap, map, not, sym, take, ◌∙◌, Bor}
-use Rattle.std.specs.List.{filter}
 use Rattle.std.proofs.lemmas.List.{take-map}
+use Rattle.std.specs.List.{filter}
 use Rattle.validation_rules.specs.Violations.{Breach, as_breach}
 use Rattle.validation_rules.specs.declared.violations.Violation.{Violation}
+use Rattle.editor_validation.proofs.broken_rules.rule_remarks.Goals as goal
 use Rattle.editor_validation.specs.Fragments.{as_fragments}
 use Rattle.editor_validation.specs.Mending.{is_mended}
 use Rattle.editor_validation.specs.Remarks.{remark_of}
 use Rattle.editor_validation.specs.declared.fragments.FragmentNames.{FragmentNames}
-use Rattle.editor_validation.proofs.broken_rules.rule_remarks.Goals as goal
 
 pub returns : goal.returns
 returns c =

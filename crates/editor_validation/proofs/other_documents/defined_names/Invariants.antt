@@ -1,9 +1,9 @@
 use Rattle.std.proofs.Common.{◌≡◌, map, take}
 use Rattle.std.specs.Prelude.{is_some}
 use Rattle.validation_names.specs.Names.{Name, entry_of}
+use Rattle.editor_validation.proofs.other_documents.defined_names.Given as goal
 use Rattle.editor_validation.specs.Fragments.{as_fragments}
 use Rattle.editor_validation.specs.Mending.{define}
-use Rattle.editor_validation.proofs.other_documents.defined_names.Given as goal
 
 abbrev pub invariant-loop-names : goal.invariant-loop-names
 invariant-loop-names l =

@@ -3,12 +3,12 @@ use Rattle.std.proofs.lemmas.List.{map-append}
 use Rattle.document_grammar.specs.declared.kind.SyntaxKind.TheVariants.{FRAGMENT_NAME}
 use Rattle.validation_names.specs.Mentions.{name_in}
 use Rattle.validation_rules.specs.Violations.{Breach, as_breach}
-use Rattle.editor_validation.specs.Fragments.{as_fragments}
-use Rattle.editor_validation.specs.Mending.{define, is_mended, spread}
-use Rattle.editor_validation.specs.declared.fragments.FragmentNames.{FragmentNames}
 use Rattle.editor_validation.proofs.Kept.{kept_more, left_more, same_mends}
 use Rattle.editor_validation.proofs.other_documents.unmended.Goals as goal
 use Rattle.editor_validation.proofs.other_documents.unmended.Goals.{then-not-is_mended+in_ok-push, else-not-is_mended}
+use Rattle.editor_validation.specs.Fragments.{as_fragments}
+use Rattle.editor_validation.specs.Mending.{define, is_mended, spread}
+use Rattle.editor_validation.specs.declared.fragments.FragmentNames.{FragmentNames}
 
 pub loop-violation-preserved : goal.loop-violation-preserved
 loop-violation-preserved c =

@@ -1,8 +1,8 @@
 use Rattle.std.proofs.Common.{subst, sym}
-use Rattle.std.specs.List.{All}
 use Rattle.std.proofs.lemmas.List.Elements.{All-pop, All-push}
-use Rattle.embedded_documents.specs.Steps.{IsMoveIn, IsContextIn}
+use Rattle.std.specs.List.{All}
 use Rattle.embedded_documents.proofs.masks.go.Goals as goal
+use Rattle.embedded_documents.specs.Steps.{IsMoveIn, IsContextIn}
 
 pub returns-in_ok-push-in-Enter : goal.returns-in_ok-push-in-Enter
 returns-in_ok-push-in-Enter c =

@@ -1,7 +1,7 @@
 use Rattle.std.proofs.Common.{◌≤◌, ◌-◌, length}
 use Rattle.std.specs.Prelude.{All}
-use Rattle.embedded_documents.specs.Steps.{IsContextIn}
 use Rattle.embedded_documents.proofs.masks.is_in_document.Given as goal
+use Rattle.embedded_documents.specs.Steps.{IsContextIn}
 
 abbrev pub invariant-loop-start : goal.invariant-loop-start
 invariant-loop-start l = record {

@@ -1,7 +1,7 @@
 use Rattle.std.proofs.Common.{ℕ, List, arith, rules, subst}
-use Rattle.embedded_documents.specs.Steps.{IsTagged}
 use Rattle.embedded_documents.proofs.Parts.{blank_more, masked_more}
 use Rattle.embedded_documents.proofs.masks.masked.Goals as goal
+use Rattle.embedded_documents.specs.Steps.{IsTagged}
 
 pub loop-start-preserved : goal.loop-start-preserved
 loop-start-preserved c =

@@ -1,8 +1,8 @@
 use Rattle.std.proofs.Common.{◌≡◌, ◌≤◌, ◌-◌, length, map, take}
 use Rattle.std.specs.Prelude.{All, string_bytes}
+use Rattle.embedded_documents.proofs.masks.masked.Given as goal
 use Rattle.embedded_documents.specs.Masked.{AreMasked, HasTag, blank}
 use Rattle.embedded_documents.specs.Steps.{IsContextIn}
-use Rattle.embedded_documents.proofs.masks.masked.Given as goal
 
 abbrev pub invariant-loop-start : goal.invariant-loop-start
 invariant-loop-start l = record {

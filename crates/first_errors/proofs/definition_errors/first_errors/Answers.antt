@@ -1,10 +1,10 @@
 use Rattle.std.proofs.Common.{◌∙◌, ap, map, arith}
 use Rattle.std.proofs.lemmas.List.{length-map}
 use Rattle.apollo_parser.specs.Errors.{error_of}
-use Rattle.first_errors.specs.First.{firsts}
-use Rattle.first_errors.specs.Groups.{groups}
 use Rattle.first_errors.proofs.Firsts.{cut}
 use Rattle.first_errors.proofs.definition_errors.first_errors.Goals as goal
+use Rattle.first_errors.specs.First.{firsts}
+use Rattle.first_errors.specs.Groups.{groups}
 
 pub returns : goal.returns
 returns g c = record {

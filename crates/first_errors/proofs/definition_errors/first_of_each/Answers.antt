@@ -1,10 +1,10 @@
 use Rattle.std.proofs.Common.{◌≡◌, ◌+◌, ◌-◌, ℕ, ap, arith, drop, get_or, length, map, refl, sym, take, ◌∙◌}
-use Rattle.std.specs.Prelude.{take_while}
 use Rattle.std.proofs.lemmas.List.{drop-drop, length-drop, take_all}
+use Rattle.std.specs.Prelude.{take_while}
 use Rattle.apollo_parser.specs.Errors.{error_of}
-use Rattle.first_errors.specs.Groups.{is_earlier}
 use Rattle.first_errors.proofs.Firsts.{next}
 use Rattle.first_errors.proofs.definition_errors.first_of_each.Goals as goal
+use Rattle.first_errors.specs.Groups.{is_earlier}
 
 pub loop-start-preserved : goal.loop-start-preserved
 loop-start-preserved g c =

@@ -1,7 +1,7 @@
 use Rattle.std.proofs.Common.{inr, sym, subst}
 use Rattle.std.proofs.lemmas.List.{drop_more}
-use Rattle.first_errors.specs.Words.{IsReplaced}
 use Rattle.first_errors.proofs.words.replaced.Goals as goal
+use Rattle.first_errors.specs.Words.{IsReplaced}
 
 pub loop-row-preserved : goal.loop-row-preserved
 loop-row-preserved c = λ shown h.

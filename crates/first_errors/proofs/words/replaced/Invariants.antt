@@ -1,6 +1,6 @@
 use Rattle.std.proofs.Common.{ℕ, List, drop}
-use Rattle.first_errors.specs.Words.{IsReplaced}
 use Rattle.first_errors.proofs.words.replaced.Given as goal
+use Rattle.first_errors.specs.Words.{IsReplaced}
 
 abbrev pub invariant-loop-row : goal.invariant-loop-row
 invariant-loop-row l = (shown : List ℕ)

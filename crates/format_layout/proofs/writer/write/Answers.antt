@@ -1,14 +1,14 @@
 use Rattle.std.proofs.Common.{◌≡◌, ◌∷◌, ap, ◌∙◌, subst, refl}
-use Rattle.apollo_lexer.specs.Answers.{answers_left, answer_of}
-use Rattle.apollo_lexer.proofs.Law.{answers-are-items}
+use Rattle.lexical_grammar.proofs.Limited.{cut-text}
 use Rattle.lexical_grammar.specs.Answers.{answers_text, usize_max, limited}
 use Rattle.lexical_grammar.specs.Reads.{items_of}
-use Rattle.lexical_grammar.proofs.Limited.{cut-text}
-use Rattle.format_layout.specs.Lengths.{bytes_for_each}
+use Rattle.apollo_lexer.proofs.Law.{answers-are-items}
+use Rattle.apollo_lexer.specs.Answers.{answers_left, answer_of}
 use Rattle.format_layout.proofs.Counts.{begun-count, ended-count, left-count, written-count}
 use Rattle.format_layout.proofs.Lengths.{begun-length, ended-length, left-length, written-length}
 use Rattle.format_layout.proofs.Reading.{no-word, token-text, writes-begin, writes-end, writes-on, writes-token}
 use Rattle.format_layout.proofs.writer.write.Goals as goal
+use Rattle.format_layout.specs.Lengths.{bytes_for_each}
 
 pub loop-item-init : goal.loop-item-init
 loop-item-init g c =

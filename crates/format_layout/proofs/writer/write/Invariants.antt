@@ -1,13 +1,13 @@
 use Rattle.std.proofs.Common.{◌≡◌, ◌+◌, ◌*◌, ◌≤◌, length, string_bytes}
-use Rattle.apollo_lexer.specs.Answers.{answers_left}
 use Rattle.lexical_grammar.specs.Answers.{answers_text}
-use Rattle.lexical_grammar.specs.Reads.{items_of}
 use Rattle.lexical_grammar.specs.Kept.{Kept}
-use Rattle.format_layout.specs.Laid.{ended_length}
-use Rattle.format_layout.specs.Lengths.{bytes_for_each}
+use Rattle.lexical_grammar.specs.Reads.{items_of}
+use Rattle.apollo_lexer.specs.Answers.{answers_left}
 use Rattle.format_layout.proofs.Counts.{with_text}
 use Rattle.format_layout.proofs.Reading.{Writes, kept_answers}
 use Rattle.format_layout.proofs.writer.write.Given as goal
+use Rattle.format_layout.specs.Laid.{ended_length}
+use Rattle.format_layout.specs.Lengths.{bytes_for_each}
 
 -- the tokens so far are written, in no more bytes and items than there are for theirs, and those that are left are to
 -- be

@@ -1,6 +1,6 @@
 use Rattle.std.proofs.Common.{arith}
-use Rattle.formatter.proofs.Parses.{formatted-by, no-longer, sentence-of}
 use Rattle.formatter.proofs.FormatterDocumentFormatter.format_or_errors.Goals as goal
+use Rattle.formatter.proofs.Parses.{formatted-by, no-longer, sentence-of}
 
 pub format_document-requires : goal.format_document-requires
 format_document-requires g c =

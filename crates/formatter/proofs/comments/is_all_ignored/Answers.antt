@@ -1,9 +1,9 @@
 use Rattle.std.proofs.Common.{◌≡◌, ◌∙◌, ◌∷◌, false, not, sym, ap, subst, arith}
 use Rattle.std.proofs.lemmas.Bool.Decides.{nat_tests}
-use Rattle.apollo_lexer.specs.Answers.{answers_left, answer_of}
-use Rattle.lexical_grammar.specs.Cut.{is_significant_kind}
 use Rattle.lexical_grammar.specs.Answers.{limited, usize_max}
+use Rattle.lexical_grammar.specs.Cut.{is_significant_kind}
 use Rattle.lexical_grammar.specs.Reads.{items_of}
+use Rattle.apollo_lexer.specs.Answers.{answers_left, answer_of}
 use Rattle.formatter.proofs.Ignored.{are_ignored_answers, begin, few, none-of, some-there, stopped, tokens-of}
 use Rattle.formatter.proofs.Ignored.{error-stops}
 use Rattle.formatter.proofs.comments.is_all_ignored.Goals as goal

@@ -1,6 +1,6 @@
 use Rattle.std.proofs.Common.{◌≡◌}
-use Rattle.apollo_lexer.specs.Answers.{answers_left}
 use Rattle.lexical_grammar.specs.Reads.{items_of}
+use Rattle.apollo_lexer.specs.Answers.{answers_left}
 use Rattle.formatter.proofs.Ignored.{are_ignored, are_ignored_answers}
 use Rattle.formatter.proofs.comments.is_all_ignored.Given as goal
 

@@ -1,13 +1,13 @@
 use Rattle.std.proofs.Common.{◌≡◌, ℕ, List, [], ◌∷◌, ◌++◌, ◌∙◌, sym, ap, subst, append-nil, append_assoc}
 use Rattle.std.specs.Iterator.{YieldsFirstBy}
 use Rattle.lexical_grammar.specs.Values.{Lines}
-use Rattle.apollo_cst_core.specs.LinesLeft.{lines_left}
 use Rattle.apollo_cst_core.proofs.LineReads.{some-line, yields-some}
-use Rattle.formatter.specs.declared.line_ends.LineEnd.{LineEnd}
-use Rattle.formatter.specs.LineEnds.{end_bytes, joined_by}
+use Rattle.apollo_cst_core.specs.LinesLeft.{lines_left}
+use Rattle.formatter.proofs.line_ends.joined_lines.Goals as goal
 use Rattle.formatter.proofs.lines.Ends.{later_lines}
 use Rattle.formatter.proofs.lines.Lengths.{as-long-at-most}
-use Rattle.formatter.proofs.line_ends.joined_lines.Goals as goal
+use Rattle.formatter.specs.LineEnds.{end_bytes, joined_by}
+use Rattle.formatter.specs.declared.line_ends.LineEnd.{LineEnd}
 
 pub unwrap-first-requires : goal.unwrap-first-requires
 unwrap-first-requires g c =

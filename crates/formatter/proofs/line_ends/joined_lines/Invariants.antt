@@ -1,9 +1,9 @@
 use Rattle.std.proofs.Common.{◌≡◌, ◌++◌, length}
 use Rattle.std.specs.Prelude.{string_bytes}
 use Rattle.apollo_cst_core.specs.LinesLeft.{lines_left}
-use Rattle.formatter.specs.LineEnds.{with_line_end}
-use Rattle.formatter.proofs.lines.Ends.{later_lines}
 use Rattle.formatter.proofs.line_ends.joined_lines.Given as goal
+use Rattle.formatter.proofs.lines.Ends.{later_lines}
+use Rattle.formatter.specs.LineEnds.{with_line_end}
 
 -- the lines so far are written, and those that are left are to be
 abbrev pub invariant-loop-line : goal.invariant-loop-line

@@ -1,6 +1,6 @@
+use Rattle.formatter.proofs.line_ends.keeps_document.Goals as goal
 use Rattle.formatter.proofs.lines.Documents.{document, comments}
 use Rattle.formatter.proofs.lines.Ends.{has-line-end}
-use Rattle.formatter.proofs.line_ends.keeps_document.Goals as goal
 
 pub returns-clause-document : goal.returns-clause-document
 returns-clause-document c = document

@@ -1,8 +1,8 @@
 use Rattle.std.proofs.Common.{ap, ◌∙◌, string_bytes}
 use Rattle.std.proofs.lemmas.Str.{IsUtf8-string_bytes}
-use Rattle.formatter.specs.LineEnds.{with_line_end}
-use Rattle.formatter.proofs.lines.Items.{same-count}
 use Rattle.formatter.proofs.line_ends.with_line_end.Goals as goal
+use Rattle.formatter.proofs.lines.Items.{same-count}
+use Rattle.formatter.specs.LineEnds.{with_line_end}
 
 pub returns-clause-items : goal.returns-clause-items
 returns-clause-items g c = λ words holds.

@@ -1,7 +1,7 @@
-use Rattle.named_files.specs.Finding.{as_named}
 use Rattle.named_files.proofs.Turns.{in_turn-next}
-use Rattle.gqlcheck_run.specs.Reading.{ReadsFound}
+use Rattle.named_files.specs.Finding.{as_named}
 use Rattle.gqlcheck_run.proofs.files.read_files.Goals as goal
+use Rattle.gqlcheck_run.specs.Reading.{ReadsFound}
 
 pub loop-named-preserved : goal.loop-named-preserved
 loop-named-preserved g c =

@@ -1,9 +1,9 @@
 use Rattle.std.proofs.Common.{map, take}
 use Rattle.named_files.specs.Finding.{as_named}
 use Rattle.named_files.specs.Handling.{InTurn}
+use Rattle.gqlcheck_run.proofs.files.read_files.Given as goal
 use Rattle.gqlcheck_run.specs.Inputs.{as_texts}
 use Rattle.gqlcheck_run.specs.Reading.{ReadsFound}
-use Rattle.gqlcheck_run.proofs.files.read_files.Given as goal
 
 abbrev pub invariant-loop-named : goal.invariant-loop-named
 invariant-loop-named g l =

@@ -1,7 +1,7 @@
 use Rattle.std.proofs.Common.{[]}
 use Rattle.named_files.proofs.Turns.{in_turn-next}
-use Rattle.gqlcheck_run.specs.Reading.{ReadsPath}
 use Rattle.gqlcheck_run.proofs.folders.read_paths.Goals as goal
+use Rattle.gqlcheck_run.specs.Reading.{ReadsPath}
 
 pub loop-path-preserved : goal.loop-path-preserved
 loop-path-preserved g c =

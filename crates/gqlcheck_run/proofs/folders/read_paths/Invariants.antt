@@ -1,9 +1,9 @@
 use Rattle.std.proofs.Common.{take}
 use Rattle.command_lines.specs.Words.{texts}
 use Rattle.named_files.specs.Handling.{InTurn}
+use Rattle.gqlcheck_run.proofs.folders.read_paths.Given as goal
 use Rattle.gqlcheck_run.specs.Inputs.{as_texts}
 use Rattle.gqlcheck_run.specs.Reading.{ReadsPath}
-use Rattle.gqlcheck_run.proofs.folders.read_paths.Given as goal
 
 abbrev pub invariant-loop-path : goal.invariant-loop-path
 invariant-loop-path g l =

@@ -1,10 +1,10 @@
 use Rattle.std.proofs.Common.{ℕ, List, arith, length, min}
-use Rattle.document_checks.specs.declared.report.Finding.{Finding}
 use Rattle.marked_lines.specs.Places.{column_number, line_number}
-use Rattle.gqlcheck_run.specs.GithubCommands.{command_at}
-use Rattle.gqlcheck_run.specs.Numbers.{capped}
+use Rattle.document_checks.specs.declared.report.Finding.{Finding}
 use Rattle.gqlcheck_run.proofs.Beginnings.{front_kept, front_more}
 use Rattle.gqlcheck_run.proofs.github.commands.Goals as goal
+use Rattle.gqlcheck_run.specs.GithubCommands.{command_at}
+use Rattle.gqlcheck_run.specs.Numbers.{capped}
 
 front : List ℕ → List ℕ → Finding → List ℕ
 front name source finding =

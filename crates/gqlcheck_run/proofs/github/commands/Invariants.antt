@@ -1,7 +1,7 @@
 use Rattle.std.proofs.Common.{◌≡◌, [], take}
 use Rattle.command_lines.specs.declared.gqlcheck.Format.TheVariants.{Github}
-use Rattle.gqlcheck_run.specs.Rendering.{BeginsAtFirst}
 use Rattle.gqlcheck_run.proofs.github.commands.Given as goal
+use Rattle.gqlcheck_run.specs.Rendering.{BeginsAtFirst}
 
 abbrev pub invariant-loop-finding : goal.invariant-loop-finding
 invariant-loop-finding g l =

@@ -1,6 +1,6 @@
 use Rattle.std.proofs.Common.{◌≡◌, ◌∙◌, ℕ, List, ◌++◌, ap, sym, append_assoc}
-use Rattle.gqlcheck_run.specs.GithubCommands.{command_of, position, property}
 use Rattle.gqlcheck_run.proofs.github.push_command_at.Goals as goal
+use Rattle.gqlcheck_run.specs.GithubCommands.{command_of, position, property}
 
 thrice : (old front middle last first second third : List ℕ) → first ≡ old ++ front → second ≡ first ++ middle
     → third ≡ second ++ last

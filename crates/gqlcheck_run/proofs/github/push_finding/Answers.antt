@@ -1,9 +1,9 @@
 use Rattle.std.proofs.Common.{◌≡◌, ◌∙◌, ℕ, List, [], ◌++◌, append-nil, length, min, sym}
-use Rattle.marked_lines.specs.Places.{BeginsWith, column_number, line_number}
 use Rattle.marked_lines.proofs.Fronts.{begins_through}
+use Rattle.marked_lines.specs.Places.{BeginsWith, column_number, line_number}
+use Rattle.gqlcheck_run.proofs.github.push_finding.Goals as goal
 use Rattle.gqlcheck_run.specs.GithubCommands.{command_at}
 use Rattle.gqlcheck_run.specs.Numbers.{capped}
-use Rattle.gqlcheck_run.proofs.github.push_finding.Goals as goal
 
 pub returns : goal.returns
 returns g c =

@@ -1,12 +1,12 @@
 use Rattle.std.proofs.Common.{◌≡◌, ◌∙◌, List, [], ◌∷◌, ℕ, ◌+◌, ap, arith, length, map, refl, sym}
-use Rattle.std.specs.Prelude.{string_bytes}
-use Rattle.std.specs.List.{sum_by}
 use Rattle.std.proofs.lemmas.List.{take_all}
 use Rattle.std.proofs.lemmas.List.Sums.{sum_by-cons, sum_by_more}
+use Rattle.std.specs.List.{sum_by}
+use Rattle.std.specs.Prelude.{string_bytes}
+use Rattle.gqlcheck_run.proofs.inputs.bytes_in.Goals as goal
 use Rattle.gqlcheck_run.specs.Inputs.{Input, as_input}
 use Rattle.gqlcheck_run.specs.Numbers.{capped}
 use Rattle.gqlcheck_run.specs.declared.inputs.Input as declared
-use Rattle.gqlcheck_run.proofs.inputs.bytes_in.Goals as goal
 
 pub loop-input-preserved : goal.loop-input-preserved
 loop-input-preserved g c =

@@ -2,9 +2,9 @@ use Rattle.std.proofs.Common.{List, ℕ, Option, ap, ap₂, inl, refl}
 use Rattle.document_checks.specs.Checking.{as_asked}
 use Rattle.command_lines.specs.Reading.{as_given}
 use Rattle.command_lines.specs.Words.{texts}
-use Rattle.gqlcheck_run.specs.Program.{as_paths, asked_by, paths_of, printing_of}
 use Rattle.gqlcheck_run.proofs.Plans.{by_plan, unknown}
 use Rattle.gqlcheck_run.proofs.program.check_by.Goals as goal
+use Rattle.gqlcheck_run.specs.Program.{as_paths, asked_by, paths_of, printing_of}
 
 pub returns-in-Ok : goal.returns-in-Ok
 returns-in-Ok g c =

@@ -1,7 +1,7 @@
 use Rattle.std.proofs.Common.{ℕ, List, arith, length, min}
 use Rattle.std.specs.Prelude.{string_bytes}
-use Rattle.document_checks.specs.declared.report.Finding.{Finding}
 use Rattle.marked_lines.specs.Places.{place}
+use Rattle.document_checks.specs.declared.report.Finding.{Finding}
 use Rattle.gqlcheck_run.proofs.Beginnings.{front_kept, front_more}
 use Rattle.gqlcheck_run.proofs.report.findings_text.Goals as goal
 

@@ -1,8 +1,8 @@
 use Rattle.std.proofs.Common.{◌≡◌, [], take}
 use Rattle.std.specs.Prelude.{string_bytes}
 use Rattle.command_lines.specs.declared.gqlcheck.Format.TheVariants.{Text}
-use Rattle.gqlcheck_run.specs.Rendering.{BeginsAtFirst}
 use Rattle.gqlcheck_run.proofs.report.findings_text.Given as goal
+use Rattle.gqlcheck_run.specs.Rendering.{BeginsAtFirst}
 
 abbrev pub invariant-loop-finding : goal.invariant-loop-finding
 invariant-loop-finding g l =

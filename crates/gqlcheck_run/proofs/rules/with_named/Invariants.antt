@@ -1,10 +1,10 @@
 use Rattle.std.proofs.Common.{◌≡◌, take}
 use Rattle.std.specs.Prelude.{◌||◌, All}
-use Rattle.command_lines.specs.Words.{texts}
 use Rattle.validation_rules.specs.Selection.{has_rule}
 use Rattle.validation_rules.specs.declared.violations.Rule.{Rule}
-use Rattle.gqlcheck_run.specs.Rules.{IsRuleName, is_among}
+use Rattle.command_lines.specs.Words.{texts}
 use Rattle.gqlcheck_run.proofs.rules.with_named.Given as goal
+use Rattle.gqlcheck_run.specs.Rules.{IsRuleName, is_among}
 
 abbrev pub invariant-loop-name : goal.invariant-loop-name
 invariant-loop-name l = record {

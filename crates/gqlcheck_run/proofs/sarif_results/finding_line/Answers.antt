@@ -1,9 +1,9 @@
 use Rattle.std.proofs.Common.{◌∙◌}
 use Rattle.std.proofs.lemmas.Result.{IfOk-weaker}
-use Rattle.gqlcheck_run.specs.SarifResults.{separator}
 use Rattle.gqlcheck_run.proofs.Lines.{grown_after, result_line}
 use Rattle.gqlcheck_run.proofs.Members.{both}
 use Rattle.gqlcheck_run.proofs.sarif_results.finding_line.Goals as goal
+use Rattle.gqlcheck_run.specs.SarifResults.{separator}
 
 pub returns-clause-first : goal.returns-clause-first
 returns-clause-first g c = IfOk-weaker c.ended.result _ _ (λ it ended empty.

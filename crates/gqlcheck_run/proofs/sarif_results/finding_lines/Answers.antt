@@ -1,9 +1,9 @@
 use Rattle.std.proofs.Common.{ℕ, List, arith, length, min, subst}
-use Rattle.document_checks.specs.declared.report.Finding.{Finding}
 use Rattle.marked_lines.proofs.Fronts.{of_first_more}
-use Rattle.gqlcheck_run.specs.Places.{BeginsWithResult}
+use Rattle.document_checks.specs.declared.report.Finding.{Finding}
 use Rattle.gqlcheck_run.proofs.Beginnings.{result_kept}
 use Rattle.gqlcheck_run.proofs.sarif_results.finding_lines.Goals as goal
+use Rattle.gqlcheck_run.specs.Places.{BeginsWithResult}
 
 pub loop-finding-preserved : goal.loop-finding-preserved
 loop-finding-preserved g c =

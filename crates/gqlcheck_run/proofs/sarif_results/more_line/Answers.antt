@@ -1,8 +1,8 @@
 use Rattle.std.proofs.Common.{◌∙◌, true}
 use Rattle.std.proofs.lemmas.Result.{IfOk-weaker}
-use Rattle.gqlcheck_run.specs.SarifResults.{separator}
 use Rattle.gqlcheck_run.proofs.Lines.{grown_after}
 use Rattle.gqlcheck_run.proofs.sarif_results.more_line.Goals as goal
+use Rattle.gqlcheck_run.specs.SarifResults.{separator}
 
 pub returns : goal.returns
 returns g c = IfOk-weaker c.ended.result _ _ (λ it ended.

@@ -1,7 +1,7 @@
 use Rattle.std.specs.Prelude.{codes}
-use Rattle.gqlcheck_run.specs.SarifResults.{physical_location}
 use Rattle.gqlcheck_run.proofs.Members.{both, in_list, of_member}
 use Rattle.gqlcheck_run.proofs.sarif_results.put_related_location.Goals as goal
+use Rattle.gqlcheck_run.specs.SarifResults.{physical_location}
 
 pub returns : goal.returns
 returns g c =

@@ -1,9 +1,9 @@
 use Rattle.std.proofs.Common.{refl}
 use Rattle.std.proofs.lemmas.Result.{err_from_is_err_and}
-use Rattle.gqlcst_run.specs.Program.{IsOutput}
 use Rattle.byte_streams.proofs.Ends.{cut, whole}
 use Rattle.gqlcst_run.proofs.Buffers.{put-all}
 use Rattle.gqlcst_run.proofs.program.process.Goals as goal
+use Rattle.gqlcst_run.specs.Program.{IsOutput}
 
 -- what the writer did where it failed or took no byte
 pub returns-in_err-finish : goal.returns-in_err-finish

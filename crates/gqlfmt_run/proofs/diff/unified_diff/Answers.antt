@@ -1,6 +1,6 @@
 use Rattle.std.proofs.Common.{◌≡◌, ℕ, List, string_bytes, ◌++◌, append_assoc, subst}
-use Rattle.std.specs.Prelude.{codes}
 use Rattle.std.proofs.lemmas.Result.{IfOk-weaker}
+use Rattle.std.specs.Prelude.{codes}
 use Rattle.gqlfmt_run.proofs.diff.unified_diff.Goals as goal
 
 pub returns-clause-other : goal.returns-clause-other

@@ -1,8 +1,8 @@
 use Rattle.std.proofs.Common.{◌≡◌, ◌++◌, take}
-use Rattle.std.specs.Prelude.{encode_utf8, string_bytes}
 use Rattle.std.specs.List.{flat_map}
-use Rattle.gqlfmt_run.specs.Quoting.{octal}
+use Rattle.std.specs.Prelude.{encode_utf8, string_bytes}
 use Rattle.gqlfmt_run.proofs.quoted_names.push_bytes.Given as goal
+use Rattle.gqlfmt_run.specs.Quoting.{octal}
 
 abbrev pub invariant-loop-byte : goal.invariant-loop-byte
 invariant-loop-byte g l =

@@ -2,9 +2,9 @@ use Rattle.std.proofs.Common.{◌≡◌, ◌∙◌, ◌<◌, ◌++◌, ap, arith
 use Rattle.std.specs.Prelude.{string_bytes}
 use Rattle.apollo_parser.specs.Errors.{error_of}
 use Rattle.apollo_parser.specs.declared.BorrowedError.{BorrowedError}
-use Rattle.first_errors.specs.Places.{shown_at}
-use Rattle.marked_lines.specs.Places.{BeginsWith, place}
 use Rattle.marked_lines.proofs.Fronts.{of_first_front}
+use Rattle.marked_lines.specs.Places.{BeginsWith, place}
+use Rattle.first_errors.specs.Places.{shown_at}
 use Rattle.gqlfmt_run.proofs.report.render_report.Goals as goal
 
 pub loop-error-preserved : goal.loop-error-preserved

@@ -1,8 +1,8 @@
 use Rattle.std.proofs.Common.{◌≡◌, [], take}
 use Rattle.std.specs.Prelude.{string_bytes}
 use Rattle.apollo_parser.specs.Errors.{error_of}
-use Rattle.first_errors.specs.Places.{shown_at}
 use Rattle.marked_lines.specs.Places.{BeginsWith, OfFirst, place}
+use Rattle.first_errors.specs.Places.{shown_at}
 use Rattle.gqlfmt_run.proofs.report.render_report.Given as goal
 
 -- the report begins with the first error

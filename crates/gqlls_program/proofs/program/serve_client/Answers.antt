@@ -5,10 +5,10 @@ use Rattle.rpc_serving.proofs.Views.{fails_of, served_of}
 use Rattle.gqlls_server.specs.Dialogue.{Dialogue, initial_dialogue}
 use Rattle.gqlls_server.specs.State.{dialogue_of}
 use Rattle.gqlls_server.specs.declared.server.Server.{Server}
+use Rattle.gqlls_program.proofs.program.serve_client.Goals as goal
 use Rattle.gqlls_program.specs.FolderDialogues.{Steps, opening}
 use Rattle.gqlls_program.specs.State.{folder_dialogue_of}
 use Rattle.gqlls_program.specs.declared.folder.FolderServer.{FolderServer}
-use Rattle.gqlls_program.proofs.program.serve_client.Goals as goal
 
 opens : {F : Type 0} (limits : Limits) (files : F) (server : Server) (service : FolderServer F)
     → dialogue_of server ≡ initial_dialogue limits

@@ -2,10 +2,10 @@ use Rattle.std.proofs.Common.{Bool, ap, refl, ◌∙◌, subst}
 use Rattle.std.specs.List.{flat_map}
 use Rattle.json.specs.Value.{value_view}
 use Rattle.rpc_messages.specs.Pieces.{tokens_of}
-use Rattle.gqlls_server.specs.Announcement.{IsAnnounced}
-use Rattle.gqlls_server.specs.declared.capabilities.TheConstants.{VERSION}
 use Rattle.gqlls_server.proofs.Announced.{announced}
 use Rattle.gqlls_server.proofs.capabilities.answer_initialize.Goals as goal
+use Rattle.gqlls_server.specs.Announcement.{IsAnnounced}
+use Rattle.gqlls_server.specs.declared.capabilities.TheConstants.{VERSION}
 
 pub returns-clause-announces : goal.returns-clause-announces
 returns-clause-announces c =

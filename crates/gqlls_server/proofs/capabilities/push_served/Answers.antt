@@ -1,7 +1,7 @@
 use Rattle.std.proofs.Common.{refl}
-use Rattle.gqlls_server.specs.declared.capabilities.TheConstants.{VERSION}
 use Rattle.gqlls_server.proofs.Announced.{written}
 use Rattle.gqlls_server.proofs.capabilities.push_served.Goals as goal
+use Rattle.gqlls_server.specs.declared.capabilities.TheConstants.{VERSION}
 
 pub returns : goal.returns
 returns c =

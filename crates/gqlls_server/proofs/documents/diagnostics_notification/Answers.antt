@@ -1,15 +1,15 @@
 use Rattle.std.proofs.Common.{Global, String, ◌≡◌, ◌++◌, ℕ, List, Some, false, ap, map, subst, sym, ◌∙◌}
-use Rattle.std.specs.Prelude.{◌↔◌, ◌⊎◌}
 use Rattle.std.proofs.lemmas.List.{map-append}
 use Rattle.std.specs.BTreeMap.{values}
 use Rattle.std.specs.List.{Contains}
+use Rattle.std.specs.Prelude.{◌↔◌, ◌⊎◌}
 use denote.Ref.{Bor}
 use Rattle.editor_validation.specs.Fragments.{Fragments, as_fragments}
 use Rattle.editor_validation.specs.declared.fragments.FragmentNames.{FragmentNames}
-use Rattle.gqlls_server.specs.State.{entries_beside, is_own, names_in, names_of}
-use Rattle.gqlls_server.specs.declared.documents.Document.{Document}
 use Rattle.gqlls_server.proofs.Maps.{all_beside, all_of, in_either}
 use Rattle.gqlls_server.proofs.documents.diagnostics_notification.Goals as goal
+use Rattle.gqlls_server.specs.State.{entries_beside, is_own, names_in, names_of}
+use Rattle.gqlls_server.specs.declared.documents.Document.{Document}
 
 pub returns-clause-published : goal.returns-clause-published
 returns-clause-published c =

@@ -1,12 +1,12 @@
 use Rattle.std.proofs.Common.{Global, String, [], ◌∷◌, ap, map, string_bytes, sym, ◌++◌, ◌∙◌}
-use Rattle.std.specs.Prelude.{filter, not}
-use Rattle.std.specs.BTreeSet.{contains_text}
 use Rattle.std.proofs.lemmas.List.{map-append}
+use Rattle.std.specs.BTreeSet.{contains_text}
+use Rattle.std.specs.Prelude.{filter, not}
 use Rattle.editor_validation.specs.Fragments.{Fragments, as_fragments}
-use Rattle.gqlls_server.specs.State.{names_of}
-use Rattle.gqlls_server.specs.declared.documents.Document.{Document}
 use Rattle.gqlls_server.proofs.Maps.{passed_more, passed_over}
 use Rattle.gqlls_server.proofs.documents.file_fragments.Goals as goal
+use Rattle.gqlls_server.specs.State.{names_of}
+use Rattle.gqlls_server.specs.declared.documents.Document.{Document}
 
 pub loop-name-preserved-in-Continue-1 : goal.loop-name-preserved-in-Continue-1
 loop-name-preserved-in-Continue-1 c =

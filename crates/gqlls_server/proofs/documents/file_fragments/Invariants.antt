@@ -1,9 +1,9 @@
 use Rattle.std.proofs.Common.{◌≡◌, ◌++◌, map}
-use Rattle.std.specs.Prelude.{filter, not, string_bytes}
 use Rattle.std.specs.BTreeSet.{contains_text}
+use Rattle.std.specs.Prelude.{filter, not, string_bytes}
 use Rattle.editor_validation.specs.Fragments.{as_fragments}
-use Rattle.gqlls_server.specs.State.{entries_beside, names_of}
 use Rattle.gqlls_server.proofs.documents.file_fragments.Given as goal
+use Rattle.gqlls_server.specs.State.{entries_beside, names_of}
 
 -- the names so far, and those of the files that are left
 abbrev pub invariant-loop-name : goal.invariant-loop-name

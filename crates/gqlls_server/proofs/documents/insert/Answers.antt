@@ -1,7 +1,7 @@
 use Rattle.std.proofs.Common.{refl}
-use Rattle.gqlls_server.specs.State.{file_of, names_of}
 use Rattle.gqlls_server.proofs.Maps.{updated}
 use Rattle.gqlls_server.proofs.documents.insert.Goals as goal
+use Rattle.gqlls_server.specs.State.{file_of, names_of}
 
 pub returns-clause-files : goal.returns-clause-files
 returns-clause-files c =

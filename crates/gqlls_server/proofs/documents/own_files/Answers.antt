@@ -1,10 +1,10 @@
 use Rattle.std.proofs.Common.{ap, map, string_bytes, sym, ◌∙◌}
-use Rattle.std.specs.Prelude.{◌||◌}
 use Rattle.std.specs.BTreeSet.{contains_text}
 use Rattle.std.specs.List.{list_any}
-use Rattle.gqlls_server.specs.State.{is_of}
+use Rattle.std.specs.Prelude.{◌||◌}
 use Rattle.gqlls_server.proofs.Own.{one_more}
 use Rattle.gqlls_server.proofs.documents.own_files.Goals as goal
+use Rattle.gqlls_server.specs.State.{is_of}
 
 pub loop-name-preserved : goal.loop-name-preserved
 loop-name-preserved c = λ name.

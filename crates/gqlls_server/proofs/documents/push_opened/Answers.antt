@@ -1,13 +1,13 @@
 use Rattle.std.proofs.Common.{Global, String, [], ◌∷◌, ap, filter, map, string_bytes, subst, sym, ◌++◌, ◌∙◌}
-use Rattle.std.specs.Prelude.{bytes_eq, not}
 use Rattle.std.proofs.lemmas.List.{map-append}
 use Rattle.std.proofs.lemmas.List.Elements.{All-push}
+use Rattle.std.specs.Prelude.{bytes_eq, not}
+use Rattle.gqlls_server.proofs.Maps.{passed_more}
+use Rattle.gqlls_server.proofs.documents.push_opened.Goals as goal
 use Rattle.gqlls_server.specs.Parsing.{IsParsed}
 use Rattle.gqlls_server.specs.Renaming.{AreParsed, KnownFile}
 use Rattle.gqlls_server.specs.State.{entry_of, is_other, known_of}
 use Rattle.gqlls_server.specs.declared.documents.Document.{Document}
-use Rattle.gqlls_server.proofs.Maps.{passed_more}
-use Rattle.gqlls_server.proofs.documents.push_opened.Goals as goal
 
 pub loop-name-preserved-in-Continue-1 : goal.loop-name-preserved-in-Continue-1
 loop-name-preserved-in-Continue-1 c =

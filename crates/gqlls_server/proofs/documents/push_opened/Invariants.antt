@@ -1,8 +1,8 @@
 use Rattle.std.proofs.Common.{◌≡◌, ◌++◌, map}
 use Rattle.std.specs.Prelude.{filter, string_bytes}
+use Rattle.gqlls_server.proofs.documents.push_opened.Given as goal
 use Rattle.gqlls_server.specs.Renaming.{AreParsed}
 use Rattle.gqlls_server.specs.State.{entries_that, entry_of, is_other, known_of}
-use Rattle.gqlls_server.proofs.documents.push_opened.Given as goal
 
 -- the documents so far, and those that are left
 abbrev pub invariant-loop-name : goal.invariant-loop-name

@@ -1,18 +1,18 @@
 use Rattle.std.proofs.Common.{◌≡◌, Global, String, Bool, true, false, [], ◌∷◌, ap, filter, map, refl, string_bytes}
 use Rattle.std.proofs.Common.{subst, sym, ◌++◌, ◌∙◌}
-use Rattle.std.specs.Prelude.{◌&&◌, is_some, not}
-use Rattle.std.specs.BTreeMap.{get_by_text}
-use Rattle.std.specs.BTreeSet.{contains_text}
 use Rattle.std.proofs.lemmas.List.{map-append}
 use Rattle.std.proofs.lemmas.List.Elements.{All-push}
-use Rattle.gqlls_server.specs.Parsing.{IsParsed}
-use Rattle.gqlls_server.specs.Renaming.{AreParsed, KnownFile}
-use Rattle.gqlls_server.specs.State.{entry_of, is_stored, known_of}
-use Rattle.gqlls_server.specs.declared.documents.Document.{Document}
+use Rattle.std.specs.BTreeMap.{get_by_text}
+use Rattle.std.specs.BTreeSet.{contains_text}
+use Rattle.std.specs.Prelude.{◌&&◌, is_some, not}
 use Rattle.gqlls_server.proofs.Maps.{passed_more, passed_over}
 use Rattle.gqlls_server.proofs.documents.push_stored.Goals as goal
 use Rattle.gqlls_server.proofs.documents.push_stored.Goals.{else-not-contains-via-then-not-contains+else-not-contains_key}
 use Rattle.gqlls_server.proofs.documents.push_stored.Goals.{else-not-contains-via-else-not-contains}
+use Rattle.gqlls_server.specs.Parsing.{IsParsed}
+use Rattle.gqlls_server.specs.Renaming.{AreParsed, KnownFile}
+use Rattle.gqlls_server.specs.State.{entry_of, is_stored, known_of}
+use Rattle.gqlls_server.specs.declared.documents.Document.{Document}
 
 both : (own opens : Bool) → own ≡ false → opens ≡ false → (not own && not opens) ≡ true
 both own opens one two = rw (one, two) refl

@@ -3,11 +3,11 @@ use Rattle.std.specs.Prelude.{is_some, option_map}
 use Rattle.apollo_tree.specs.Order.{Place, range_at}
 use Rattle.editor_answers.specs.Names.{definition_in}
 use Rattle.editor_answers.specs.Parts.{bounds}
-use Rattle.gqlls_server.specs.Renaming.{KnownFile, defines, root_of}
-use Rattle.gqlls_server.specs.State.{known_of, text_of}
 use Rattle.gqlls_server.proofs.Definers.{found_at, none_left, other_counts, own_counts}
 use Rattle.gqlls_server.proofs.Own.{some_of}
 use Rattle.gqlls_server.proofs.references.definer_of.Goals as goal
+use Rattle.gqlls_server.specs.Renaming.{KnownFile, defines, root_of}
+use Rattle.gqlls_server.specs.State.{known_of, text_of}
 
 pub returns-then-is_some : goal.returns-then-is_some
 returns-then-is_some c =

@@ -1,8 +1,8 @@
 use Rattle.std.proofs.Common.{◌≡◌, drop, map}
 use Rattle.std.specs.List.{find}
+use Rattle.gqlls_server.proofs.references.definer_of.Given as goal
 use Rattle.gqlls_server.specs.Renaming.{defines}
 use Rattle.gqlls_server.specs.State.{known_of}
-use Rattle.gqlls_server.proofs.references.definer_of.Given as goal
 
 -- the first one is among those that are left
 abbrev pub invariant-loop-one : goal.invariant-loop-one

@@ -4,10 +4,10 @@ use Rattle.apollo_tree.specs.Order.{Place, range_at}
 use Rattle.apollo_tree.specs.References.{node_place}
 use Rattle.editor_answers.specs.Names.{definition_elsewhere}
 use Rattle.editor_answers.specs.Parts.{bounds}
-use Rattle.gqlls_server.specs.Renaming.{root_of}
-use Rattle.gqlls_server.specs.State.{known_of}
 use Rattle.gqlls_server.proofs.Own.{some_of}
 use Rattle.gqlls_server.proofs.references.defines.Goals as goal
+use Rattle.gqlls_server.specs.Renaming.{root_of}
+use Rattle.gqlls_server.specs.State.{known_of}
 
 pub returns : goal.returns
 returns c =

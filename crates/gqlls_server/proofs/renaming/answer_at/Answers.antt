@@ -1,17 +1,17 @@
 use Rattle.std.proofs.Common.{ap, map, ◌∙◌, sym}
 use Rattle.std.proofs.lemmas.Result.{IfOk-weaker}
+use Rattle.json.specs.Value.{value_view}
 use Rattle.document_grammar.specs.declared.kind.SyntaxKind.TheVariants.{IDENT}
 use Rattle.apollo_tree.specs.AtOffset.{leaves_at}
 use Rattle.apollo_tree.specs.Order.{Place}
 use Rattle.apollo_tree.specs.References.{token_place}
 use Rattle.apollo_cst_core.specs.Kinds.{is_of}
 use Rattle.editor_answers.specs.Names.{identifier_at}
-use Rattle.json.specs.Value.{value_view}
-use Rattle.gqlls_server.specs.Renaming.{IsRenamed, IsRenamedAt, root_of}
-use Rattle.gqlls_server.specs.State.{known_of}
 use Rattle.gqlls_server.proofs.Meanings.{chosen, found_passes, meaningless, meant}
 use Rattle.gqlls_server.proofs.Messages.{found_in}
 use Rattle.gqlls_server.proofs.renaming.answer_at.Goals as goal
+use Rattle.gqlls_server.specs.Renaming.{IsRenamed, IsRenamedAt, root_of}
+use Rattle.gqlls_server.specs.State.{known_of}
 
 pub returns-in_ok-body-in-None-clause-renames : goal.returns-in_ok-body-in-None-clause-renames
 returns-in_ok-body-in-None-clause-renames c =

@@ -1,14 +1,14 @@
 use Rattle.std.proofs.Common.{◌∷◌, ◌++◌, ◌∙◌, [], List, ap, map, refl, true}
-use Rattle.std.specs.Prelude.{codes}
 use Rattle.std.specs.List.{flat_map}
+use Rattle.std.specs.Prelude.{codes}
 use Rattle.json.specs.Token.{Token, begin_object, end_object, key}
 use Rattle.rpc_messages.specs.Pieces.{tokens_of}
 use Rattle.rpc_messages.specs.declared.pieces.Piece.{Piece}
 use Rattle.editor_answers.proofs.Added.{added_as}
-use Rattle.gqlls_server.specs.Renaming.{workspace_edit}
-use Rattle.gqlls_server.specs.State.{known_of, places_of}
 use Rattle.gqlls_server.proofs.Edits.{result_written}
 use Rattle.gqlls_server.proofs.renaming.answer_edits.Goals as goal
+use Rattle.gqlls_server.specs.Renaming.{workspace_edit}
+use Rattle.gqlls_server.specs.State.{known_of, places_of}
 
 pub returns-clause-edits : goal.returns-clause-edits
 returns-clause-edits c =

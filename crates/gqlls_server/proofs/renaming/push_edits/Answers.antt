@@ -1,12 +1,12 @@
 use Rattle.std.proofs.Common.{◌≡◌, ◌≢◌, [], ap, arith}
-use Rattle.std.specs.Prelude.{length}
-use Rattle.std.specs.List.{flat_map}
 use Rattle.std.proofs.lemmas.Bool.Decides.{nat_tests}
+use Rattle.std.specs.List.{flat_map}
+use Rattle.std.specs.Prelude.{length}
 use Rattle.rpc_messages.specs.Pieces.{tokens_of}
 use Rattle.editor_answers.proofs.Added.{added}
-use Rattle.gqlls_server.specs.State.{known_of}
 use Rattle.gqlls_server.proofs.Edits.{pieces_written}
 use Rattle.gqlls_server.proofs.renaming.push_edits.Goals as goal
+use Rattle.gqlls_server.specs.State.{known_of}
 
 pub returns : goal.returns
 returns c =

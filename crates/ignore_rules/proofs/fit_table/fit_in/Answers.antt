@@ -1,8 +1,8 @@
 use Rattle.std.proofs.Common.{◌≡◌, ℕ, ◌+◌, ◌-◌, arith, drop, map, subst}
-use Rattle.ignore_rules.specs.Fits.{as_sign, fits}
-use Rattle.ignore_rules.specs.Tables.{IsWindow}
 use Rattle.ignore_rules.proofs.TableLemmas.{fits_more, none_fits, none_in, same_none}
 use Rattle.ignore_rules.proofs.fit_table.fit_in.Goals as goal
+use Rattle.ignore_rules.specs.Fits.{as_sign, fits}
+use Rattle.ignore_rules.specs.Tables.{IsWindow}
 
 pub returns-then-window-clause-places : goal.returns-then-window-clause-places
 returns-then-window-clause-places g c first =

@@ -1,7 +1,7 @@
 use Rattle.std.proofs.Common.{◌+◌, ◌≤◌, [], drop, length, map}
+use Rattle.ignore_rules.proofs.fit_table.fit_in.Given as goal
 use Rattle.ignore_rules.specs.Fits.{as_sign, fits}
 use Rattle.ignore_rules.specs.Tables.{IsWindow}
-use Rattle.ignore_rules.proofs.fit_table.fit_in.Given as goal
 
 abbrev pub invariant-loop-index : goal.invariant-loop-index
 invariant-loop-index g l =

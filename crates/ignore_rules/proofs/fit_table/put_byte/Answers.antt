@@ -1,9 +1,9 @@
 use Rattle.std.proofs.Common.{false, ◌≡◌, ℕ, ◌+◌, ◌-◌, ◌&&◌, drop, get_or, arith, ◌∙◌, subst}
 use Rattle.std.proofs.lemmas.Grind.{common_steps}
-use Rattle.ignore_rules.specs.Fits.{after_byte, as_sign, takes}
 use Rattle.ignore_rules.proofs.TableLemmas.{IsUp, byte_entry, byte_first, byte_last, one_up}
 use Rattle.ignore_rules.proofs.fit_table.put_byte.Goals as goal
 use Rattle.ignore_rules.proofs.fit_table.put_byte.Goals.{then-takes, else-takes}
+use Rattle.ignore_rules.specs.Fits.{after_byte, as_sign, takes}
 
 pub loop-index-init : goal.loop-index-init
 loop-index-init g c test is =

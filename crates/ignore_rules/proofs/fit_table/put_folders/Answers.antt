@@ -1,17 +1,17 @@
 use Rattle.std.proofs.Common.{false, ◌≡◌, ℕ, ◌+◌, ◌-◌, ◌&&◌, ◌||◌, drop, get_or, length, arith, ◌∙◌, subst, inl, inr}
 use Rattle.std.proofs.Common.{sym}
-use Rattle.std.specs.Prelude.{◌==◌}
+use Rattle.std.proofs.Math.Bool.{or-false}
 use Rattle.std.proofs.lemmas.Bool.{cases_lt}
 use Rattle.std.proofs.lemmas.Bool.Decides.{nat_tests}
 use Rattle.std.proofs.lemmas.List.{at_drop_all}
-use Rattle.std.proofs.Math.Bool.{or-false}
-use Rattle.ignore_rules.specs.Fits.{after_sign, after_slash, folders}
+use Rattle.std.specs.Prelude.{◌==◌}
 use Rattle.ignore_rules.proofs.TableLemmas.{IsDown, down_all, down_first, none_after, none_folders, none_slash}
 use Rattle.ignore_rules.proofs.TableLemmas.{one_down, slash_entry}
 use Rattle.ignore_rules.proofs.fit_table.put_folders.Goals as goal
 use Rattle.ignore_rules.proofs.fit_table.put_folders.Goals.{then-below, else-below+then-path-index-eq-SLASH}
 use Rattle.ignore_rules.proofs.fit_table.put_folders.Goals.{else-below+else-path-index-eq-SLASH, then-table-index}
 use Rattle.ignore_rules.proofs.fit_table.put_folders.Goals.{else-table-index}
+use Rattle.ignore_rules.specs.Fits.{after_sign, after_slash, folders}
 
 pub loop-index-init : goal.loop-index-init
 loop-index-init c test is = (

@@ -1,8 +1,8 @@
 use Rattle.std.proofs.Common.{◌≡◌, ℕ, Bool, List, drop}
-use Rattle.ignore_rules.specs.Fits.{after_sign, after_slash, folders}
-use Rattle.ignore_rules.specs.Tables.{IsWindow}
 use Rattle.ignore_rules.proofs.TableLemmas.{IsDown}
 use Rattle.ignore_rules.proofs.fit_table.put_folders.Given as goal
+use Rattle.ignore_rules.specs.Fits.{after_sign, after_slash, folders}
+use Rattle.ignore_rules.specs.Tables.{IsWindow}
 
 abbrev pub invariant-loop-index : goal.invariant-loop-index
 invariant-loop-index l =

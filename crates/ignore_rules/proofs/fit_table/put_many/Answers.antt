@@ -1,14 +1,14 @@
 use Rattle.std.proofs.Common.{false, inl, inr, length, ◌≡◌, ℕ, ◌+◌, ◌-◌, ◌&&◌, ◌||◌, not, drop, get_or, refl, arith}
 use Rattle.std.proofs.Common.{◌∙◌, subst}
-use Rattle.std.specs.Prelude.{◌==◌}
 use Rattle.std.proofs.lemmas.Bool.{cases_lt}
 use Rattle.std.proofs.lemmas.Bool.Decides.{nat_tests}
-use Rattle.ignore_rules.specs.Fits.{after_bytes}
+use Rattle.std.specs.Prelude.{◌==◌}
 use Rattle.ignore_rules.proofs.TableLemmas.{IsDown, down_all, down_first, down_to, many_entry, none_after, none_bytes}
 use Rattle.ignore_rules.proofs.TableLemmas.{one_down}
 use Rattle.ignore_rules.proofs.fit_table.put_many.Goals as goal
 use Rattle.ignore_rules.proofs.fit_table.put_many.Goals.{then-table-index, else-table-index+then-path-index-ne-SLASH}
 use Rattle.ignore_rules.proofs.fit_table.put_many.Goals.{else-table-index+else-path-index-ne-SLASH}
+use Rattle.ignore_rules.specs.Fits.{after_bytes}
 
 pub loop-index-init : goal.loop-index-init
 loop-index-init c test is =

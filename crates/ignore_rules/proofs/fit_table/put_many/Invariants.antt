@@ -1,8 +1,8 @@
 use Rattle.std.proofs.Common.{ℕ, Bool, List}
-use Rattle.ignore_rules.specs.Fits.{after_bytes}
-use Rattle.ignore_rules.specs.Tables.{IsWindow}
 use Rattle.ignore_rules.proofs.TableLemmas.{IsDown}
 use Rattle.ignore_rules.proofs.fit_table.put_many.Given as goal
+use Rattle.ignore_rules.specs.Fits.{after_bytes}
+use Rattle.ignore_rules.specs.Tables.{IsWindow}
 
 abbrev pub invariant-loop-index : goal.invariant-loop-index
 invariant-loop-index l =

@@ -1,7 +1,7 @@
 use Rattle.std.proofs.Common.{◌≡◌, ◌++◌, ◌-◌, length, map}
+use Rattle.ignore_rules.proofs.signs.read_signs.Given as goal
 use Rattle.ignore_rules.specs.Fits.{as_sign}
 use Rattle.ignore_rules.specs.Reading.{signs_in, signs_of}
-use Rattle.ignore_rules.proofs.signs.read_signs.Given as goal
 
 abbrev pub invariant-loop-done : goal.invariant-loop-done
 invariant-loop-done g l =

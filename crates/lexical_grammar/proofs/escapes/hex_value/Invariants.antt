@@ -1,8 +1,8 @@
 use Rattle.std.proofs.Common.{◌≡◌, ◌≤◌, true, min, take}
 use Rattle.std.specs.List.{list_all}
+use Rattle.lexical_grammar.proofs.escapes.hex_value.Given as goal
 use Rattle.lexical_grammar.specs.Characters.{is_hex_digit}
 use Rattle.lexical_grammar.specs.Strings.{hex_value}
-use Rattle.lexical_grammar.proofs.escapes.hex_value.Given as goal
 
 abbrev pub invariant-loop-b : goal.invariant-loop-b
 invariant-loop-b l = record {

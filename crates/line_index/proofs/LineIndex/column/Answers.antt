@@ -1,10 +1,10 @@
 use Rattle.std.proofs.Common.{◌≡◌, ◌-◌, ℕ, ap, arith}
-use Rattle.line_index.specs.Columns.{weight}
-use Rattle.line_index.specs.Lines.{line_start}
 use Rattle.std.specs.List.{sum_by}
 use Rattle.std.specs.Prelude.{slice_range}
-use Rattle.line_index.proofs.MarkLemmas.{sum-slice}
 use Rattle.line_index.proofs.LineIndex.column.Goals as goal
+use Rattle.line_index.proofs.MarkLemmas.{sum-slice}
+use Rattle.line_index.specs.Columns.{weight}
+use Rattle.line_index.specs.Lines.{line_start}
 
 pub overflow_sub-result : goal.overflow_sub-result
 overflow_sub-result g c =

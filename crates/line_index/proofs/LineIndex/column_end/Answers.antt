@@ -1,9 +1,9 @@
 use Rattle.std.proofs.Common.{refl, ◌≡◌, ◌-◌, ◌+◌, ◌*◌, ◌∙◌, List, ℕ, length, ap, subst, arith}
 use Rattle.std.specs.Str.{IsUtf8}
-use Rattle.line_index.proofs.MarkLemmas.{no-marks, marks-ordered, mark-units, whole-part-fits, from-units}
-use Rattle.line_index.proofs.MarkLemmas.{units-boundary, room-fits, room-full}
 use Rattle.line_index.proofs.ColumnLemmas.{ascii-slice, ascii-unit}
 use Rattle.line_index.proofs.LineIndex.column_end.Goals as goal
+use Rattle.line_index.proofs.MarkLemmas.{no-marks, marks-ordered, mark-units, whole-part-fits, from-units}
+use Rattle.line_index.proofs.MarkLemmas.{units-boundary, room-fits, room-full}
 
 pub overflow_add-wanted : goal.overflow_add-wanted
 overflow_add-wanted g c =

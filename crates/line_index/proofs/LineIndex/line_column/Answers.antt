@@ -1,6 +1,6 @@
 use Rattle.std.proofs.Common.{arith}
-use Rattle.line_index.proofs.LineLemmas.{starts-ordered, starts-first, found}
 use Rattle.line_index.proofs.LineIndex.line_column.Goals as goal
+use Rattle.line_index.proofs.LineLemmas.{starts-ordered, starts-first, found}
 
 pub last_up_to-line-requires-clause-first : goal.last_up_to-line-requires-clause-first
 last_up_to-line-requires-clause-first g c =

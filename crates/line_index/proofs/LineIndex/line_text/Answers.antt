@@ -1,6 +1,6 @@
 use Rattle.std.proofs.lemmas.Str.{IsUtf8-had}
-use Rattle.line_index.proofs.LineLemmas.{column-boundary}
 use Rattle.line_index.proofs.LineIndex.line_text.Goals as goal
+use Rattle.line_index.proofs.LineLemmas.{column-boundary}
 
 pub range_from-requires : goal.range_from-requires
 range_from-requires g c =

@@ -1,12 +1,12 @@
 use Rattle.std.proofs.Common.{◌≡◌, ◌+◌, ◌<◌, ◌≤◌, List, ℕ, length, take, ap, subst, sym, ◌∙◌, arith}
-use Rattle.std.specs.Str.{IsUtf8, IsCharBoundary}
 use Rattle.std.proofs.lemmas.Str.{IsUtf8-had}
+use Rattle.std.specs.Str.{IsUtf8, IsCharBoundary}
+use Rattle.line_index.proofs.LineIndex.offset.Goals as goal
+use Rattle.line_index.proofs.OffsetLemmas.{is-line, end-boundary, at-end, at-floor, at-units, units-boundary}
+use Rattle.line_index.proofs.TextLemmas.{beyond}
 use Rattle.line_index.specs.Lines.{line_at}
 use Rattle.line_index.specs.Positions.{units, offset_of}
 use Rattle.line_index.specs.declared.PositionEncoding.{PositionEncoding}
-use Rattle.line_index.proofs.TextLemmas.{beyond}
-use Rattle.line_index.proofs.OffsetLemmas.{is-line, end-boundary, at-end, at-floor, at-units, units-boundary}
-use Rattle.line_index.proofs.LineIndex.offset.Goals as goal
 
 pub returns-then-position-len-clause-position : goal.returns-then-position-len-clause-position
 returns-then-position-len-clause-position g c =

@@ -1,12 +1,12 @@
 use Rattle.std.proofs.Common.{◌≡◌, ◌-◌, ℕ, length, drop, ap, subst, sym, ◌∙◌, arith, length-drop}
+use Rattle.std.proofs.lemmas.List.{length-take}
 use Rattle.std.specs.Prelude.{slice_range}
 use Rattle.std.specs.Str.{IsUtf8}
-use Rattle.std.proofs.lemmas.List.{length-take}
+use Rattle.line_index.proofs.LineIndex.position.Goals as goal
+use Rattle.line_index.proofs.OffsetLemmas.{named}
 use Rattle.line_index.specs.Lines.{line_start}
 use Rattle.line_index.specs.Positions.{width}
 use Rattle.line_index.specs.declared.PositionEncoding.{PositionEncoding}
-use Rattle.line_index.proofs.OffsetLemmas.{named}
-use Rattle.line_index.proofs.LineIndex.position.Goals as goal
 
 pub returns-in-Utf8-clause-names : goal.returns-in-Utf8-clause-names
 returns-in-Utf8-clause-names g c = λ cursor. (

@@ -1,9 +1,9 @@
 use Rattle.std.proofs.Common.{◌≡◌, ◌<◌, ◌-◌, ◌*◌, ◌/◌, ◌∙◌, List, ℕ, take, length, ap, sym, arith}
 use Rattle.std.specs.List.{sum_by}
-use Rattle.line_index.specs.Columns.{weight}
 use Rattle.line_index.proofs.ColumnLemmas.{weight-part, weight-small, ascii-before}
-use Rattle.line_index.proofs.MarkLemmas.{before, no-marks, some-marks}
 use Rattle.line_index.proofs.LineIndex.weight_before.Goals as goal
+use Rattle.line_index.proofs.MarkLemmas.{before, no-marks, some-marks}
+use Rattle.line_index.specs.Columns.{weight}
 
 pub returns-then-is_empty : goal.returns-then-is_empty
 returns-then-is_empty g c =

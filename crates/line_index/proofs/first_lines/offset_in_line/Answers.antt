@@ -1,11 +1,11 @@
 use Rattle.std.proofs.Common.{◌≡◌, ◌+◌, length, take, subst, sym, refl, arith}
 use Rattle.std.specs.Str.{IsCharBoundary}
-use Rattle.line_index.specs.Positions.{units, offset_of}
-use Rattle.line_index.specs.declared.PositionEncoding.{PositionEncoding}
+use Rattle.line_index.proofs.FirstLineLemmas.{line-from, fitted}
 use Rattle.line_index.proofs.LineLemmas.{start-boundary}
 use Rattle.line_index.proofs.OffsetLemmas.{end-boundary, at-end, at-floor, at-units, units-boundary}
-use Rattle.line_index.proofs.FirstLineLemmas.{line-from, fitted}
 use Rattle.line_index.proofs.first_lines.offset_in_line.Goals as goal
+use Rattle.line_index.specs.Positions.{units, offset_of}
+use Rattle.line_index.specs.declared.PositionEncoding.{PositionEncoding}
 
 pub range_from-requires : goal.range_from-requires
 range_from-requires c =

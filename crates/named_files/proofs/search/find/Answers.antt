@@ -1,8 +1,8 @@
 use Rattle.std.proofs.Common.{[], ◌∷◌, List, subst}
-use Rattle.named_files.specs.Finding.{FoundPath, none, folder}
-use Rattle.named_files.specs.Search.{Advances, as_found_path, found_by}
 use Rattle.named_files.proofs.SearchLemmas.{popped, drained, stays, goes_on, ends, lists_on}
 use Rattle.named_files.proofs.search.find.Goals as goal
+use Rattle.named_files.specs.Finding.{FoundPath, none, folder}
+use Rattle.named_files.specs.Search.{Advances, as_found_path, found_by}
 
 pub returns-in_err-search-clause-lists : goal.returns-in_err-search-clause-lists
 returns-in_err-search-clause-lists g c = none

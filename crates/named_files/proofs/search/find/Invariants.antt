@@ -1,7 +1,7 @@
 use Rattle.std.proofs.Common.{[], ◌∷◌}
+use Rattle.named_files.proofs.search.find.Given as goal
 use Rattle.named_files.specs.Finding.{Lists, folder}
 use Rattle.named_files.specs.Search.{Advances, found_by, waiting_of}
-use Rattle.named_files.proofs.search.find.Given as goal
 
 abbrev pub invariant-loop : goal.invariant-loop
 invariant-loop g l = record {

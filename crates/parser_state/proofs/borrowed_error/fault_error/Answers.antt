@@ -1,9 +1,9 @@
 use Rattle.std.proofs.Common.{sym, ap, ◌∙◌}
 use Rattle.lexical_grammar.specs.Answers.{is_end}
 use Rattle.parser_rules.specs.Messages.{at_text, at_end}
-use Rattle.parser_state.specs.View.{lexeme_of}
 use Rattle.parser_state.proofs.Faults.{text-error, end-error, plain-message}
 use Rattle.parser_state.proofs.borrowed_error.fault_error.Goals as goal
+use Rattle.parser_state.specs.View.{lexeme_of}
 
 pub returns-then-is_eof : goal.returns-then-is_eof
 returns-then-is_eof g c =

@@ -2,9 +2,9 @@ use Rattle.std.proofs.Common.{◌++◌, [], sym, ap, ◌∙◌}
 use Rattle.std.specs.Prelude.{codes}
 use Rattle.lexical_grammar.specs.Answers.{is_end}
 use Rattle.parser_rules.specs.Messages.{Text}
-use Rattle.parser_state.specs.View.{lexeme_of}
 use Rattle.parser_state.proofs.Faults.{text-error, end-error, quoting-message}
 use Rattle.parser_state.proofs.borrowed_error.found_error.Goals as goal
+use Rattle.parser_state.specs.View.{lexeme_of}
 
 pub returns-then-is_eof : goal.returns-then-is_eof
 returns-then-is_eof g c =

@@ -2,8 +2,8 @@ use Rattle.std.proofs.Common.{◌≡◌, ◌+◌, ◌-◌, ◌<◌, ◌≤◌, �
 use Rattle.std.proofs.lemmas.List.{drop_more}
 use Rattle.apollo_tree.specs.References.{node_place}
 use Rattle.type_system.specs.Schemas.{types}
-use Rattle.query_validation.specs.Contexts.{inside, step}
 use Rattle.query_validation.proofs.contexts.inside.Goals as goal
+use Rattle.query_validation.specs.Contexts.{inside, step}
 
 pub loop-left-preserved : goal.loop-left-preserved
 loop-left-preserved c =

@@ -1,8 +1,8 @@
 use Rattle.std.proofs.Common.{◌≡◌, ◌≤◌, drop, length, map}
 use Rattle.apollo_tree.specs.References.{node_place}
 use Rattle.type_system.specs.Schemas.{types}
-use Rattle.query_validation.specs.Contexts.{as_context, inside}
 use Rattle.query_validation.proofs.contexts.inside.Given as goal
+use Rattle.query_validation.specs.Contexts.{as_context, inside}
 
 abbrev pub invariant-loop-left : goal.invariant-loop-left
 invariant-loop-left l = record {

@@ -1,18 +1,18 @@
 use Rattle.std.proofs.Common.{◌≡◌, [], ◌++◌, ◌∷◌, map, take, sym, ap, ◌∙◌, subst}
-use Rattle.std.specs.List.{All, flat_map}
 use Rattle.std.proofs.lemmas.List.Elements.{All-head, All-nil, All-rest, All-same}
+use Rattle.std.specs.List.{All, flat_map}
 use Rattle.document_grammar.specs.Forests.{Forest}
 use Rattle.apollo_tree.specs.Order.{Place}
 use Rattle.apollo_tree.specs.References.{node_place}
 use Rattle.apollo_tree.specs.Yields.{rest_descendant_nodes}
 use Rattle.validation_names.specs.Sites.{as_located, located, nodes}
 use Rattle.type_system.specs.Schemas.{types}
-use Rattle.query_validation.specs.Breaches.{as_breach, breaches_at, breaches_in, definition_breaches}
-use Rattle.query_validation.specs.Contexts.{around, as_context}
-use Rattle.query_validation.specs.Stack.{IsLevel}
 use Rattle.query_validation.proofs.ListedLemmas.{listed_more}
 use Rattle.query_validation.proofs.StackLemmas.{nodes_in}
 use Rattle.query_validation.proofs.judging.judge_definition.Goals as goal
+use Rattle.query_validation.specs.Breaches.{as_breach, breaches_at, breaches_in, definition_breaches}
+use Rattle.query_validation.specs.Contexts.{around, as_context}
+use Rattle.query_validation.specs.Stack.{IsLevel}
 
 pub loop-node-init : goal.loop-node-init
 loop-node-init c =

@@ -5,9 +5,9 @@ use Rattle.apollo_tree.specs.References.{node_place}
 use Rattle.apollo_tree.specs.Yields.{rest_descendant_nodes}
 use Rattle.validation_names.specs.Sites.{as_located, located}
 use Rattle.type_system.specs.Schemas.{types}
+use Rattle.query_validation.proofs.judging.judge_definition.Given as goal
 use Rattle.query_validation.specs.Breaches.{as_breach, breaches_at, definition_breaches}
 use Rattle.query_validation.specs.Stack.{IsLevel}
-use Rattle.query_validation.proofs.judging.judge_definition.Given as goal
 
 abbrev pub invariant-loop-node : goal.invariant-loop-node
 invariant-loop-node l = record {

@@ -1,12 +1,12 @@
 use Rattle.std.proofs.Common.{map}
 use Rattle.validation_names.specs.Sites.{as_located}
 use Rattle.type_system.specs.Schemas.{types}
+use Rattle.query_validation.proofs.ListedLemmas.{each_more}
+use Rattle.query_validation.proofs.judging.judge_node.Goals as goal
 use Rattle.query_validation.specs.Breaches.{as_breach, breaches_of}
 use Rattle.query_validation.specs.Contexts.{as_context}
 use Rattle.query_validation.specs.declared.rules.QueryRule.TheVariants.{FieldsOnCorrectType}
 use Rattle.query_validation.specs.declared.rules.TheConstants.{QUERY_RULES}
-use Rattle.query_validation.proofs.ListedLemmas.{each_more}
-use Rattle.query_validation.proofs.judging.judge_node.Goals as goal
 
 pub loop-rule-preserved : goal.loop-rule-preserved
 loop-rule-preserved c =

@@ -2,10 +2,10 @@ use Rattle.std.proofs.Common.{◌≡◌, ◌++◌, map, take}
 use Rattle.std.specs.List.{flat_map}
 use Rattle.validation_names.specs.Sites.{as_located}
 use Rattle.type_system.specs.Schemas.{types}
+use Rattle.query_validation.proofs.judging.judge_node.Given as goal
 use Rattle.query_validation.specs.Breaches.{as_breach, breaches_of}
 use Rattle.query_validation.specs.Contexts.{as_context}
 use Rattle.query_validation.specs.declared.rules.TheConstants.{QUERY_RULES}
-use Rattle.query_validation.proofs.judging.judge_node.Given as goal
 
 abbrev pub invariant-loop-rule : goal.invariant-loop-rule
 invariant-loop-rule l =

@@ -1,19 +1,19 @@
 use Rattle.std.proofs.Common.{◌≡◌, [], ◌++◌, cond, map, take, sym, ap, ◌∙◌, append-nil}
+use Rattle.std.proofs.lemmas.List.{take_all, take-map}
+use Rattle.std.specs.List.{filter, flat_map, list_any}
 use Rattle.std.specs.declared.alloc.Global.{Global}
 use Rattle.std.specs.declared.vec.Vec.{Vec}
-use Rattle.std.specs.List.{filter, flat_map, list_any}
-use Rattle.std.proofs.lemmas.List.{take_all, take-map}
-use Rattle.document_grammar.specs.declared.kind.SyntaxKind.{SyntaxKind}
 use Rattle.document_grammar.specs.Numbers.{is_kind}
+use Rattle.document_grammar.specs.declared.kind.SyntaxKind.{SyntaxKind}
 use Rattle.validation_names.specs.Sites.{as_located}
-use Rattle.type_system.specs.Schemas.{types}
 use Rattle.type_system.proofs.Picked.{picked_more}
-use Rattle.query_validation.specs.Breaches.{as_breach, definition_breaches, is_executable}
-use Rattle.query_validation.specs.declared.judging.QueryViolation.{QueryViolation}
-use Rattle.query_validation.specs.declared.judging.TheConstants.{EXECUTABLES}
+use Rattle.type_system.specs.Schemas.{types}
 use Rattle.query_validation.proofs.ListedLemmas.{listed_then}
 use Rattle.query_validation.proofs.judging.validate.Goals as goal
 use Rattle.query_validation.proofs.judging.validate.Goals.{then-is_one_of+in_ok-judge_definition, else-is_one_of}
+use Rattle.query_validation.specs.Breaches.{as_breach, definition_breaches, is_executable}
+use Rattle.query_validation.specs.declared.judging.QueryViolation.{QueryViolation}
+use Rattle.query_validation.specs.declared.judging.TheConstants.{EXECUTABLES}
 
 pub loop-definition-preserved : goal.loop-definition-preserved
 loop-definition-preserved c =

@@ -2,8 +2,8 @@ use Rattle.std.proofs.Common.{◌≡◌, map, take}
 use Rattle.std.specs.List.{filter, flat_map}
 use Rattle.validation_names.specs.Sites.{as_located}
 use Rattle.type_system.specs.Schemas.{types}
-use Rattle.query_validation.specs.Breaches.{as_breach, definition_breaches, is_executable}
 use Rattle.query_validation.proofs.judging.validate.Given as goal
+use Rattle.query_validation.specs.Breaches.{as_breach, definition_breaches, is_executable}
 
 abbrev pub invariant-loop-definition : goal.invariant-loop-definition
 invariant-loop-definition l =

@@ -1,13 +1,13 @@
 use Rattle.std.proofs.Common.{◌≡◌, Some, sym, ap, ◌∙◌, subst}
-use Rattle.std.specs.Prelude.{option_map}
 use Rattle.std.specs.List.{All}
+use Rattle.std.specs.Prelude.{option_map}
 use Rattle.document_grammar.specs.Forests.{Forest}
 use Rattle.apollo_tree.specs.Order.{parent_place}
 use Rattle.apollo_tree.specs.References.{node_place}
 use Rattle.type_system.specs.Schemas.{types}
-use Rattle.query_validation.specs.Stack.{IsLevel}
 use Rattle.query_validation.proofs.StackLemmas.{parent_whole}
 use Rattle.query_validation.proofs.stack.around.Goals as goal
+use Rattle.query_validation.specs.Stack.{IsLevel}
 
 pub returns-in-Some-clause-levels : goal.returns-in-Some-clause-levels
 returns-in-Some-clause-levels c =

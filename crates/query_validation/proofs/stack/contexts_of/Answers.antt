@@ -2,11 +2,11 @@ use Rattle.std.proofs.Common.{[], ◌∷◌, ◌++◌, ap, ◌∙◌}
 use Rattle.std.proofs.lemmas.List.Elements.{All-push, All-same}
 use Rattle.apollo_tree.specs.References.{node_place}
 use Rattle.type_system.specs.Schemas.{types}
+use Rattle.query_validation.proofs.StackLemmas.{level_of}
+use Rattle.query_validation.proofs.stack.contexts_of.Goals as goal
 use Rattle.query_validation.specs.Contexts.{step}
 use Rattle.query_validation.specs.Stack.{IsLevel}
 use Rattle.query_validation.specs.declared.stack.Level.{Level}
-use Rattle.query_validation.proofs.StackLemmas.{level_of}
-use Rattle.query_validation.proofs.stack.contexts_of.Goals as goal
 
 pub returns-in_err-push-clause-levels : goal.returns-in_err-push-clause-levels
 returns-in_err-push-clause-levels c =

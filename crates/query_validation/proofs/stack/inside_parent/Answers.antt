@@ -2,9 +2,9 @@ use Rattle.std.proofs.Common.{[], ◌∷◌, ◌++◌, Some, ◌∙◌}
 use Rattle.std.proofs.lemmas.List.Elements.{All-pop, All-push, All-same}
 use Rattle.apollo_tree.specs.References.{node_place}
 use Rattle.type_system.specs.Schemas.{types}
-use Rattle.query_validation.specs.Stack.{IsLevel}
 use Rattle.query_validation.proofs.StackLemmas.{at_level}
 use Rattle.query_validation.proofs.stack.inside_parent.Goals as goal
+use Rattle.query_validation.specs.Stack.{IsLevel}
 
 pub returns-then-level-index-clause-levels : goal.returns-then-level-index-clause-levels
 returns-then-level-index-clause-levels c =

@@ -1,7 +1,7 @@
 use Rattle.std.proofs.Common.{◌≡◌, ◌++◌, take}
 use Rattle.std.specs.List.{flat_map}
-use Rattle.rpc_messages.specs.Pieces.{tokens_of}
 use Rattle.rpc_messages.proofs.pieces.put_all.Given as goal
+use Rattle.rpc_messages.specs.Pieces.{tokens_of}
 
 abbrev pub invariant-loop-piece : goal.invariant-loop-piece
 invariant-loop-piece l = record {

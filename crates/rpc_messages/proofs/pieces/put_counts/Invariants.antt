@@ -1,6 +1,6 @@
 use Rattle.std.proofs.Common.{◌≡◌, ◌++◌, map, take}
-use Rattle.rpc_messages.specs.Pieces.{number_token}
 use Rattle.rpc_messages.proofs.pieces.put_counts.Given as goal
+use Rattle.rpc_messages.specs.Pieces.{number_token}
 
 abbrev pub invariant-loop-count : goal.invariant-loop-count
 invariant-loop-count l = record {

@@ -1,11 +1,11 @@
 use Rattle.std.proofs.Common.{ℕ, List, ◌++◌, Some, None, take, refl, inl, inr, arith, rules}
 use Rattle.byte_streams.proofs.Accounts.{gave}
 use Rattle.rpc_messages.specs.Steps.{Takes}
-use Rattle.rpc_serving.specs.Exchange.{Exchange}
 use Rattle.rpc_serving.proofs.Accounts.{at_end, broke, longer, wrote}
 use Rattle.rpc_serving.proofs.Conversations.{ends_so, equally, goes_further, left_over, stops_so}
 use Rattle.rpc_serving.proofs.Failures.{each_error, memory_refused, write_breaks}
 use Rattle.rpc_serving.proofs.conversation.serve.Goals as goal
+use Rattle.rpc_serving.specs.Exchange.{Exchange}
 
 pub returns-in-Ok-eq0-clause-ok : goal.returns-in-Ok-eq0-clause-ok
 returns-in-Ok-eq0-clause-ok g c =

@@ -1,9 +1,9 @@
 use Rattle.std.proofs.Common.{◌≡◌, ℕ, ◌≤◌, List, length}
 use Rattle.byte_streams.specs.Devices.{moved}
-use Rattle.rpc_serving.specs.Frames.{HasNoFrame}
 use Rattle.rpc_messages.specs.Steps.{Takes}
 use Rattle.rpc_serving.proofs.Conversations.{GoesOn}
 use Rattle.rpc_serving.proofs.conversation.serve.Given as goal
+use Rattle.rpc_serving.specs.Frames.{HasNoFrame}
 
 abbrev pub invariant-loop : goal.invariant-loop
 invariant-loop g l =

@@ -1,13 +1,13 @@
 use Rattle.std.proofs.Common.{◌≡◌, ◌<◌, ℕ, List, None, length, sym, ap, ◌∙◌, subst, arith}
-use Rattle.rpc_serving.specs.Frames.{BeginsWithFrame, HasNoFrame, IsSkipped, NeverHasFrame}
-use Rattle.rpc_serving.proofs.FrameLemmas.{shorter}
 use Rattle.rpc_messages.specs.Messages.{AsksForEnd}
 use Rattle.rpc_messages.specs.Replies.{EndsOnlyIf}
 use Rattle.rpc_messages.specs.Steps.{Takes}
-use Rattle.rpc_serving.specs.Exchange.{Exchange}
+use Rattle.rpc_serving.proofs.FrameLemmas.{shorter}
 use Rattle.rpc_serving.proofs.Turns.{IsReplyTo, LeadsTo, begun, goes_on, finished, fewer, never_now, skipped, some_left}
 use Rattle.rpc_serving.proofs.Turns.{waiting}
 use Rattle.rpc_serving.proofs.exchange.take_turn.Goals as goal
+use Rattle.rpc_serving.specs.Exchange.{Exchange}
+use Rattle.rpc_serving.specs.Frames.{BeginsWithFrame, HasNoFrame, IsSkipped, NeverHasFrame}
 
 pub loop-body-init : goal.loop-body-init
 loop-body-init g c = subst

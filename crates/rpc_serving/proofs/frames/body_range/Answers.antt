@@ -1,9 +1,9 @@
 use Rattle.std.proofs.Common.{Option, subst, arith}
 use Rattle.std.specs.Prelude.{IfSome}
-use Rattle.rpc_serving.specs.declared.frames.FrameHead.{FrameHead}
-use Rattle.rpc_serving.specs.Frames.{IsHeadAt}
 use Rattle.rpc_serving.proofs.FrameLemmas.{never-large, none-yet, body-at}
 use Rattle.rpc_serving.proofs.frames.body_range.Goals as goal
+use Rattle.rpc_serving.specs.Frames.{IsHeadAt}
+use Rattle.rpc_serving.specs.declared.frames.FrameHead.{FrameHead}
 
 pub returns-then-head-gt-BODY_LIMIT-clause-never : goal.returns-then-head-gt-BODY_LIMIT-clause-never
 returns-then-head-gt-BODY_LIMIT-clause-never c =

@@ -1,7 +1,7 @@
 use Rattle.std.proofs.Common.{◌≡◌, drop, map}
 use Rattle.httparse.specs.Spans.{header_bytes}
-use Rattle.rpc_serving.specs.Frames.{length_in}
 use Rattle.rpc_serving.proofs.frames.length_in.Given as goal
+use Rattle.rpc_serving.specs.Frames.{length_in}
 
 abbrev pub invariant-loop-header : goal.invariant-loop-header
 invariant-loop-header l =

@@ -2,9 +2,9 @@ use Rattle.std.proofs.Common.{◌≡◌, true, Option, List, ℕ, subst, sym, �
 use Rattle.std.specs.Char.{is_ascii_digit}
 use Rattle.std.specs.List.{list_all}
 use Rattle.std.specs.Str.Parse.{ParsesUnsigned}
-use Rattle.rpc_serving.specs.Frames.{Agrees, numeral}
 use Rattle.rpc_serving.proofs.NumeralLemmas.{agrees-parsed, digits-utf8}
 use Rattle.rpc_serving.proofs.frames.numeral.Goals as goal
+use Rattle.rpc_serving.specs.Frames.{Agrees, numeral}
 
 pub returns-in_default : goal.returns-in_default
 returns-in_default c =

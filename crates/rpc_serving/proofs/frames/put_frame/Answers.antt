@@ -1,8 +1,8 @@
 use Rattle.std.proofs.Common.{◌++◌, ℕ, List, length, ap, ◌∙◌, append_assoc, refl}
 use Rattle.std.specs.Prelude.{codes, decimal}
-use Rattle.rpc_serving.specs.Frames.{frame_of}
 use Rattle.rpc_serving.proofs.WrittenLemmas.{written}
 use Rattle.rpc_serving.proofs.frames.put_frame.Goals as goal
+use Rattle.rpc_serving.specs.Frames.{frame_of}
 
 pub returns-clause-bytes : goal.returns-clause-bytes
 returns-clause-bytes c =

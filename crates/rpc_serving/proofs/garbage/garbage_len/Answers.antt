@@ -1,8 +1,8 @@
 use Rattle.std.proofs.Common.{List, ◌≤◌, arith, length, subst, ℕ}
 use Rattle.std.proofs.lemmas.List.{length-drop}
-use Rattle.rpc_serving.specs.Frames.{AreGarbage}
 use Rattle.rpc_serving.proofs.NameLemmas.{joined, rest}
 use Rattle.rpc_serving.proofs.garbage.garbage_len.Goals as goal
+use Rattle.rpc_serving.specs.Frames.{AreGarbage}
 
 pub loop-passed-preserved : goal.loop-passed-preserved
 loop-passed-preserved c =

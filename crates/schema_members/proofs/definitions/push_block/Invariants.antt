@@ -3,9 +3,9 @@ use Rattle.std.specs.List.{filter}
 use Rattle.apollo_tree.specs.References.{node_place}
 use Rattle.apollo_tree.specs.Yields.{rest_nodes}
 use Rattle.apollo_cst_core.specs.Kinds.{is_of_one}
+use Rattle.schema_members.proofs.definitions.push_block.Given as goal
 use Rattle.schema_members.specs.Members.{located, located_in, members_of_block}
 use Rattle.schema_members.specs.declared.definitions.TheConstants.{MEMBERS}
-use Rattle.schema_members.proofs.definitions.push_block.Given as goal
 
 abbrev pub invariant-loop-node : goal.invariant-loop-node
 invariant-loop-node l =

@@ -2,8 +2,8 @@ use Rattle.std.proofs.Common.{◌≡◌, ◌++◌, map}
 use Rattle.std.specs.List.{flat_map}
 use Rattle.apollo_tree.specs.References.{node_place}
 use Rattle.apollo_tree.specs.Yields.{rest_nodes}
-use Rattle.schema_members.specs.Members.{located, located_in, members_in, members_of_block}
 use Rattle.schema_members.proofs.definitions.push_members.Given as goal
+use Rattle.schema_members.specs.Members.{located, located_in, members_in, members_of_block}
 
 abbrev pub invariant-loop-block : goal.invariant-loop-block
 invariant-loop-block l =

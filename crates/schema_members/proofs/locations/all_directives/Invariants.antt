@@ -1,7 +1,7 @@
 use Rattle.std.proofs.Common.{◌≡◌, ◌++◌, map, drop}
+use Rattle.schema_members.proofs.locations.all_directives.Given as goal
 use Rattle.schema_members.specs.Locations.{directives_in}
 use Rattle.schema_members.specs.Members.{in_documents, located}
-use Rattle.schema_members.proofs.locations.all_directives.Given as goal
 
 abbrev pub invariant-loop-document : goal.invariant-loop-document
 invariant-loop-document l =

@@ -2,9 +2,9 @@ use Rattle.std.proofs.Common.{◌≡◌, ◌∙◌, ap, sym, subst, List, [], �
 use Rattle.std.specs.Prelude.{MatchOption, option_map}
 use Rattle.apollo_tree.specs.Order.{Place}
 use Rattle.apollo_tree.specs.References.{node_place, token_place}
+use Rattle.schema_members.proofs.locations.directives_at.Goals as goal
 use Rattle.schema_members.specs.Locations.{IsLocation, directive_owner, directives_in}
 use Rattle.schema_members.specs.Members.{Located, in_documents, located}
-use Rattle.schema_members.proofs.locations.directives_at.Goals as goal
 
 pub returns-in_ok-found-in-Some : goal.returns-in_ok-found-in-Some
 returns-in_ok-found-in-Some c =

@@ -1,8 +1,8 @@
 use Rattle.std.proofs.Common.{◌≡◌}
-use Rattle.std.specs.Prelude.{bytes_eq}
 use Rattle.std.specs.List.{list_any}
-use Rattle.apollo_tree.specs.Order.{text_at}
+use Rattle.std.specs.Prelude.{bytes_eq}
 use Rattle.apollo_tree.specs.Children.{child_nodes}
+use Rattle.apollo_tree.specs.Order.{text_at}
 use Rattle.apollo_tree.specs.References.{node_place}
 use Rattle.apollo_tree.specs.Yields.{rest_nodes}
 use Rattle.schema_members.proofs.locations.has_location.Given as goal

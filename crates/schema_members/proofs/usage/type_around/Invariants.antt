@@ -4,8 +4,8 @@ use Rattle.apollo_tree.specs.Above.{at_or_above}
 use Rattle.apollo_tree.specs.References.{node_place}
 use Rattle.apollo_tree.specs.Yields.{rest_ancestors}
 use Rattle.apollo_cst_core.specs.Kinds.{is_of_one}
-use Rattle.schema_members.specs.declared.definitions.TheConstants.{TYPES}
 use Rattle.schema_members.proofs.usage.type_around.Given as goal
+use Rattle.schema_members.specs.declared.definitions.TheConstants.{TYPES}
 
 abbrev pub invariant-loop-outer : goal.invariant-loop-outer
 invariant-loop-outer l =

@@ -1,7 +1,7 @@
 use Rattle.std.proofs.Common.{◌≡◌, List, [], ◌∷◌, map, ap, refl, subst, sym, ◌∙◌}
 use Rattle.directed_graph.specs.Graph.{IsClosed}
-use Rattle.validation_names.specs.Names.{AreFirstNumbers}
 use Rattle.validation_names.specs.Definitions.{Defined, as_defined, fragment_names}
+use Rattle.validation_names.specs.Names.{AreFirstNumbers}
 use Rattle.validation_names.specs.declared.executables.ExecutableDefinition.{ExecutableDefinition}
 use Rattle.validation_rules.specs.Parts.{as_parts, definitions, parts_of}
 use Rattle.tests_variables.proofs.judged.judge.Goals as goal

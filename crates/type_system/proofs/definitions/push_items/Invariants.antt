@@ -4,8 +4,8 @@ use Rattle.apollo_tree.specs.Children.{child_nodes}
 use Rattle.apollo_tree.specs.Yields.{rest_nodes}
 use Rattle.apollo_cst_core.specs.Kinds.{is_of}
 use Rattle.validation_names.specs.Sites.{as_located, located}
-use Rattle.type_system.specs.Definitions.{items}
 use Rattle.type_system.proofs.definitions.push_items.Given as goal
+use Rattle.type_system.specs.Definitions.{items}
 
 abbrev pub invariant-loop-child : goal.invariant-loop-child
 invariant-loop-child l =

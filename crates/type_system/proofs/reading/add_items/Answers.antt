@@ -1,9 +1,9 @@
 use Rattle.std.proofs.Common.{◌<◌, ◌++◌, length, arith, sym, ◌∙◌, ap}
 use Rattle.validation_names.specs.Names.{entry_of}
 use Rattle.validation_names.specs.Sites.{as_located}
-use Rattle.type_system.specs.Definitions.{items}
 use Rattle.type_system.proofs.RowLemmas.{added, read_row}
 use Rattle.type_system.proofs.reading.add_items.Goals as goal
+use Rattle.type_system.specs.Definitions.{items}
 
 pub returns-in_ok-push_items : goal.returns-in_ok-push_items
 returns-in_ok-push_items c =

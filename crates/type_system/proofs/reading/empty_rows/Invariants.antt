@@ -1,6 +1,6 @@
 use Rattle.std.proofs.Common.{◌-◌, ◌≤◌, length}
-use Rattle.type_system.specs.Rows.{AreRows, nothing}
 use Rattle.type_system.proofs.reading.empty_rows.Given as goal
+use Rattle.type_system.specs.Rows.{AreRows, nothing}
 
 abbrev pub invariant-filling : goal.invariant-filling
 invariant-filling l = record {

@@ -1,8 +1,8 @@
 use Rattle.std.proofs.Common.{sym, ◌∙◌}
 use Rattle.validation_names.specs.Sites.{as_located}
-use Rattle.type_system.specs.Definitions.{is_root}
 use Rattle.type_system.proofs.Picked.{found_at, none_more}
 use Rattle.type_system.proofs.reading.find_root.Goals as goal
+use Rattle.type_system.specs.Definitions.{is_root}
 
 pub returns-then-is_root : goal.returns-then-is_root
 returns-then-is_root c =

@@ -1,12 +1,12 @@
 use Rattle.std.proofs.Common.{◌≡◌, map, refl}
 use Rattle.validation_names.specs.Names.{entry_of}
 use Rattle.validation_names.specs.Sites.{as_located}
-use Rattle.type_system.specs.declared.kinds.OperationType.TheVariants.{Query, Mutation, Subscription}
-use Rattle.type_system.specs.declared.schema.Schema.{Schema}
-use Rattle.type_system.specs.Schemas.{root_at}
-use Rattle.type_system.specs.Types.{root_in}
 use Rattle.type_system.proofs.SchemaLemmas.{same_types}
 use Rattle.type_system.proofs.reading.from_definitions.Goals as goal
+use Rattle.type_system.specs.Schemas.{root_at}
+use Rattle.type_system.specs.Types.{root_in}
+use Rattle.type_system.specs.declared.kinds.OperationType.TheVariants.{Query, Mutation, Subscription}
+use Rattle.type_system.specs.declared.schema.Schema.{Schema}
 
 pub returns : goal.returns
 returns c =

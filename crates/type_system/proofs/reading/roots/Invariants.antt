@@ -1,7 +1,7 @@
 use Rattle.std.proofs.Common.{◌≡◌, map, take}
 use Rattle.validation_names.specs.Sites.{as_located}
-use Rattle.type_system.specs.Types.{roots_in}
 use Rattle.type_system.proofs.reading.roots.Given as goal
+use Rattle.type_system.specs.Types.{roots_in}
 
 abbrev pub invariant-loop-site : goal.invariant-loop-site
 invariant-loop-site l =

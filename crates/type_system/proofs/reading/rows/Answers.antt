@@ -1,11 +1,11 @@
 use Rattle.std.proofs.Common.{◌+◌, length, map, take}
 use Rattle.validation_names.specs.Names.{entry_of}
 use Rattle.validation_names.specs.Sites.{as_located}
-use Rattle.type_system.specs.Definitions.{items}
-use Rattle.type_system.specs.Types.{is_part_of}
 use Rattle.type_system.proofs.Picked.{picked_more}
 use Rattle.type_system.proofs.RowLemmas.{rows_more}
 use Rattle.type_system.proofs.reading.rows.Goals as goal
+use Rattle.type_system.specs.Definitions.{items}
+use Rattle.type_system.specs.Types.{is_part_of}
 
 pub loop-site-preserved : goal.loop-site-preserved
 loop-site-preserved c =

@@ -1,9 +1,9 @@
 use Rattle.std.proofs.Common.{length, map, take}
 use Rattle.validation_names.specs.Names.{entry_of}
 use Rattle.validation_names.specs.Sites.{as_located}
+use Rattle.type_system.proofs.reading.rows.Given as goal
 use Rattle.type_system.specs.Rows.{AreRows}
 use Rattle.type_system.specs.Types.{items_of}
-use Rattle.type_system.proofs.reading.rows.Given as goal
 
 abbrev pub invariant-loop-site : goal.invariant-loop-site
 invariant-loop-site l =

@@ -2,9 +2,9 @@ use Rattle.std.proofs.Common.{◌≡◌, None, sym, ◌∙◌}
 use Rattle.std.proofs.lemmas.Map.Text.{btree_map_updates_str}
 use Rattle.validation_names.specs.Names.{Enters, entry_of}
 use Rattle.validation_names.specs.Sites.{as_located}
-use Rattle.type_system.specs.Schemas.{as_with_arguments, entered}
 use Rattle.type_system.proofs.TableLemmas.{enters, none_there, under_name}
 use Rattle.type_system.proofs.tables.enter_field.Goals as goal
+use Rattle.type_system.specs.Schemas.{as_with_arguments, entered}
 
 pub returns : goal.returns
 returns c =

@@ -1,13 +1,13 @@
 use Rattle.std.proofs.Common.{◌≡◌, ◌+◌, ◌<◌, Option, ◌++◌, ◌∷◌, [], ℕ, List, map, take, length, arith, get_or}
 use Rattle.std.proofs.lemmas.List.{take_more, map-append, length-map, length-take}
 use Rattle.document_grammar.specs.declared.kind.SyntaxKind.{SyntaxKind}
+use Rattle.validation_names.proofs.Numbers.{named_more, unnamed_more}
 use Rattle.validation_names.specs.Names.{Name}
 use Rattle.validation_names.specs.Sites.{as_located}
 use Rattle.validation_names.specs.declared.sites.Site.{Site}
-use Rattle.validation_names.proofs.Numbers.{named_more, unnamed_more}
-use Rattle.type_system.specs.Definitions.{named_as}
 use Rattle.type_system.proofs.tables.first_numbers.Goals as goal
 use Rattle.type_system.proofs.tables.first_numbers.Goals.{in-Some+in_ok-enter, in_default}
+use Rattle.type_system.specs.Definitions.{named_as}
 
 -- the names of the first n
 names_of : List SyntaxKind → List Site → ℕ → List (Option Name)

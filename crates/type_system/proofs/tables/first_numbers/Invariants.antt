@@ -1,8 +1,8 @@
 use Rattle.std.proofs.Common.{map, take}
 use Rattle.validation_names.specs.Names.{AreFirstNumbers}
 use Rattle.validation_names.specs.Sites.{as_located}
-use Rattle.type_system.specs.Definitions.{named_as}
 use Rattle.type_system.proofs.tables.first_numbers.Given as goal
+use Rattle.type_system.specs.Definitions.{named_as}
 
 abbrev pub invariant-loop-number : goal.invariant-loop-number
 invariant-loop-number l =

@@ -1,11 +1,11 @@
 use Rattle.std.proofs.Common.{map, take}
 use Rattle.validation_names.specs.Names.{entry_of}
 use Rattle.validation_names.specs.Sites.{as_located}
-use Rattle.type_system.specs.Tables.{entered_typed}
-use Rattle.type_system.specs.Types.{typed}
 use Rattle.type_system.proofs.Picked.{mapped_more}
 use Rattle.type_system.proofs.TableLemmas.{first_more}
 use Rattle.type_system.proofs.tables.first_typed.Goals as goal
+use Rattle.type_system.specs.Tables.{entered_typed}
+use Rattle.type_system.specs.Types.{typed}
 
 pub loop-site-preserved : goal.loop-site-preserved
 loop-site-preserved c =

@@ -2,10 +2,10 @@ use Rattle.std.proofs.Common.{ℕ, List, map, reverse, refl, subst, string_bytes
 use Rattle.std.proofs.lemmas.Result.{err_from_is_err_and}
 use Rattle.file_access.proofs.Stacks.{popped}
 use Rattle.ignore_rules.specs.Ignored.{as_rules}
-use Rattle.unignored_files.specs.Above.{folders_of}
-use Rattle.unignored_files.specs.Reading.{files_of, files_of_all}
 use Rattle.unignored_files.proofs.ReadingLemmas.{HasAdded, begins, fails, goes_on}
 use Rattle.unignored_files.proofs.above.add_above.Goals as goal
+use Rattle.unignored_files.specs.Above.{folders_of}
+use Rattle.unignored_files.specs.Reading.{files_of, files_of_all}
 
 pub loop-folder-init : goal.loop-folder-init
 loop-folder-init g c = record { added = begins g.F.Files.reads _ _ _; same = refl }

@@ -1,9 +1,9 @@
 use Rattle.std.proofs.Common.{◌≡◌, length}
 use Rattle.ignore_rules.specs.Ignored.{as_rules}
-use Rattle.unignored_files.specs.Above.{folders_of}
-use Rattle.unignored_files.specs.Reading.{files_of_all}
 use Rattle.unignored_files.proofs.ReadingLemmas.{HasAdded}
 use Rattle.unignored_files.proofs.above.add_above.Given as goal
+use Rattle.unignored_files.specs.Above.{folders_of}
+use Rattle.unignored_files.specs.Reading.{files_of_all}
 
 abbrev pub invariant-loop-folder : goal.invariant-loop-folder
 invariant-loop-folder g l = record {

@@ -1,9 +1,9 @@
 use Rattle.std.proofs.Common.{ℕ, Bool, List, [], ◌∷◌, map, reverse, false, true, ap, sym, ◌∙◌, subst, string_bytes}
 use Rattle.std.specs.Path.{path_bytes}
 use Rattle.file_access.proofs.Stacks.{reverse_more}
-use Rattle.unignored_files.specs.Above.{Probes, at_root, at_top}
 use Rattle.unignored_files.proofs.AboveLemmas.{begins, fewer_names, goes_up}
 use Rattle.unignored_files.proofs.above.climb.Goals as goal
+use Rattle.unignored_files.specs.Above.{Probes, at_root, at_top}
 
 pub loop-folders-init : goal.loop-folders-init
 loop-folders-init g c =

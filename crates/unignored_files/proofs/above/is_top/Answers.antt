@@ -1,6 +1,6 @@
 use Rattle.std.proofs.Common.{ℕ, List, Ok, Err, subst, sym, ◌∙◌, inl, inr}
-use Rattle.unignored_files.specs.Above.{no_top, top}
 use Rattle.unignored_files.proofs.above.is_top.Goals as goal
+use Rattle.unignored_files.specs.Above.{no_top, top}
 
 pub returns-in-Ok-clause-ok : goal.returns-in-Ok-clause-ok
 returns-in-Ok-clause-ok g c =

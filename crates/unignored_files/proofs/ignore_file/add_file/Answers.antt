@@ -1,8 +1,8 @@
 use Rattle.std.proofs.Common.{ℕ, List, ap, sym, ◌∙◌}
 use Rattle.std.specs.Path.{path_join}
-use Rattle.unignored_files.specs.Reading.{file_at}
 use Rattle.unignored_files.proofs.ReadingLemmas.{adds_none, adds_one, fails_one}
 use Rattle.unignored_files.proofs.ignore_file.add_file.Goals as goal
+use Rattle.unignored_files.specs.Reading.{file_at}
 
 pub returns-in-Ok-clause-ok : goal.returns-in-Ok-clause-ok
 returns-in-Ok-clause-ok g c =

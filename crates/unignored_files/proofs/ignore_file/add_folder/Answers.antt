@@ -1,8 +1,8 @@
 use Rattle.std.proofs.Common.{[], ◌∷◌, codes, false}
 use Rattle.std.proofs.lemmas.Result.{IfErr-weaker, err_from_is_err_and, on_ok_weaker}
-use Rattle.unignored_files.specs.Reading.{file_at, files_of}
 use Rattle.unignored_files.proofs.ReadingLemmas.{adds_on, fails_after, fails_before}
 use Rattle.unignored_files.proofs.ignore_file.add_folder.Goals as goal
+use Rattle.unignored_files.specs.Reading.{file_at, files_of}
 
 pub returns-in_err-add_file-clause-err : goal.returns-in_err-add_file-clause-err
 returns-in_err-add_file-clause-err g c =

@@ -2,8 +2,8 @@ use Rattle.std.proofs.Common.{◌≡◌}
 use Rattle.std.specs.List.{filter}
 use Rattle.file_access.specs.Listing.{as_entry}
 use Rattle.ignore_rules.specs.Ignored.{as_rules}
-use Rattle.unignored_files.specs.Unignored.{is_kept}
 use Rattle.unignored_files.proofs.kept_entries.sift.Given as goal
+use Rattle.unignored_files.specs.Unignored.{is_kept}
 
 abbrev pub invariant-loop-entry : goal.invariant-loop-entry
 invariant-loop-entry g l =

@@ -2,9 +2,9 @@ use Rattle.std.proofs.Common.{◌≡◌, ◌++◌, drop, map}
 use Rattle.std.specs.List.{filter_map}
 use Rattle.apollo_tree.specs.Children.{child_nodes}
 use Rattle.apollo_tree.specs.References.{node_place}
+use Rattle.validation_names.proofs.executables.definitions.Given as goal
 use Rattle.validation_names.specs.Definitions.{as_defined, defined, defined_at}
 use Rattle.validation_names.specs.Sites.{in_documents_from}
-use Rattle.validation_names.proofs.executables.definitions.Given as goal
 
 abbrev pub invariant-loop-number : goal.invariant-loop-number
 invariant-loop-number g l =

@@ -1,11 +1,11 @@
 use Rattle.std.proofs.Common.{◌≡◌, ◌+◌, ◌<◌, Option, ◌++◌, ◌∷◌, [], ℕ, List, map, take, length, arith, get_or}
 use Rattle.std.proofs.lemmas.List.{take_more, map-append, length-map, length-take}
-use Rattle.validation_names.specs.Names.{Name}
 use Rattle.validation_names.proofs.Numbers.{named_more, unnamed_more}
-use Rattle.validation_names.specs.Definitions.{as_defined, fragment_name, fragment_names}
-use Rattle.validation_names.specs.declared.executables.ExecutableDefinition.{ExecutableDefinition}
 use Rattle.validation_names.proofs.executables.fragments.Goals as goal
 use Rattle.validation_names.proofs.executables.fragments.Goals.{in-Some+in_ok-enter, in_default}
+use Rattle.validation_names.specs.Definitions.{as_defined, fragment_name, fragment_names}
+use Rattle.validation_names.specs.Names.{Name}
+use Rattle.validation_names.specs.declared.executables.ExecutableDefinition.{ExecutableDefinition}
 
 -- the names of the first n
 names_of : List ExecutableDefinition → ℕ → List (Option Name)

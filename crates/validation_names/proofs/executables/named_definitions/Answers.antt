@@ -1,10 +1,10 @@
 use Rattle.std.proofs.Common.{ap, append-nil, ◌++◌, ◌∷◌, []}
 use Rattle.std.proofs.lemmas.List.{map-append}
-use Rattle.validation_names.specs.Definitions.{as_defined, named}
-use Rattle.validation_names.specs.Mentions.{as_named}
 use Rattle.validation_names.proofs.Lists.{filter_map_more}
 use Rattle.validation_names.proofs.executables.named_definitions.Goals as goal
 use Rattle.validation_names.proofs.executables.named_definitions.Goals.{in-Some+in_ok-push, in_default}
+use Rattle.validation_names.specs.Definitions.{as_defined, named}
+use Rattle.validation_names.specs.Mentions.{as_named}
 
 pub loop-definition-preserved : goal.loop-definition-preserved
 loop-definition-preserved g c =

@@ -1,7 +1,7 @@
 use Rattle.std.proofs.Common.{◌≡◌, map, take}
+use Rattle.validation_names.proofs.executables.named_definitions.Given as goal
 use Rattle.validation_names.specs.Definitions.{as_defined, named_definitions}
 use Rattle.validation_names.specs.Mentions.{as_named}
-use Rattle.validation_names.proofs.executables.named_definitions.Given as goal
 
 abbrev pub invariant-loop-definition : goal.invariant-loop-definition
 invariant-loop-definition g l =

@@ -3,9 +3,9 @@ use Rattle.std.specs.List.{filter_map}
 use Rattle.apollo_tree.specs.Children.{child_nodes}
 use Rattle.apollo_tree.specs.References.{node_place}
 use Rattle.apollo_tree.specs.Yields.{rest_nodes}
+use Rattle.validation_names.proofs.executables.push_definitions.Given as goal
 use Rattle.validation_names.specs.Definitions.{as_defined, defined_at}
 use Rattle.validation_names.specs.Sites.{located}
-use Rattle.validation_names.proofs.executables.push_definitions.Given as goal
 
 abbrev pub invariant-loop-node : goal.invariant-loop-node
 invariant-loop-node g l =

@@ -1,9 +1,9 @@
 use Rattle.std.proofs.Common.{◌≡◌, ◌++◌, map}
 use Rattle.std.specs.List.{filter_map}
 use Rattle.apollo_tree.specs.Yields.{rest_descendant_nodes}
+use Rattle.validation_names.proofs.name_mentions.mentions.Given as goal
 use Rattle.validation_names.specs.Mentions.{as_named, mentioned, mentions}
 use Rattle.validation_names.specs.Sites.{as_located, located}
-use Rattle.validation_names.proofs.name_mentions.mentions.Given as goal
 
 abbrev pub invariant-loop-node : goal.invariant-loop-node
 invariant-loop-node g l =

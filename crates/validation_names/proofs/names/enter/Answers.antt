@@ -1,7 +1,7 @@
 use Rattle.std.proofs.Common.{rules, ◌≡◌, None}
 use Rattle.std.proofs.lemmas.Map.Text.{btree_map_updates_str}
-use Rattle.validation_names.specs.Names.{entry_of}
 use Rattle.validation_names.proofs.names.enter.Goals as goal
+use Rattle.validation_names.specs.Names.{entry_of}
 
 pub returns-clause-entered : goal.returns-clause-entered
 returns-clause-entered g c = λ q.

@@ -1,10 +1,10 @@
 use Rattle.std.proofs.Common.{◌≡◌, ap, append-nil, arith, length, map, sym, ◌++◌, ◌∷◌, [], ◌∙◌, true, false}
 use Rattle.std.proofs.lemmas.List.{length-map}
-use Rattle.validation_rules.specs.Parts.{as_parts, at, is_operation}
 use Rattle.validation_names.proofs.Lists.{filter_range_more}
 use Rattle.validation_rules.proofs.PartsLemmas.{at_read}
 use Rattle.validation_rules.proofs.definition_parts.operations.Goals as goal
 use Rattle.validation_rules.proofs.definition_parts.operations.Goals.{then-is_operation+in_ok-push, else-is_operation}
+use Rattle.validation_rules.specs.Parts.{as_parts, at, is_operation}
 
 pub loop-number-preserved : goal.loop-number-preserved
 loop-number-preserved c =

@@ -2,8 +2,8 @@ use Rattle.std.proofs.Common.{◌∙◌, List, [], ◌∷◌, ◌++◌, map, tak
 use Rattle.std.proofs.lemmas.List.{map_more, map_push}
 use Rattle.validation_names.specs.Definitions.{as_defined}
 use Rattle.validation_names.specs.declared.executables.ExecutableDefinition.{ExecutableDefinition}
-use Rattle.validation_rules.specs.Parts.{Parts, as_parts, parts_of}
 use Rattle.validation_rules.proofs.definition_parts.parts.Goals as goal
+use Rattle.validation_rules.specs.Parts.{Parts, as_parts, parts_of}
 
 pub loop-definition-preserved : goal.loop-definition-preserved
 loop-definition-preserved c =

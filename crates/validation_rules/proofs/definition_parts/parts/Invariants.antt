@@ -1,7 +1,7 @@
 use Rattle.std.proofs.Common.{◌≡◌, map, take}
 use Rattle.validation_names.specs.Definitions.{as_defined}
-use Rattle.validation_rules.specs.Parts.{as_parts, parts_of}
 use Rattle.validation_rules.proofs.definition_parts.parts.Given as goal
+use Rattle.validation_rules.specs.Parts.{as_parts, parts_of}
 
 abbrev pub invariant-loop-definition : goal.invariant-loop-definition
 invariant-loop-definition l =

@@ -1,7 +1,7 @@
 use Rattle.std.proofs.Common.{ap, append-nil, ◌++◌, ◌∷◌, []}
+use Rattle.validation_names.proofs.Lists.{filter_map_more}
 use Rattle.validation_names.specs.Mentions.{as_named, Named}
 use Rattle.validation_names.specs.Names.{entry_of}
-use Rattle.validation_names.proofs.Lists.{filter_map_more}
 use Rattle.validation_rules.proofs.definition_parts.targets.Goals as goal
 use Rattle.validation_rules.proofs.definition_parts.targets.Goals.{in-Some+in_ok-push, in_default}
 

@@ -1,12 +1,12 @@
 use Rattle.std.proofs.Common.{◌<◌, arith, get_or, map, length, subst}
-use Rattle.std.specs.List.{Contains}
 use Rattle.std.proofs.lemmas.List.{get_or_default, length-map}
 use Rattle.std.proofs.lemmas.List.Elements.{Contains-get_or}
-use Rattle.validation_rules.specs.Broken.{not_alone_at}
-use Rattle.validation_rules.specs.Parts.{as_parts}
+use Rattle.std.specs.List.{Contains}
 use Rattle.validation_rules.proofs.AddLemmas.{adds_all, adds_next, adds_rest, is_full}
 use Rattle.validation_rules.proofs.SpreadLemmas.{operations_inside}
 use Rattle.validation_rules.proofs.name_rules.add_anonymous.Goals as goal
+use Rattle.validation_rules.specs.Broken.{not_alone_at}
+use Rattle.validation_rules.specs.Parts.{as_parts}
 
 pub add_if_not_alone-requires-clause-number : goal.add_if_not_alone-requires-clause-number
 add_if_not_alone-requires-clause-number c =

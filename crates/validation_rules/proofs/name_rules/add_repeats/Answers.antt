@@ -1,13 +1,13 @@
 use Rattle.std.proofs.Common.{◌≡◌, ◌<◌, ◌≤◌, arith, length, map, take, sym, ◌∙◌, ap}
-use Rattle.std.specs.List.{range_with_len}
 use Rattle.std.proofs.lemmas.List.{length-map}
+use Rattle.std.specs.List.{range_with_len}
 use Rattle.validation_names.specs.Mentions.{as_named}
 use Rattle.validation_names.specs.Names.{first_number}
-use Rattle.validation_rules.specs.Broken.{repeat_at}
-use Rattle.validation_rules.specs.Parts.{item_at, names}
 use Rattle.validation_rules.proofs.AddLemmas.{adds_rest, all_numbers, is_full, next_number}
 use Rattle.validation_rules.proofs.NameLemmas.{below_of, item_read, names_more}
 use Rattle.validation_rules.proofs.name_rules.add_repeats.Goals as goal
+use Rattle.validation_rules.specs.Broken.{repeat_at}
+use Rattle.validation_rules.specs.Parts.{item_at, names}
 
 pub add_if_repeated-requires-clause-first : goal.add_if_repeated-requires-clause-first
 add_if_repeated-requires-clause-first c =

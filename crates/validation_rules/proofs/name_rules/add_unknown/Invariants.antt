@@ -3,9 +3,9 @@ use Rattle.std.specs.List.{flat_map}
 use Rattle.validation_names.specs.Mentions.{as_named}
 use Rattle.validation_names.specs.Names.{entry_of}
 use Rattle.validation_names.specs.Sites.{as_located}
+use Rattle.validation_rules.proofs.name_rules.add_unknown.Given as goal
 use Rattle.validation_rules.specs.Broken.{unknown_item}
 use Rattle.validation_rules.specs.Violations.{Adds}
-use Rattle.validation_rules.proofs.name_rules.add_unknown.Given as goal
 
 abbrev pub invariant-loop-item : goal.invariant-loop-item
 invariant-loop-item g l =

@@ -1,10 +1,10 @@
 use Rattle.std.proofs.Common.{◌≤◌, None, arith, get_or, length, map, ◌∙◌}
 use Rattle.std.proofs.lemmas.List.{length-map}
-use Rattle.validation_rules.specs.Broken.{on_cycle_at}
-use Rattle.validation_rules.specs.Parts.{as_parts, numbers}
 use Rattle.validation_rules.proofs.AddLemmas.{adds_rest, all_numbers, is_full, next_number}
 use Rattle.validation_rules.proofs.SpreadLemmas.{cycle_read, long_returns, return_inside}
 use Rattle.validation_rules.proofs.spread_rules.add_cycles.Goals as goal
+use Rattle.validation_rules.specs.Broken.{on_cycle_at}
+use Rattle.validation_rules.specs.Parts.{as_parts, numbers}
 
 pub add_if_on_cycle-requires-clause-number : goal.add_if_on_cycle-requires-clause-number
 add_if_on_cycle-requires-clause-number c =

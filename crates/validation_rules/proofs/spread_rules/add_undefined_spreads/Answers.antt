@@ -3,10 +3,10 @@ use Rattle.std.proofs.lemmas.List.{length-map}
 use Rattle.validation_names.specs.Definitions.{fragment_names}
 use Rattle.validation_names.specs.Mentions.{as_named}
 use Rattle.validation_names.specs.Names.{AreFirstNumbers, entry_of}
-use Rattle.validation_rules.specs.Broken.{undefined_spreads_at}
-use Rattle.validation_rules.specs.Parts.{Parts, as_parts, definitions, is_fragment_name, numbers}
 use Rattle.validation_rules.proofs.AddLemmas.{adds_rest, all_numbers, is_full, next_number}
 use Rattle.validation_rules.proofs.spread_rules.add_undefined_spreads.Goals as goal
+use Rattle.validation_rules.specs.Broken.{undefined_spreads_at}
+use Rattle.validation_rules.specs.Parts.{Parts, as_parts, definitions, is_fragment_name, numbers}
 
 pub loop-number-preserved : goal.loop-number-preserved
 loop-number-preserved c =

@@ -1,10 +1,10 @@
 use Rattle.std.proofs.Common.{◌<◌, ◌≤◌, arith, length, map}
 use Rattle.std.proofs.lemmas.List.{length-map}
-use Rattle.validation_rules.specs.Broken.{unused_fragment_at}
-use Rattle.validation_rules.specs.Parts.{as_parts, numbers}
 use Rattle.validation_rules.proofs.AddLemmas.{adds_rest, all_numbers, is_full, next_number}
 use Rattle.validation_rules.proofs.SpreadLemmas.{all_inside}
 use Rattle.validation_rules.proofs.spread_rules.add_unused_fragments.Goals as goal
+use Rattle.validation_rules.specs.Broken.{unused_fragment_at}
+use Rattle.validation_rules.specs.Parts.{as_parts, numbers}
 
 pub reached-requires-clause-starts : goal.reached-requires-clause-starts
 reached-requires-clause-starts c =

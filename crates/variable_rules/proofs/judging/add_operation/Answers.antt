@@ -1,16 +1,16 @@
 use Rattle.std.proofs.Common.{◌<◌, Some, map, not, sym, ap, ◌∙◌, subst}
-use Rattle.std.specs.List.{All, list_any}
-use Rattle.std.specs.List.Sorted.{IsNonDecreasing, IsPermutation}
 use Rattle.std.proofs.lemmas.List.{length-map}
 use Rattle.std.proofs.lemmas.List.Sorted.{IsPermutation-sym, IsPermutation-trans}
+use Rattle.std.specs.List.{All, list_any}
+use Rattle.std.specs.List.Sorted.{IsNonDecreasing, IsPermutation}
 use Rattle.validation_names.specs.Mentions.{Named, as_named}
-use Rattle.validation_rules.specs.declared.violations.Rule.TheVariants.{NoUnusedVariables}
 use Rattle.validation_rules.specs.Parts.{Parts, as_parts, at, is_used, reached, site_at}
-use Rattle.variable_rules.specs.UsedNames.{is_known}
+use Rattle.validation_rules.specs.declared.violations.Rule.TheVariants.{NoUnusedVariables}
 use Rattle.variable_rules.proofs.WalkLemmas.{adds_operation, inside_reached, inside_rows, no_use_steps, none_undefined}
 use Rattle.variable_rules.proofs.WalkLemmas.{read_again}
 use Rattle.variable_rules.proofs.WalkLemmas.{unknown_are, unused_alone, used_is, walk_alone, walk_and_uses}
 use Rattle.variable_rules.proofs.judging.add_operation.Goals as goal
+use Rattle.variable_rules.specs.UsedNames.{is_known}
 
 pub names_among-requires : goal.names_among-requires
 names_among-requires c =

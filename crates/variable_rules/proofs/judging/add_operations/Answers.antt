@@ -1,19 +1,19 @@
 use Rattle.std.proofs.Common.{◌≡◌, ◌≢◌, ◌<◌, ◌≤◌, None, Some, true, false, arith, length, map, get_or, subst, sym}
 use Rattle.std.proofs.Common.{⊎_elim}
-use Rattle.std.specs.List.{flat_map}
-use Rattle.std.specs.List.Sorted.{IsPermutation}
 use Rattle.std.proofs.lemmas.Bool.{cases_eq}
 use Rattle.std.proofs.lemmas.Bool.Decides.{nat_tests}
 use Rattle.std.proofs.lemmas.List.{get_or_default}
 use Rattle.std.proofs.lemmas.List.Sums.{sum_by_more}
+use Rattle.std.specs.List.{flat_map}
+use Rattle.std.specs.List.Sorted.{IsPermutation}
+use Rattle.validation_rules.proofs.AddLemmas.{adds_all, adds_next, is_full}
 use Rattle.validation_rules.specs.Broken.{variables_of}
 use Rattle.validation_rules.specs.Parts.{as_parts}
-use Rattle.validation_rules.proofs.AddLemmas.{adds_all, adds_next, is_full}
 use Rattle.validation_rules.specs.Violations.{Adds}
-use Rattle.variable_rules.specs.Steps.{EndsAt, before, steps_of}
-use Rattle.variable_rules.proofs.WalkLemmas.{adds_to_end, ends_once}
 use Rattle.variable_rules.proofs.ReachLemmas.{same_reached}
+use Rattle.variable_rules.proofs.WalkLemmas.{adds_to_end, ends_once}
 use Rattle.variable_rules.proofs.judging.add_operations.Goals as goal
+use Rattle.variable_rules.specs.Steps.{EndsAt, before, steps_of}
 
 pub add_operation-requires-clause-numbers : goal.add_operation-requires-clause-numbers
 add_operation-requires-clause-numbers c =

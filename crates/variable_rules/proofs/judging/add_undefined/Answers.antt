@@ -1,19 +1,19 @@
 use Rattle.std.proofs.Common.{◌≡◌, ◌<◌, [], Some, not, true, false, arith, length, map, get_or, sym, ap, refl, ◌∙◌}
-use Rattle.std.specs.List.{list_any}
 use Rattle.std.proofs.Math.Seq.{take-length}
 use Rattle.std.proofs.lemmas.List.{get_or_default, length-map}
 use Rattle.std.proofs.lemmas.List.Sums.{sum_by_more}
+use Rattle.std.specs.List.{list_any}
 use Rattle.validation_names.specs.Mentions.{Named, as_named}
-use Rattle.validation_rules.specs.declared.violations.Rule.TheVariants.{NoUndefinedVariables}
+use Rattle.validation_rules.proofs.AddLemmas.{adds_all, adds_next, adds_none}
 use Rattle.validation_rules.specs.Broken.{undefined_variables_in}
 use Rattle.validation_rules.specs.Parts.{Parts, as_parts, at, is_declared, site_at}
-use Rattle.validation_rules.proofs.AddLemmas.{adds_all, adds_next, adds_none}
-use Rattle.variable_rules.specs.Steps.{use_steps_in}
-use Rattle.variable_rules.specs.UsedNames.{is_known}
+use Rattle.validation_rules.specs.declared.violations.Rule.TheVariants.{NoUndefinedVariables}
 use Rattle.variable_rules.proofs.KnownLemmas.{none_unknown}
 use Rattle.variable_rules.proofs.WalkLemmas.{unknown_are, use_steps_are}
 use Rattle.variable_rules.proofs.judging.add_undefined.Goals as goal
 use Rattle.variable_rules.proofs.judging.add_undefined.Goals.{then-has_unknown+in_ok-add_unknown, else-has_unknown}
+use Rattle.variable_rules.specs.Steps.{use_steps_in}
+use Rattle.variable_rules.specs.UsedNames.{is_known}
 
 pub row-requires : goal.row-requires
 row-requires c =

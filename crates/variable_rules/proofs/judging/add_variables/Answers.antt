@@ -1,9 +1,9 @@
 use Rattle.std.proofs.Common.{get_or, map, subst}
-use Rattle.std.specs.List.{Contains}
 use Rattle.std.proofs.lemmas.List.{length-map}
 use Rattle.std.proofs.lemmas.List.Elements.{Contains-get_or}
-use Rattle.validation_rules.specs.Parts.{as_parts}
+use Rattle.std.specs.List.{Contains}
 use Rattle.validation_rules.proofs.SpreadLemmas.{operations_inside}
+use Rattle.validation_rules.specs.Parts.{as_parts}
 use Rattle.variable_rules.proofs.judging.add_variables.Goals as goal
 
 pub add_operations-requires-clause-operations : goal.add_operations-requires-clause-operations

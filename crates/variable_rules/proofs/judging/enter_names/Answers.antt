@@ -1,6 +1,6 @@
 use Rattle.std.proofs.Common.{◌≡◌, arith, length}
-use Rattle.std.proofs.lemmas.List.{take_more, map-append}
 use Rattle.std.proofs.Math.Seq.{take-length}
+use Rattle.std.proofs.lemmas.List.{take_more, map-append}
 use Rattle.validation_names.specs.Mentions.{as_named}
 use Rattle.variable_rules.proofs.KnownLemmas.{adds_more, adds_none}
 use Rattle.variable_rules.proofs.judging.enter_names.Goals as goal

@@ -1,9 +1,9 @@
 use Rattle.std.proofs.Common.{◌≡◌, ◌+◌, length, take}
 use Rattle.std.specs.List.{sum_by}
 use Rattle.directed_graph.specs.Graph.{row_of}
+use Rattle.variable_rules.proofs.judging.walk_steps.Given as goal
 use Rattle.variable_rules.specs.Steps.{capped}
 use Rattle.variable_rules.specs.UsedNames.{row_at}
-use Rattle.variable_rules.proofs.judging.walk_steps.Given as goal
 
 abbrev pub invariant-loop-number : goal.invariant-loop-number
 invariant-loop-number l =

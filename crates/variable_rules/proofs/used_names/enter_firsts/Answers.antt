@@ -1,12 +1,12 @@
 use Rattle.std.proofs.Common.{◌≡◌, [], ◌∷◌, ◌++◌, arith, length, map, take, is_some, not, true, false, ap, sym, ◌∙◌}
 use Rattle.std.proofs.Math.Seq.{take-length}
 use Rattle.std.proofs.lemmas.List.{append-nil, append_assoc, map-append, map_more}
-use Rattle.validation_names.specs.declared.name_mentions.Mention.{Mention}
 use Rattle.validation_names.specs.Mentions.{as_named}
-use Rattle.variable_rules.specs.UsedNames.{is_known}
+use Rattle.validation_names.specs.declared.name_mentions.Mention.{Mention}
 use Rattle.variable_rules.proofs.KnownLemmas.{first_again, first_more}
 use Rattle.variable_rules.proofs.used_names.enter_firsts.Goals as goal
 use Rattle.variable_rules.proofs.used_names.enter_firsts.Goals.{then-is_none+in_ok-push, else-is_none}
+use Rattle.variable_rules.specs.UsedNames.{is_known}
 
 pub loop-item-init : goal.loop-item-init
 loop-item-init c before are = rw (append-nil before) are

@@ -1,7 +1,7 @@
 use Rattle.std.proofs.Common.{List, ◌++◌, map, take}
 use Rattle.validation_names.specs.Mentions.{Named, as_named}
-use Rattle.variable_rules.specs.UsedNames.{AreFirsts}
 use Rattle.variable_rules.proofs.used_names.enter_firsts.Given as goal
+use Rattle.variable_rules.specs.UsedNames.{AreFirsts}
 
 abbrev pub invariant-loop-item : goal.invariant-loop-item
 invariant-loop-item l =

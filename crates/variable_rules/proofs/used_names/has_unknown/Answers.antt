@@ -1,12 +1,12 @@
 use Rattle.std.proofs.Common.{◌≡◌, ◌<◌, arith, length, map, not, true, false, sym, ap, ◌∙◌}
-use Rattle.std.proofs.Math.Seq.{take-length}
 use Rattle.std.proofs.Math.ListN.{get_or-map}
+use Rattle.std.proofs.Math.Seq.{take-length}
 use Rattle.std.proofs.lemmas.Bool.{not_from_false, not_from_true, or_from}
 use Rattle.std.proofs.lemmas.List.{length-map}
 use Rattle.std.proofs.lemmas.List.Folds.{list_any_at, list_any_more}
 use Rattle.validation_names.specs.Mentions.{Named, as_named}
-use Rattle.variable_rules.specs.UsedNames.{is_known}
 use Rattle.variable_rules.proofs.used_names.has_unknown.Goals as goal
+use Rattle.variable_rules.specs.UsedNames.{is_known}
 
 pub loop-item-preserved : goal.loop-item-preserved
 loop-item-preserved c =

@@ -1,11 +1,11 @@
 use Rattle.std.proofs.Common.{◌≡◌, ◌++◌, List, arith, length, map, take, ap, sym, subst, ◌∙◌}
-use Rattle.std.specs.List.{flat_map}
 use Rattle.std.proofs.Math.Seq.{take-length}
+use Rattle.std.specs.List.{flat_map}
 use Rattle.validation_names.specs.Mentions.{Named, as_named}
-use Rattle.variable_rules.specs.UsedNames.{AreFirsts, row_at}
 use Rattle.variable_rules.proofs.KnownLemmas.{no_firsts}
 use Rattle.variable_rules.proofs.WalkLemmas.{flat_more}
 use Rattle.variable_rules.proofs.used_names.names_among.Goals as goal
+use Rattle.variable_rules.specs.UsedNames.{AreFirsts, row_at}
 
 pub loop-number-init : goal.loop-number-init
 loop-number-init c = no_firsts c.new-known.result _ c.new-known.ensures.empty

@@ -1,8 +1,8 @@
 use Rattle.std.proofs.Common.{◌≡◌, arith, length, map, ap, subst, sym, ◌∙◌}
 use Rattle.std.proofs.lemmas.List.{length-map}
 use Rattle.validation_names.specs.Mentions.{as_named}
-use Rattle.validation_rules.specs.Parts.{Parts, as_parts}
 use Rattle.validation_rules.proofs.PartsLemmas.{at_read}
+use Rattle.validation_rules.specs.Parts.{Parts, as_parts}
 use Rattle.variable_rules.proofs.RowLemmas.{AreRows, no_rows, rows_all, rows_more}
 use Rattle.variable_rules.proofs.used_names.used_names.Goals as goal
 

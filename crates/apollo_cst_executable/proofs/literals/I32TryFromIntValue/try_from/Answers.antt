@@ -1,15 +1,15 @@
 use Rattle.std.proofs.Common.{◌≡◌, ◌∙◌, sym, ap, subst, true}
 use Rattle.std.proofs.Math.Logic.{∥∥₁_elim}
 use Rattle.std.proofs.Props.{props}
-use Rattle.std.specs.Prelude.{FitsSigned}
 use Rattle.std.specs.Int.{w32}
-use Rattle.document_grammar.specs.declared.kind.SyntaxKind.TheVariants.{INT_VALUE}
-use Rattle.document_grammar.specs.Numbers.{is_kind}
+use Rattle.std.specs.Prelude.{FitsSigned}
 use Rattle.lexical_grammar.specs.Numbers.{IsIntegerPart}
 use Rattle.lexical_grammar.specs.Values.{IntOf}
+use Rattle.document_grammar.specs.Numbers.{is_kind}
+use Rattle.document_grammar.specs.declared.kind.SyntaxKind.TheVariants.{INT_VALUE}
+use Rattle.apollo_tree.specs.Literals.{IsIntegerPart-from_sound}
 use Rattle.apollo_tree.specs.Order.{text_at}
 use Rattle.apollo_tree.specs.References.{node_place}
-use Rattle.apollo_tree.specs.Literals.{IsIntegerPart-from_sound}
 use Rattle.apollo_cst_core.specs.Cast.{node_kind}
 use Rattle.apollo_cst_executable.proofs.Integers.{integer-numeral}
 use Rattle.apollo_cst_executable.proofs.literals.I32TryFromIntValue.try_from.Goals as goal

@@ -1,11 +1,11 @@
 use Rattle.std.proofs.Common.{◌≡◌, ◌∙◌, subst, sym, true}
-use Rattle.document_grammar.specs.declared.kind.SyntaxKind.TheVariants.{NAME}
-use Rattle.document_grammar.specs.Numbers.{is_kind}
-use Rattle.apollo_cst_core.specs.Cast.{node_kind}
 use Rattle.std.proofs.Math.Logic.{∥∥₁_elim}
-use Rattle.apollo_cst_executable.proofs.OneName.{IsName-prop}
 use Rattle.lexical_grammar.specs.Tokens.{IsName}
+use Rattle.document_grammar.specs.Numbers.{is_kind}
+use Rattle.document_grammar.specs.declared.kind.SyntaxKind.TheVariants.{NAME}
 use Rattle.apollo_tree.specs.Literals.{IsName-from_sound}
+use Rattle.apollo_cst_core.specs.Cast.{node_kind}
+use Rattle.apollo_cst_executable.proofs.OneName.{IsName-prop}
 use Rattle.apollo_cst_executable.proofs.names.Name.text.Goals as goal
 
 pub returns-clause-name : goal.returns-clause-name

@@ -1,16 +1,16 @@
 use Rattle.std.proofs.Common.{◌≡◌, ◌∙◌, true, sym, ap, subst}
-use Rattle.std.specs.Prelude.{string_bytes}
 use Rattle.std.proofs.Math.Logic.{∥∥₁_elim}
 use Rattle.std.proofs.Props.{props}
-use Rattle.document_grammar.specs.declared.kind.SyntaxKind.TheVariants.{STRING_VALUE}
-use Rattle.document_grammar.specs.Numbers.{is_kind}
+use Rattle.std.specs.Prelude.{string_bytes}
 use Rattle.lexical_grammar.specs.Tokens.{IsString}
+use Rattle.document_grammar.specs.Numbers.{is_kind}
+use Rattle.document_grammar.specs.declared.kind.SyntaxKind.TheVariants.{STRING_VALUE}
+use Rattle.apollo_tree.specs.Literals.{IsString-from_sound}
 use Rattle.apollo_tree.specs.Order.{text_at}
 use Rattle.apollo_tree.specs.References.{node_place}
-use Rattle.apollo_tree.specs.Literals.{IsString-from_sound}
+use Rattle.apollo_cst_core.proofs.StringForms.{if-ok}
 use Rattle.apollo_cst_core.specs.Cast.{node_kind}
 use Rattle.apollo_cst_core.specs.StringValues.{IsStringValue}
-use Rattle.apollo_cst_core.proofs.StringForms.{if-ok}
 use Rattle.apollo_cst_executable.proofs.values.StringValue.to_string_in.Goals as goal
 
 pub string_value-requires : goal.string_value-requires

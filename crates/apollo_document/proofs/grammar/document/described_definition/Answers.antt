@@ -1,7 +1,7 @@
 use Rattle.std.proofs.Common.{subst}
-use Rattle.parser_rules.specs.State.{State}
 use Rattle.parser_rules.specs.Nodes.{DescribedDefinition}
 use Rattle.parser_rules.specs.RuleLanguage.{Call}
+use Rattle.parser_rules.specs.State.{State}
 use Rattle.parser_state.specs.Parses.{Parses}
 use Rattle.apollo_document.proofs.grammar.document.described_definition.Goals as goal
 

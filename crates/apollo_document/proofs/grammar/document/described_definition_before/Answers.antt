@@ -1,9 +1,9 @@
 use Rattle.std.proofs.Common.{is_some, ◌∙◌, ap}
 use Rattle.lexical_grammar.specs.declared.TokenKind.TheVariants as token
 use Rattle.document_grammar.specs.declared.kind.SyntaxKind.TheVariants as kind
-use Rattle.parser_rules.specs.State.{is_at, is_word}
 use Rattle.parser_rules.specs.RuleLanguage.{holds}
 use Rattle.parser_rules.specs.Runs.{yes, no}
+use Rattle.parser_rules.specs.State.{is_at, is_word}
 use Rattle.apollo_grammar.proofs.Looks.{some-shown}
 use Rattle.apollo_grammar.proofs.Parsing.{parsed_by}
 use Rattle.apollo_document.proofs.Keywords.{described_without_keyword}

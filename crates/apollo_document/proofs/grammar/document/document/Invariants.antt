@@ -1,7 +1,7 @@
+use Rattle.parser_rules.proofs.runs.Frame.{left}
 use Rattle.parser_rules.specs.Nodes.{Definition}
 use Rattle.parser_rules.specs.RuleLanguage.{Call, Ready}
 use Rattle.parser_rules.specs.Runs.{Turns}
-use Rattle.parser_rules.proofs.runs.Frame.{left}
 use Rattle.apollo_document.proofs.grammar.document.document.Given as goal
 
 abbrev pub invariant-loop-p : goal.invariant-loop-p

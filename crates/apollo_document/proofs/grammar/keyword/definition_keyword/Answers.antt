@@ -1,10 +1,10 @@
 use Rattle.std.proofs.Common.{◌≡◌}
 use Rattle.apollo_document.proofs.Keywords.{word_of, spelled, misspelled}
+use Rattle.apollo_document.proofs.grammar.keyword.definition_keyword.Goals as goal
 use Rattle.apollo_document.specs.declared.grammar.keyword.DefinitionKeyword.TheVariants.{Query, Mutation, Subscription}
 use Rattle.apollo_document.specs.declared.grammar.keyword.DefinitionKeyword.TheVariants.{Fragment, Schema, Directive}
 use Rattle.apollo_document.specs.declared.grammar.keyword.DefinitionKeyword.TheVariants.{Scalar, Object, Interface}
 use Rattle.apollo_document.specs.declared.grammar.keyword.DefinitionKeyword.TheVariants.{Union, Enum, InputObject}
-use Rattle.apollo_document.proofs.grammar.keyword.definition_keyword.Goals as goal
 
 pub returns-in-query : goal.returns-in-query
 returns-in-query c = spelled c.in-Some.is c.if-not-is_kind.ensures c.data.ensures Query c.in-query.is

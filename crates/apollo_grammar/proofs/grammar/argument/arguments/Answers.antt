@@ -1,7 +1,7 @@
 use Rattle.std.proofs.Common.{refl}
 use Rattle.lexical_grammar.specs.declared.TokenKind.TheVariants as token
-use Rattle.parser_rules.specs.RuleLanguage.{Kind}
 use Rattle.parser_rules.proofs.runs.Progress.{consuming, here-there, taken}
+use Rattle.parser_rules.specs.RuleLanguage.{Kind}
 use Rattle.apollo_grammar.proofs.grammar.argument.arguments.Goals as goal
 
 pub loop-constness-smaller : goal.loop-constness-smaller

@@ -1,8 +1,8 @@
 use Rattle.std.proofs.Common.{refl}
 use Rattle.lexical_grammar.specs.declared.TokenKind.TheVariants as token
+use Rattle.parser_rules.proofs.runs.Progress.{consuming, here-there, taken}
 use Rattle.parser_rules.specs.RuleLanguage.{Kind}
 use Rattle.parser_rules.specs.Runs.{seq}
-use Rattle.parser_rules.proofs.runs.Progress.{consuming, here-there, taken}
 use Rattle.apollo_grammar.proofs.grammar.directive.directive_locations.Goals as goal
 
 pub loop-p-smaller : goal.loop-p-smaller

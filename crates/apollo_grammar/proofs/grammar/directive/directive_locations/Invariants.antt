@@ -1,9 +1,9 @@
 use Rattle.lexical_grammar.specs.declared.TokenKind.TheVariants as token
 use Rattle.document_grammar.specs.declared.kind.SyntaxKind.TheVariants as kind
+use Rattle.parser_rules.proofs.runs.Frame.{left}
 use Rattle.parser_rules.specs.Nodes.{Location}
 use Rattle.parser_rules.specs.RuleLanguage.{At, Bump, Do, Call, ◌>◌}
 use Rattle.parser_rules.specs.Runs.{Turns}
-use Rattle.parser_rules.proofs.runs.Frame.{left}
 use Rattle.apollo_grammar.proofs.grammar.directive.directive_locations.Given as goal
 
 abbrev pub invariant-loop-p : goal.invariant-loop-p

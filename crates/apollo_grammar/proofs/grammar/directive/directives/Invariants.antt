@@ -1,8 +1,8 @@
 use Rattle.lexical_grammar.specs.declared.TokenKind.TheVariants as token
+use Rattle.parser_rules.proofs.runs.Frame.{left}
 use Rattle.parser_rules.specs.Nodes.{Directive}
 use Rattle.parser_rules.specs.RuleLanguage.{At, Child}
 use Rattle.parser_rules.specs.Runs.{Turns}
-use Rattle.parser_rules.proofs.runs.Frame.{left}
 use Rattle.apollo_grammar.proofs.grammar.directive.directives.Given as goal
 
 abbrev pub invariant-loop-constness : goal.invariant-loop-constness

@@ -1,8 +1,8 @@
+use Rattle.parser_rules.proofs.runs.Frame.{left}
 use Rattle.parser_rules.specs.Nodes.{EnumValueDefinition}
 use Rattle.parser_rules.specs.RuleLanguage.{Here, Child}
 use Rattle.parser_rules.specs.Rules.{named_start}
 use Rattle.parser_rules.specs.Runs.{Turns}
-use Rattle.parser_rules.proofs.runs.Frame.{left}
 use Rattle.apollo_grammar.proofs.grammar.enum_.enum_values_definition.Given as goal
 
 abbrev pub invariant-loop-p : goal.invariant-loop-p

@@ -1,8 +1,8 @@
 use Rattle.std.proofs.Common.{◌≡◌, true, sym, subst}
 use Rattle.lexical_grammar.specs.declared.TokenKind.TheVariants as token
-use Rattle.parser_rules.specs.State.{State}
 use Rattle.parser_rules.specs.Nodes.{AliasedName}
 use Rattle.parser_rules.specs.RuleLanguage.{At, Call, holds}
+use Rattle.parser_rules.specs.State.{State}
 use Rattle.parser_state.specs.Parses.{Parses}
 use Rattle.apollo_grammar.proofs.grammar.name.aliased_name.Goals as goal
 

@@ -1,10 +1,10 @@
 use Rattle.std.proofs.Common.{refl, ap, arith}
 use Rattle.lexical_grammar.specs.declared.TokenKind.TheVariants as token
 use Rattle.document_grammar.specs.declared.kind.SyntaxKind.TheVariants as kind
-use Rattle.parser_rules.specs.State.{opened, flush}
-use Rattle.parser_rules.specs.RuleLanguage.{Kind}
 use Rattle.parser_rules.proofs.runs.Frame.{left, is-checkpoint, still-checkpoint, still-open, still-at, open-wrapped}
 use Rattle.parser_rules.proofs.runs.Progress.{consuming, here-there, taken, entered-left, flushed-left}
+use Rattle.parser_rules.specs.RuleLanguage.{Kind}
+use Rattle.parser_rules.specs.State.{opened, flush}
 use Rattle.apollo_grammar.proofs.grammar.ty.+ty.Goals as goal
 
 pub ty-nullable_type-requires : goal.ty-nullable_type-requires

@@ -1,8 +1,8 @@
 use Rattle.std.proofs.Common.{refl}
 use Rattle.std.proofs.lemmas.Result.{on_ok_weaker}
-use Rattle.parser_rules.proofs.runs.Frame.{is-checkpoint, still-checkpoint}
 use Rattle.parser_rules.proofs.fragments.TypeRoots.{root-checkpoint, flushed-none, still-none, list-made, name-made}
 use Rattle.parser_rules.proofs.fragments.TypeRoots.{none-made}
+use Rattle.parser_rules.proofs.runs.Frame.{is-checkpoint, still-checkpoint}
 use Rattle.apollo_grammar.proofs.grammar.ty.type_root.Goals as goal
 
 pub close_type-requires : goal.close_type-requires

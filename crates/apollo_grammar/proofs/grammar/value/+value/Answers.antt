@@ -1,14 +1,14 @@
 use Rattle.std.proofs.Common.{refl, arith, ◌∙◌}
+use Rattle.std.proofs.lemmas.Result.{on_ok_weaker}
 use Rattle.lexical_grammar.specs.declared.TokenKind.TheVariants as token
 use Rattle.document_grammar.specs.declared.kind.SyntaxKind.TheVariants as kind
-use Rattle.std.proofs.lemmas.Result.{on_ok_weaker}
-use Rattle.parser_rules.specs.RuleLanguage.{Kind}
+use Rattle.parser_rules.proofs.runs.Frame.{fewer, turned, ended}
+use Rattle.parser_rules.proofs.runs.Progress.{consuming, here-there, taken, opened-takes, entered-left, item-taken}
 use Rattle.parser_rules.specs.Nodes.{NestedValue, ListItems}
+use Rattle.parser_rules.specs.RuleLanguage.{Kind}
 use Rattle.parser_rules.specs.Rules.{body}
 use Rattle.parser_rules.specs.Runs.{seq, yes, no, call, deeper, limited, skip}
 use Rattle.apollo_grammar.proofs.Looks.{deep-there}
-use Rattle.parser_rules.proofs.runs.Frame.{fewer, turned, ended}
-use Rattle.parser_rules.proofs.runs.Progress.{consuming, here-there, taken, opened-takes, entered-left, item-taken}
 use Rattle.apollo_grammar.proofs.grammar.value.+value.Goals as goal
 
 pub nested_value-value-requires : goal.nested_value-value-requires

@@ -1,10 +1,10 @@
 use Rattle.std.proofs.Common.{◌+◌, ◌*◌}
 use Rattle.lexical_grammar.specs.declared.TokenKind.TheVariants as token
+use Rattle.parser_rules.proofs.runs.Frame.{left}
 use Rattle.parser_rules.specs.Nodes.{ObjectField, NestedValue}
 use Rattle.parser_rules.specs.RuleLanguage.{At, Child, Call}
 use Rattle.parser_rules.specs.Rules.{has_item}
 use Rattle.parser_rules.specs.Runs.{Turns}
-use Rattle.parser_rules.proofs.runs.Frame.{left}
 use Rattle.apollo_grammar.proofs.grammar.value.+value.Given as goal
 
 abbrev pub decreases-value : goal.decreases-value

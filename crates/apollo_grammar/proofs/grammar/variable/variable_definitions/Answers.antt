@@ -1,6 +1,6 @@
 use Rattle.std.proofs.Common.{refl}
-use Rattle.parser_rules.specs.Rules.{variable_start}
 use Rattle.parser_rules.proofs.runs.Progress.{consuming, here-there, taken}
+use Rattle.parser_rules.specs.Rules.{variable_start}
 use Rattle.apollo_grammar.proofs.grammar.variable.variable_definitions.Goals as goal
 
 pub loop-p-smaller : goal.loop-p-smaller

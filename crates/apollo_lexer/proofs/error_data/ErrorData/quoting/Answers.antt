@@ -1,7 +1,7 @@
 use Rattle.std.proofs.Common.{ap}
-use Rattle.apollo_lexer.specs.Diagnostics.{of_text}
 use Rattle.apollo_lexer.proofs.Quoting.{quoted}
 use Rattle.apollo_lexer.proofs.error_data.ErrorData.quoting.Goals as goal
+use Rattle.apollo_lexer.specs.Diagnostics.{of_text}
 
 pub returns-clause-value : goal.returns-clause-value
 returns-clause-value g c =

@@ -1,7 +1,7 @@
 use Rattle.std.proofs.Common.{ap, arith}
-use Rattle.apollo_lexer.specs.Diagnostics.{of_text}
 use Rattle.apollo_lexer.proofs.Quoting.{quoted}
 use Rattle.apollo_lexer.proofs.error_data.ErrorData.quoting_long.Goals as goal
+use Rattle.apollo_lexer.specs.Diagnostics.{of_text}
 
 pub returns : goal.returns
 returns g c =

@@ -1,9 +1,9 @@
 use Rattle.std.proofs.Common.{◌≡◌, ◌++◌, Ok}
 use Rattle.std.specs.Prelude.{map, filter, not}
-use Rattle.apollo_lexer.specs.Answers.{answers_left, answer_of}
 use Rattle.lexical_grammar.specs.Answers.{is_token}
 use Rattle.apollo_lexer.proofs.Lexing.{ErrorsBefore}
 use Rattle.apollo_lexer.proofs.lexer.Lexer.lex.Given as goal
+use Rattle.apollo_lexer.specs.Answers.{answers_left, answer_of}
 
 -- the tokens so far and those that are left are the tokens, and the same of the errors
 abbrev pub invariant-loop-item : goal.invariant-loop-item

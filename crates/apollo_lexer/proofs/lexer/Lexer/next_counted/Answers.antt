@@ -1,9 +1,9 @@
 use Rattle.std.proofs.Common.{◌≡◌, ◌∙◌, ◌+◌, ap, sym, arith, length, drop, false, nat_lt, eqb-true, ◌∷◌, [], Some, None}
 use Rattle.std.proofs.lemmas.Bool.{ltb-true, ltb-false, eqb-false, cond-false}
-use Rattle.apollo_lexer.specs.Answers.{answers_left, items_left}
 use Rattle.lexical_grammar.specs.Answers.{limit_at}
 use Rattle.apollo_lexer.proofs.Items.{end-then, limit-met-at, end-comes, items-next, item-comes, high-kept}
 use Rattle.apollo_lexer.proofs.lexer.Lexer.next_counted.Goals as goal
+use Rattle.apollo_lexer.specs.Answers.{answers_left, items_left}
 
 -- the token limit
 pub returns-then-check_and_increment-clause-answers : goal.returns-then-check_and_increment-clause-answers

@@ -1,8 +1,8 @@
 use Rattle.std.proofs.Common.{subst, sym}
 use Rattle.std.proofs.lemmas.Result.{IfOk-weaker}
-use Rattle.apollo_parser.specs.Promise.{Promise}
 use Rattle.apollo_parser.proofs.Parses.{promise}
 use Rattle.apollo_parser.proofs.parser.Parser.parse_counted.Goals as goal
+use Rattle.apollo_parser.specs.Promise.{Promise}
 
 pub returns-clause-promise : goal.returns-clause-promise
 returns-clause-promise g c =

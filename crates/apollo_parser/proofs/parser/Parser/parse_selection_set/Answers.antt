@@ -6,10 +6,10 @@ use Rattle.document_grammar.specs.declared.kind.SyntaxKind.TheVariants as kind
 use Rattle.parser_rules.proofs.fragments.PartTexts.{selections-sound, selections-accepted, selections-report}
 use Rattle.parser_rules.proofs.fragments.RootChecks.{selections_pass, selections_paid}
 use Rattle.parser_rules.proofs.fragments.RootSizes.{root-sized}
-use Rattle.apollo_parser.specs.Parsed.{Parsed}
-use Rattle.apollo_parser.specs.Promise.{PartPromise}
 use Rattle.apollo_parser.proofs.RootParses.{one-root, promise}
 use Rattle.apollo_parser.proofs.parser.Parser.parse_selection_set.Goals as goal
+use Rattle.apollo_parser.specs.Parsed.{Parsed}
+use Rattle.apollo_parser.specs.Promise.{PartPromise}
 
 pub returns-clause-promise : goal.returns-clause-promise
 returns-clause-promise g c =

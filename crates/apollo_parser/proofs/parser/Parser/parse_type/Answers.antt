@@ -4,13 +4,13 @@ use Rattle.document_grammar.specs.Derivation.{type}
 use Rattle.parser_rules.proofs.fragments.PartTexts.{types-sound, types-accepted, types-report}
 use Rattle.parser_rules.proofs.fragments.RootChecks.{type_passes}
 use Rattle.parser_rules.proofs.fragments.RootSizes.{type-sized}
-use Rattle.apollo_parser.specs.Parsed.{Parsed}
-use Rattle.apollo_parser.specs.Parts.{OneType, first_kind}
-use Rattle.apollo_parser.specs.Promise.{PartPromise}
 use Rattle.apollo_parser.proofs.Parses.{answers}
 use Rattle.apollo_parser.proofs.RootParses.{promise}
 use Rattle.apollo_parser.proofs.TypeParses.{one-type}
 use Rattle.apollo_parser.proofs.parser.Parser.parse_type.Goals as goal
+use Rattle.apollo_parser.specs.Parsed.{Parsed}
+use Rattle.apollo_parser.specs.Parts.{OneType, first_kind}
+use Rattle.apollo_parser.specs.Promise.{PartPromise}
 
 pub returns-clause-promise : goal.returns-clause-promise
 returns-clause-promise g c =

@@ -1,9 +1,9 @@
 use Rattle.std.proofs.Common.{subst}
 use Rattle.std.specs.Prelude.{OnOk}
-use Rattle.parser_rules.specs.State.{State}
 use Rattle.parser_rules.specs.Nodes.{Document}
 use Rattle.parser_rules.specs.RuleLanguage.{Call}
 use Rattle.parser_rules.specs.Runs.{Runs}
+use Rattle.parser_rules.specs.State.{State}
 use Rattle.apollo_parser.proofs.parser.Parser.read_document.Goals as goal
 
 pub returns-clause-runs : goal.returns-clause-runs

@@ -1,13 +1,13 @@
 use Rattle.std.proofs.Common.{refl, sym, ap, subst, ◌∙◌}
-use Rattle.document_grammar.specs.declared.kind.SyntaxKind.TheVariants as kind
 use Rattle.document_grammar.specs.Numbers.{is_kind}
+use Rattle.document_grammar.specs.declared.kind.SyntaxKind.TheVariants as kind
 use Rattle.parser_rules.proofs.runs.Frame.{root-kept, root-stays}
+use Rattle.apollo_parser.proofs.Allowances.{none, from-root, twice}
+use Rattle.apollo_parser.proofs.Parses.{answers, run-read, run-begins}
+use Rattle.apollo_parser.proofs.Roots.{finished-node}
+use Rattle.apollo_parser.proofs.parser.Parser.run_document.Goals as goal
 use Rattle.apollo_parser.specs.ByRules.{ByRules}
 use Rattle.apollo_parser.specs.Roots.{root_kind}
-use Rattle.apollo_parser.proofs.Roots.{finished-node}
-use Rattle.apollo_parser.proofs.Parses.{answers, run-read, run-begins}
-use Rattle.apollo_parser.proofs.Allowances.{none, from-root, twice}
-use Rattle.apollo_parser.proofs.parser.Parser.run_document.Goals as goal
 
 pub finish-requires : goal.finish-requires
 finish-requires g c =

@@ -1,15 +1,15 @@
 use Rattle.std.proofs.Common.{refl, sym, ap, subst, ◌∙◌}
-use Rattle.document_grammar.specs.declared.kind.SyntaxKind.TheVariants as kind
 use Rattle.document_grammar.specs.Numbers.{is_kind}
-use Rattle.parser_rules.specs.State.{flush}
+use Rattle.document_grammar.specs.declared.kind.SyntaxKind.TheVariants as kind
+use Rattle.parser_rules.proofs.fragments.RootChecks.{selections_pass}
 use Rattle.parser_rules.specs.Fragments.{field_set}
 use Rattle.parser_rules.specs.Runs.{Runs}
-use Rattle.parser_rules.proofs.fragments.RootChecks.{selections_pass}
-use Rattle.apollo_parser.specs.ByRules.{ByRootRule}
-use Rattle.apollo_parser.proofs.Parses.{answers}
+use Rattle.parser_rules.specs.State.{flush}
 use Rattle.apollo_parser.proofs.Allowances.{from-started}
+use Rattle.apollo_parser.proofs.Parses.{answers}
 use Rattle.apollo_parser.proofs.PartRuns.{source-begins, open-root, kind-is, by-root-rule}
 use Rattle.apollo_parser.proofs.parser.Parser.run_selection_set.Goals as goal
+use Rattle.apollo_parser.specs.ByRules.{ByRootRule}
 
 pub finish-requires : goal.finish-requires
 finish-requires g c =

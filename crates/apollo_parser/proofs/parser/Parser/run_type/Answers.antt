@@ -1,18 +1,18 @@
 use Rattle.std.proofs.Common.{◌||◌, ◌∙◌, refl, sym, ap, subst}
 use Rattle.document_grammar.specs.Choices.{Types}
-use Rattle.document_grammar.specs.declared.kind.SyntaxKind.TheVariants as kind
 use Rattle.document_grammar.specs.Numbers.{is_kind}
-use Rattle.apollo_cst_core.specs.Cast.{one_of}
-use Rattle.parser_rules.specs.State.{State, flush}
-use Rattle.parser_rules.specs.Fragments.{RunsTypeRoot}
+use Rattle.document_grammar.specs.declared.kind.SyntaxKind.TheVariants as kind
 use Rattle.parser_rules.proofs.fragments.RootChecks.{type_passes, type-free}
 use Rattle.parser_rules.proofs.fragments.TypeRoots.{type-run, makes-unopened}
-use Rattle.apollo_parser.specs.ByRules.{ByTypeRule}
-use Rattle.apollo_parser.proofs.Parses.{answers}
-use Rattle.apollo_parser.proofs.TypeParses.{type-rooted}
+use Rattle.parser_rules.specs.Fragments.{RunsTypeRoot}
+use Rattle.parser_rules.specs.State.{State, flush}
+use Rattle.apollo_cst_core.specs.Cast.{one_of}
 use Rattle.apollo_parser.proofs.Allowances.{from-unopened, not-open}
+use Rattle.apollo_parser.proofs.Parses.{answers}
 use Rattle.apollo_parser.proofs.PartRuns.{source-begins, open-root, kind-is, by-root-rule}
+use Rattle.apollo_parser.proofs.TypeParses.{type-rooted}
 use Rattle.apollo_parser.proofs.parser.Parser.run_type.Goals as goal
+use Rattle.apollo_parser.specs.ByRules.{ByTypeRule}
 
 pub type_root-requires : goal.type_root-requires
 type_root-requires g c =

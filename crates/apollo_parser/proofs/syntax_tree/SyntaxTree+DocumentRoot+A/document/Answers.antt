@@ -1,6 +1,6 @@
 use Rattle.std.proofs.Common.{◌∙◌, ap}
-use Rattle.document_grammar.specs.declared.kind.SyntaxKind.TheVariants.{DOCUMENT}
 use Rattle.document_grammar.specs.Numbers.{is_kind}
+use Rattle.document_grammar.specs.declared.kind.SyntaxKind.TheVariants.{DOCUMENT}
 use Rattle.apollo_tree.specs.Order.{kind_at}
 use Rattle.apollo_parser.proofs.Roots.{cast-is-some}
 use Rattle.apollo_parser.proofs.syntax_tree.SyntaxTree+DocumentRoot+A.document.Goals as goal

@@ -1,9 +1,9 @@
 use Rattle.std.proofs.Common.{◌∙◌, ap}
 use Rattle.document_grammar.specs.Choices.{Types}
-use Rattle.apollo_cst_core.specs.Cast.{one_of}
-use Rattle.apollo_cst_executable.specs.Ty.{ty_node}
 use Rattle.apollo_tree.specs.Order.{kind_at}
 use Rattle.apollo_tree.specs.References.{node_place}
+use Rattle.apollo_cst_core.specs.Cast.{one_of}
+use Rattle.apollo_cst_executable.specs.Ty.{ty_node}
 use Rattle.apollo_parser.proofs.Roots.{cast-place}
 use Rattle.apollo_parser.proofs.syntax_tree.SyntaxTree+TypeRoot+A.ty.Goals as goal
 

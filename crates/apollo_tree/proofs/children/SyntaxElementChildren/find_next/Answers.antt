@@ -1,10 +1,10 @@
 use Rattle.std.proofs.Common.{◌+◌, ◌∷◌, ◌∙◌, ap, sym, arith}
 use Rattle.std.specs.List.{filter}
+use Rattle.apollo_tree.proofs.Searches.{after, found-first, found-kind, found-taken, end-span, none-left, rest_from}
+use Rattle.apollo_tree.proofs.children.SyntaxElementChildren.find_next.Goals as goal
 use Rattle.apollo_tree.specs.Forms.{readable}
 use Rattle.apollo_tree.specs.Order.{kind_at}
 use Rattle.apollo_tree.specs.Taken.{takes_place}
-use Rattle.apollo_tree.proofs.Searches.{after, found-first, found-kind, found-taken, end-span, none-left, rest_from}
-use Rattle.apollo_tree.proofs.children.SyntaxElementChildren.find_next.Goals as goal
 
 pub overflow_add-self : goal.overflow_add-self
 overflow_add-self g c =

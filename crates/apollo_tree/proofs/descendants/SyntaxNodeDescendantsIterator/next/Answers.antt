@@ -1,9 +1,9 @@
 use Rattle.std.proofs.Common.{◌∙◌, sym, ap, length, arith}
 use Rattle.std.specs.List.{filter}
-use Rattle.apollo_tree.specs.Children.{is_node_place}
-use Rattle.apollo_tree.specs.Yields.{rest_descendants}
 use Rattle.apollo_tree.proofs.Nodes.{keep-node, skip-token}
 use Rattle.apollo_tree.proofs.descendants.SyntaxNodeDescendantsIterator.next.Goals as goal
+use Rattle.apollo_tree.specs.Children.{is_node_place}
+use Rattle.apollo_tree.specs.Yields.{rest_descendants}
 
 pub returns-in-Node-clause-steps : goal.returns-in-Node-clause-steps
 returns-in-Node-clause-steps c =

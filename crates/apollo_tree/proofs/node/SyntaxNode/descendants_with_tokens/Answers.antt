@@ -1,10 +1,10 @@
 use Rattle.std.proofs.Common.{◌≡◌, ◌+◌, ◌-◌, suc, ap, arith}
 use Rattle.document_grammar.specs.Forests.{count}
-use Rattle.apollo_tree.specs.Order.{tree_at, tree_kids}
-use Rattle.apollo_tree.specs.Below.{places_from}
-use Rattle.apollo_tree.specs.References.{node_place}
 use Rattle.apollo_tree.proofs.Spans.{children-span}
 use Rattle.apollo_tree.proofs.node.SyntaxNode.descendants_with_tokens.Goals as goal
+use Rattle.apollo_tree.specs.Below.{places_from}
+use Rattle.apollo_tree.specs.Order.{tree_at, tree_kids}
+use Rattle.apollo_tree.specs.References.{node_place}
 
 pub overflow_add-result : goal.overflow_add-result
 overflow_add-result c =

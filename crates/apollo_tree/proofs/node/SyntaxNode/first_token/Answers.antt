@@ -1,15 +1,15 @@
 use Rattle.std.proofs.Common.{◌≡◌, ◌+◌, ◌-◌, suc, false, ap, sym, ◌∙◌, arith}
-use Rattle.std.specs.Prelude.{not}
 use Rattle.std.specs.List.{find}
+use Rattle.std.specs.Prelude.{not}
 use Rattle.document_grammar.specs.Forests.{count}
-use Rattle.apollo_tree.specs.Order.{tree_at, tree_kids}
-use Rattle.apollo_tree.specs.Children.{is_node_place}
-use Rattle.apollo_tree.specs.Below.{places_from, is_leaf_place}
-use Rattle.apollo_tree.specs.References.{node_place}
-use Rattle.apollo_tree.proofs.Parts.{spot}
 use Rattle.apollo_tree.proofs.Finds.{find-pass-one}
+use Rattle.apollo_tree.proofs.Parts.{spot}
 use Rattle.apollo_tree.proofs.Spans.{children-span}
 use Rattle.apollo_tree.proofs.node.SyntaxNode.first_token.Goals as goal
+use Rattle.apollo_tree.specs.Below.{places_from, is_leaf_place}
+use Rattle.apollo_tree.specs.Children.{is_node_place}
+use Rattle.apollo_tree.specs.Order.{tree_at, tree_kids}
+use Rattle.apollo_tree.specs.References.{node_place}
 
 pub overflow_add-end : goal.overflow_add-end
 overflow_add-end c =

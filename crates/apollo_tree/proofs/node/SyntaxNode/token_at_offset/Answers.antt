@@ -1,12 +1,12 @@
 use Rattle.std.proofs.Common.{◌≡◌, ◌+◌, ◌-◌, suc, ap, ◌∙◌, arith}
 use Rattle.std.specs.List.{filter}
 use Rattle.document_grammar.specs.Forests.{count}
+use Rattle.apollo_tree.proofs.Spans.{children-span}
+use Rattle.apollo_tree.proofs.node.SyntaxNode.token_at_offset.Goals as goal
 use Rattle.apollo_tree.specs.AtOffset.{is_at_offset}
 use Rattle.apollo_tree.specs.Below.{places_from}
 use Rattle.apollo_tree.specs.Order.{tree_at, tree_kids}
 use Rattle.apollo_tree.specs.References.{node_place}
-use Rattle.apollo_tree.proofs.Spans.{children-span}
-use Rattle.apollo_tree.proofs.node.SyntaxNode.token_at_offset.Goals as goal
 
 pub overflow_add-end : goal.overflow_add-end
 overflow_add-end c =

@@ -1,12 +1,12 @@
 use Rattle.std.proofs.Common.{◌≡◌, ◌∙◌, ap, sym, arith}
-use Rattle.apollo_tree.specs.declared.record.Record.{Record}
-use Rattle.apollo_tree.specs.Order.{element}
-use Rattle.apollo_tree.specs.References.{table_place}
+use Rattle.apollo_tree.proofs.Parents.{no-index, some-parent}
 use Rattle.apollo_tree.proofs.Places.{end-is}
 use Rattle.apollo_tree.proofs.Spans.{children-span}
-use Rattle.apollo_tree.proofs.Parents.{no-index, some-parent}
 use Rattle.apollo_tree.proofs.node.Table.element.Goals as goal
 use Rattle.apollo_tree.proofs.node.Table.element.Goals.{in-0, in_default}
+use Rattle.apollo_tree.specs.Order.{element}
+use Rattle.apollo_tree.specs.References.{table_place}
+use Rattle.apollo_tree.specs.declared.record.Record.{Record}
 
 pub overflow_add-after_subtree : goal.overflow_add-after_subtree
 overflow_add-after_subtree c =

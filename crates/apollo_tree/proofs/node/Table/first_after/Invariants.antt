@@ -1,6 +1,6 @@
 use Rattle.std.proofs.Common.{◌+◌, ◌-◌, ◌≤◌}
-use Rattle.apollo_tree.specs.Starts.{BeginBefore, BeginFrom}
 use Rattle.apollo_tree.proofs.node.Table.first_after.Given as goal
+use Rattle.apollo_tree.specs.Starts.{BeginBefore, BeginFrom}
 
 abbrev pub invariant-loop-low : goal.invariant-loop-low
 invariant-loop-low l =

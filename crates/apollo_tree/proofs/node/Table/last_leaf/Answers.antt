@@ -1,14 +1,14 @@
 use Rattle.std.proofs.Common.{◌≡◌, [], ◌∷◌, ◌-◌, ◌∙◌, sym, ap, cond, true, false}
-use Rattle.std.specs.Prelude.{◌&&◌, not}
 use Rattle.std.proofs.Math.Bool.{and-false}
-use Rattle.apollo_tree.specs.Order.{range_at}
-use Rattle.apollo_tree.specs.Below.{is_leaf_place}
-use Rattle.apollo_tree.specs.AtOffset.{is_at_offset, meets}
-use Rattle.apollo_tree.specs.References.{table_place, table_tree}
+use Rattle.std.specs.Prelude.{◌&&◌, not}
 use Rattle.apollo_tree.proofs.Offsets.{last-place}
 use Rattle.apollo_tree.proofs.node.Table.last_leaf.Goals as goal
 use Rattle.apollo_tree.proofs.node.Table.last_leaf.Goals.{else-not-record-via-then-not-record+else-meets}
 use Rattle.apollo_tree.proofs.node.Table.last_leaf.Goals.{else-not-record-via-else-not-record}
+use Rattle.apollo_tree.specs.AtOffset.{is_at_offset, meets}
+use Rattle.apollo_tree.specs.Below.{is_leaf_place}
+use Rattle.apollo_tree.specs.Order.{range_at}
+use Rattle.apollo_tree.specs.References.{table_place, table_tree}
 
 pub returns-then-meets : goal.returns-then-meets
 returns-then-meets c =

@@ -1,13 +1,13 @@
 use Rattle.std.proofs.Common.{◌-◌, ◌++◌, suc, ap, sym, ◌∙◌, arith}
-use Rattle.std.specs.Prelude.{option_map}
-use Rattle.std.specs.Option.{option_to_list}
 use Rattle.std.proofs.lemmas.List.{append-nil}
 use Rattle.std.specs.List.{filter}
+use Rattle.std.specs.Option.{option_to_list}
+use Rattle.std.specs.Prelude.{option_map}
+use Rattle.apollo_tree.proofs.Offsets.{no-earlier, no-later, no-places, filter-split}
+use Rattle.apollo_tree.proofs.node.Table.tokens_at.Goals as goal
 use Rattle.apollo_tree.specs.AtOffset.{is_at_offset}
 use Rattle.apollo_tree.specs.Below.{places_from}
 use Rattle.apollo_tree.specs.References.{table_tree, table_place, token_place}
-use Rattle.apollo_tree.proofs.Offsets.{no-earlier, no-later, no-places, filter-split}
-use Rattle.apollo_tree.proofs.node.Table.tokens_at.Goals as goal
 
 pub last_leaf-requires-clause-others : goal.last_leaf-requires-clause-others
 last_leaf-requires-clause-others c = λ k a b.

@@ -1,18 +1,18 @@
 use Rattle.std.proofs.Common.{◌≡◌, ◌∙◌, ◌++◌, List, ℕ, ap, sym, subst, length, take, arith}
-use Rattle.std.specs.Prelude.{slice_range}
 use Rattle.std.proofs.lemmas.List.{length-take}
 use Rattle.std.proofs.lemmas.Str.{IsCharBoundary-from_take}
+use Rattle.std.specs.Prelude.{slice_range}
 use Rattle.std.specs.Str.{IsUtf8}
 use Rattle.document_grammar.specs.Builds.{Building, open_text, built_text}
 use Rattle.document_grammar.specs.Forests.{text}
+use Rattle.apollo_tree.proofs.OneReading.{brackets-one}
+use Rattle.apollo_tree.proofs.Places.{sound-text}
+use Rattle.apollo_tree.proofs.Steps.{holds, finished-over, forest-is, tree-kept}
+use Rattle.apollo_tree.proofs.Written.{written-whole}
+use Rattle.apollo_tree.proofs.span_builder.SpanBuilder.finish.Goals as goal
 use Rattle.apollo_tree.specs.Brackets.{brackets}
 use Rattle.apollo_tree.specs.Open.{Holds}
 use Rattle.apollo_tree.specs.declared.record.Record.{Record}
-use Rattle.apollo_tree.proofs.Steps.{holds, finished-over, forest-is, tree-kept}
-use Rattle.apollo_tree.proofs.OneReading.{brackets-one}
-use Rattle.apollo_tree.proofs.Places.{sound-text}
-use Rattle.apollo_tree.proofs.Written.{written-whole}
-use Rattle.apollo_tree.proofs.span_builder.SpanBuilder.finish.Goals as goal
 
 -- the source begins with the text that was built
 begins : {b : Building} {rs : List Record} {ps s : List ℕ} (source : List ℕ) (n : ℕ) → Holds b rs ps s → n ≡ length s

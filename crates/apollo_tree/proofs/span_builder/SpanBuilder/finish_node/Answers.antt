@@ -1,13 +1,13 @@
 use Rattle.std.proofs.Common.{◌≡◌, ◌-◌, List, [], ◌∷◌, length, ◌∙◌, ap, refl, arith}
-use Rattle.document_grammar.specs.Forests.{Forest}
-use Rattle.document_grammar.specs.Builds.{Open, close, built_count}
 use Rattle.document_grammar.proofs.Built.{count-close}
-use Rattle.apollo_tree.specs.Sound.{FitsInnermost}
+use Rattle.document_grammar.specs.Builds.{Open, close, built_count}
+use Rattle.document_grammar.specs.Forests.{Forest}
 use Rattle.apollo_tree.proofs.Steps.{count-is, holds, kept, built-is, moved, innermost, length-open_indices}
 use Rattle.apollo_tree.proofs.Steps.{finish-here, finish-above, can-finish-open}
-use Rattle.apollo_tree.specs.Brackets.{written}
 use Rattle.apollo_tree.proofs.Written.{written-finish}
 use Rattle.apollo_tree.proofs.span_builder.SpanBuilder.finish_node.Goals as goal
+use Rattle.apollo_tree.specs.Brackets.{written}
+use Rattle.apollo_tree.specs.Sound.{FitsInnermost}
 
 pub unwrap-index-requires : goal.unwrap-index-requires
 unwrap-index-requires g c =

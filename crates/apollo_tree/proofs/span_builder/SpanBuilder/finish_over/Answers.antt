@@ -1,9 +1,9 @@
 use Rattle.std.proofs.Common.{ap, ◌∙◌, sym}
-use Rattle.apollo_tree.proofs.Steps.{holds, finished-over, forest-is, tree-kept}
-use Rattle.apollo_tree.specs.Brackets.{brackets}
-use Rattle.apollo_tree.proofs.Written.{written-whole}
 use Rattle.apollo_tree.proofs.OneReading.{brackets-one}
+use Rattle.apollo_tree.proofs.Steps.{holds, finished-over, forest-is, tree-kept}
+use Rattle.apollo_tree.proofs.Written.{written-whole}
 use Rattle.apollo_tree.proofs.span_builder.SpanBuilder.finish_over.Goals as goal
+use Rattle.apollo_tree.specs.Brackets.{brackets}
 
 pub invariant_of-result : goal.invariant_of-result
 invariant_of-result g c =

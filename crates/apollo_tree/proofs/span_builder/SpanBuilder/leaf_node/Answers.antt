@@ -2,9 +2,9 @@ use Rattle.std.proofs.Common.{◌≡◌, ◌+◌, [], ◌∷◌, ◌++◌, ◌�
 use Rattle.std.proofs.lemmas.List.{length-append}
 use Rattle.document_grammar.specs.Forests.{none, leaf, node}
 use Rattle.apollo_tree.proofs.Steps.{holds, kept, built-is, leaf-node-table, moved, sound-join, count-is, is-new}
-use Rattle.apollo_tree.specs.Brackets.{written}
 use Rattle.apollo_tree.proofs.Written.{written-joined}
 use Rattle.apollo_tree.proofs.span_builder.SpanBuilder.leaf_node.Goals as goal
+use Rattle.apollo_tree.specs.Brackets.{written}
 
 pub push_both_in_place-requires-clause-first : goal.push_both_in_place-requires-clause-first
 push_both_in_place-requires-clause-first g c =

@@ -1,7 +1,7 @@
 use Rattle.std.proofs.Common.{◌∙◌, ap, arith}
-use Rattle.apollo_tree.specs.declared.record.Record.{Record}
 use Rattle.apollo_tree.proofs.Steps.{holds, start-at, end_at}
 use Rattle.apollo_tree.proofs.span_builder.SpanBuilder.start_behind.Goals as goal
+use Rattle.apollo_tree.specs.declared.record.Record.{Record}
 
 pub returns-then-index-len : goal.returns-then-index-len
 returns-then-index-len g c =

@@ -1,8 +1,8 @@
 use Rattle.std.proofs.Common.{[], ◌∷◌, ◌++◌, ◌∙◌, ap, refl, arith}
 use Rattle.apollo_tree.proofs.Steps.{holds, kept, built-is, start-table, moved, count-is, is-new}
-use Rattle.apollo_tree.specs.Brackets.{written}
 use Rattle.apollo_tree.proofs.Written.{written-start}
 use Rattle.apollo_tree.proofs.span_builder.SpanBuilder.start_node.Goals as goal
+use Rattle.apollo_tree.specs.Brackets.{written}
 
 pub push_in_place-requires : goal.push_in_place-requires
 push_in_place-requires g c =

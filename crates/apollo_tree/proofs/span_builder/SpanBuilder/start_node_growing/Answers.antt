@@ -1,8 +1,8 @@
 use Rattle.std.proofs.Common.{[], ◌∷◌, ◌++◌, ◌∙◌, ap, refl}
 use Rattle.apollo_tree.proofs.Steps.{holds, kept, built-is, start-table, moved}
-use Rattle.apollo_tree.specs.Brackets.{written}
 use Rattle.apollo_tree.proofs.Written.{written-start}
 use Rattle.apollo_tree.proofs.span_builder.SpanBuilder.start_node_growing.Goals as goal
+use Rattle.apollo_tree.specs.Brackets.{written}
 
 pub invariant_of-self-2 : goal.invariant_of-self-2
 invariant_of-self-2 g c =

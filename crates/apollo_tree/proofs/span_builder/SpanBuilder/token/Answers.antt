@@ -1,9 +1,9 @@
 use Rattle.std.proofs.Common.{◌≡◌, ◌+◌, [], ◌∷◌, ◌++◌, ◌∙◌, ap, refl, length, arith}
 use Rattle.std.proofs.lemmas.List.{length-append}
 use Rattle.apollo_tree.proofs.Steps.{holds, kept, built-is, leaf-table, moved, sound-join, count-is, is-new}
-use Rattle.apollo_tree.specs.Brackets.{written}
 use Rattle.apollo_tree.proofs.Written.{written-leaf}
 use Rattle.apollo_tree.proofs.span_builder.SpanBuilder.token.Goals as goal
+use Rattle.apollo_tree.specs.Brackets.{written}
 
 pub push_in_place-requires : goal.push_in_place-requires
 push_in_place-requires g c =

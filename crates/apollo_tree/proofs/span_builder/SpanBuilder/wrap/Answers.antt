@@ -1,13 +1,13 @@
 use Rattle.std.proofs.Common.{[], ◌∷◌, ◌++◌, ◌∙◌, ap, sym, subst, refl, length, arith, ◌<◌, List, suc, drop}
 use Rattle.std.specs.List.{insert}
-use Rattle.apollo_tree.specs.declared.record.Record.{Record}
-use Rattle.apollo_tree.specs.Adopted.{after_adoption}
-use Rattle.apollo_tree.specs.Children.{tiled}
 use Rattle.apollo_tree.proofs.Steps.{holds, kept, built-is, at_index, index-inside, trees-behind, wrap-table, moved}
 use Rattle.apollo_tree.proofs.Steps.{index-le, count-is, sound-front, sound-back}
-use Rattle.apollo_tree.specs.Brackets.{written}
 use Rattle.apollo_tree.proofs.Written.{written-wrap}
 use Rattle.apollo_tree.proofs.span_builder.SpanBuilder.wrap.Goals as goal
+use Rattle.apollo_tree.specs.Adopted.{after_adoption}
+use Rattle.apollo_tree.specs.Brackets.{written}
+use Rattle.apollo_tree.specs.Children.{tiled}
+use Rattle.apollo_tree.specs.declared.record.Record.{Record}
 
 pub insert-requires : goal.insert-requires
 insert-requires g c = omega (arith, index-le _ _ c.requires, count-is (holds c.self.view_is c.self.invariant.0).parts)

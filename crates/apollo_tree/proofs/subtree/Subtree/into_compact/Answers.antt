@@ -1,15 +1,15 @@
 use Rattle.std.proofs.Common.{◌∙◌, List, ℕ, ap, length, sym, None, arith}
 use Rattle.document_grammar.specs.Forests.{count, text}
-use Rattle.apollo_tree.specs.declared.record.Record.{Record}
+use Rattle.apollo_tree.proofs.Compacts.{all-fit, compacts-are}
+use Rattle.apollo_tree.proofs.Places.{length-order}
+use Rattle.apollo_tree.proofs.subtree.Subtree.into_compact.Goals as goal
 use Rattle.apollo_tree.specs.Compact.{compact_elements}
 use Rattle.apollo_tree.specs.Filled.{filled}
 use Rattle.apollo_tree.specs.Open.{IsTree}
 use Rattle.apollo_tree.specs.ReadBack.{length-records}
 use Rattle.apollo_tree.specs.Records.{forest}
 use Rattle.apollo_tree.specs.Table.{IsTable}
-use Rattle.apollo_tree.proofs.Compacts.{all-fit, compacts-are}
-use Rattle.apollo_tree.proofs.Places.{length-order}
-use Rattle.apollo_tree.proofs.subtree.Subtree.into_compact.Goals as goal
+use Rattle.apollo_tree.specs.declared.record.Record.{Record}
 
 table-of : (rs : List Record) (s : List ℕ) → IsTree (forest s rs) rs s → IsTable rs s
 table-of rs s tree = record { table = tree.table; words = tree.words; root = tree.root; sound = tree.sound }

@@ -1,8 +1,8 @@
 use Rattle.std.proofs.Common.{ap, ◌∙◌, map}
-use Rattle.apollo_tree.specs.Widened.{of_small, widened}
-use Rattle.apollo_tree.specs.Forms.{form_records}
 use Rattle.apollo_tree.proofs.Widening.{packed-insert}
 use Rattle.apollo_tree.proofs.table.Form.insert.Goals as goal
+use Rattle.apollo_tree.specs.Forms.{form_records}
+use Rattle.apollo_tree.specs.Widened.{of_small, widened}
 
 pub returns-in_ok-insert_at-in-Small-clause-rows : goal.returns-in_ok-insert_at-in-Small-clause-rows
 returns-in_ok-insert_at-in-Small-clause-rows g c =

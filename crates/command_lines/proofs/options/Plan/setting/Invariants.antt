@@ -1,8 +1,8 @@
 use Rattle.std.proofs.Common.{◌≡◌, drop}
-use Rattle.std.specs.Prelude.{bytes_eq}
 use Rattle.std.specs.List.{find}
-use Rattle.command_lines.specs.Reading.{as_settings}
+use Rattle.std.specs.Prelude.{bytes_eq}
 use Rattle.command_lines.proofs.options.Plan.setting.Given as goal
+use Rattle.command_lines.specs.Reading.{as_settings}
 
 abbrev pub invariant-loop-set : goal.invariant-loop-set
 invariant-loop-set g l =

@@ -1,8 +1,8 @@
 use Rattle.std.proofs.Common.{map, arith}
 use Rattle.std.proofs.lemmas.List.{length-map}
 use Rattle.cost_figures.proofs.Steps.{undefined, cyclic, past_spread, entered, its_mark}
-use Rattle.cost_figures.specs.declared.walk.Mark.TheVariants.{Untouched, Open, Done}
 use Rattle.cost_figures.proofs.walk.OpenDefinitions.spread.Goals as goal
+use Rattle.cost_figures.specs.declared.walk.Mark.TheVariants.{Untouched, Open, Done}
 
 pub returns-then-fragment-definitions-clause-fault : goal.returns-then-fragment-definitions-clause-fault
 returns-then-fragment-definitions-clause-fault g c =

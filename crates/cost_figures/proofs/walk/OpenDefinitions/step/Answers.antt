@@ -1,6 +1,6 @@
 use Rattle.std.proofs.Common.{map}
-use Rattle.cost_figures.proofs.Steps.{past_other, out}
 use Rattle.cost_figures.proofs.Expansions.{not_spread}
+use Rattle.cost_figures.proofs.Steps.{past_other, out}
 use Rattle.cost_figures.proofs.walk.OpenDefinitions.step.Goals as goal
 
 pub returns-in_default-clause-goes : goal.returns-in_default-clause-goes

@@ -1,7 +1,7 @@
 use Rattle.std.proofs.Common.{◌≡◌, ◌∙◌, length}
-use Rattle.document_checks.specs.declared.documents.Document.{Document}
 use Rattle.document_checks.proofs.ParsedTexts.{add_comments, add_document}
 use Rattle.document_checks.proofs.documents.Parsed.add.Goals as goal
+use Rattle.document_checks.specs.declared.documents.Document.{Document}
 
 -- a text without a definition
 pub returns-then-has_comments_alone : goal.returns-then-has_comments_alone

@@ -1,9 +1,9 @@
 use Rattle.std.proofs.Common.{List, ℕ, sym, subst, take}
 use Rattle.std.proofs.lemmas.List.{map_more}
 use denote.Ref.{Bor}
+use Rattle.document_checks.proofs.documents.Parsed.of.Goals as goal
 use Rattle.document_checks.specs.Checking.{texts_of}
 use Rattle.document_checks.specs.Documents.{AreParsed}
-use Rattle.document_checks.proofs.documents.Parsed.of.Goals as goal
 
 pub loop-source-preserved : goal.loop-source-preserved
 loop-source-preserved c =

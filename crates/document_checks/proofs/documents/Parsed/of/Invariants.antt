@@ -1,7 +1,7 @@
 use Rattle.std.proofs.Common.{take}
+use Rattle.document_checks.proofs.documents.Parsed.of.Given as goal
 use Rattle.document_checks.specs.Checking.{texts_of}
 use Rattle.document_checks.specs.Documents.{AreParsed}
-use Rattle.document_checks.proofs.documents.Parsed.of.Given as goal
 
 -- the texts so far are parsed
 abbrev pub invariant-loop-source : goal.invariant-loop-source

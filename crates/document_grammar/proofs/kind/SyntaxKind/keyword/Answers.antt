@@ -1,11 +1,11 @@
 -- A kind that no arm of the match names has no word, by trying each kind.
 use Rattle.std.proofs.Common.{rules, ◌≡◌, None, refl}
+use Rattle.document_grammar.proofs.kind.SyntaxKind.keyword.Goals as goal
+use Rattle.document_grammar.specs.Choices.{keyword_word}
+use Rattle.document_grammar.specs.Kinds.{words}
+use Rattle.document_grammar.specs.Numbers.{number}
 use Rattle.document_grammar.specs.declared.kind.SyntaxKind.{SyntaxKind}
 use Rattle.document_grammar.specs.declared.kind.SyntaxKind.TheVariants as kind
-use Rattle.document_grammar.specs.Kinds.{words}
-use Rattle.document_grammar.specs.Choices.{keyword_word}
-use Rattle.document_grammar.specs.Numbers.{number}
-use Rattle.document_grammar.proofs.kind.SyntaxKind.keyword.Goals as goal
 
 pub returns-in_default : goal.returns-in_default
 unfolding keyword_word words

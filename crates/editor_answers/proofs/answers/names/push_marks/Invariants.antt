@@ -1,8 +1,8 @@
 use Rattle.std.proofs.Common.{◌≡◌, ◌++◌, take}
 use Rattle.std.specs.List.{flat_map}
 use Rattle.rpc_messages.specs.Pieces.{tokens_of}
-use Rattle.editor_answers.specs.Results.{mark_tokens}
 use Rattle.editor_answers.proofs.answers.names.push_marks.Given as goal
+use Rattle.editor_answers.specs.Results.{mark_tokens}
 
 abbrev pub invariant-loop-span : goal.invariant-loop-span
 invariant-loop-span l =

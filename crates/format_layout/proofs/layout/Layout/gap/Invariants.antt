@@ -1,6 +1,6 @@
 use Rattle.std.proofs.Common.{◌≡◌, ◌+◌, ◌≤◌, false, string_bytes}
-use Rattle.format_layout.specs.Laid.{Keeps, ended_length}
 use Rattle.format_layout.proofs.layout.Layout.gap.Given as goal
+use Rattle.format_layout.specs.Laid.{Keeps, ended_length}
 
 abbrev pub invariant-loop : goal.invariant-loop
 invariant-loop g l = record {

@@ -1,7 +1,7 @@
 use Rattle.std.proofs.Common.{◌≡◌, true, sym, ◌∙◌}
-use Rattle.format_layout.specs.Leads.{may_come, may_go}
 use Rattle.format_layout.proofs.Choosing.{comes-before, goes-away, stays-there}
 use Rattle.format_layout.proofs.writer.Writer.put.Goals as goal
+use Rattle.format_layout.specs.Leads.{may_come, may_go}
 
 pub returns-in-LeftOut-clause-adds : goal.returns-in-LeftOut-clause-adds
 returns-in-LeftOut-clause-adds g c =

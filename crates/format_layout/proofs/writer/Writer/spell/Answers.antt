@@ -1,10 +1,10 @@
 use Rattle.std.proofs.Common.{◌≡◌, length, rules, arith, sym, subst}
-use Rattle.lexical_grammar.specs.declared.TokenKind.TheVariants.{StringValue}
-use Rattle.format_layout.specs.Respelled.{SameBlock}
 use Rattle.lexical_grammar.proofs.Cuts.{tok-some}
-use Rattle.format_layout.proofs.Lengths.{own-room}
+use Rattle.lexical_grammar.specs.declared.TokenKind.TheVariants.{StringValue}
 use Rattle.format_layout.proofs.Adding.{adds-token, adds-block}
+use Rattle.format_layout.proofs.Lengths.{own-room}
 use Rattle.format_layout.proofs.writer.Writer.spell.Goals as goal
+use Rattle.format_layout.specs.Respelled.{SameBlock}
 
 pub returns-in-Some-clause-adds : goal.returns-in-Some-clause-adds
 returns-in-Some-clause-adds g c =

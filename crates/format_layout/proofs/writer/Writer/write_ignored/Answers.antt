@@ -1,6 +1,6 @@
 use Rattle.std.proofs.Common.{arith, rules}
-use Rattle.lexical_grammar.specs.Tokens.{Tok}
 use Rattle.lexical_grammar.proofs.Cuts.{tok-some}
+use Rattle.lexical_grammar.specs.Tokens.{Tok}
 use Rattle.format_layout.proofs.writer.Writer.write_ignored.Goals as goal
 
 pub returns-clause-short : goal.returns-clause-short

@@ -1,8 +1,8 @@
 use Rattle.std.proofs.Common.{refl}
-use Rattle.format_layout.specs.Chosen.{pipe_word}
 use Rattle.format_layout.proofs.Adding.{adds-after, adds-token}
 use Rattle.format_layout.proofs.Choosing.{then-keeps}
 use Rattle.format_layout.proofs.writer.Writer.write_sign.Goals as goal
+use Rattle.format_layout.specs.Chosen.{pipe_word}
 
 pub returns-clause-adds : goal.returns-clause-adds
 returns-clause-adds g c =

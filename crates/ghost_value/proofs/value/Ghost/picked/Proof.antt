@@ -1,27 +1,14 @@
 -- `picked` makes a struct of a mark alone, with the value that the caller picks. Assumes `Logic`.
 use Rattle.std.proofs.Common.{List, [], ◌∷◌, ◌++◌, refl}
-use seplogic.Ra.Ura.{Ura}
-use mir.Syntax.{Fn, Args, a_type}
-use mir.Val.{Val, vptr, vstruct, vcons, vnil}
-use mir.MapTy.{inst_fn}
+use Rattle.std.specs.contracts.marker.PhantomData as Mark
 use base.Logic.{SProp, ent}
-use prog.Memory.{Memory}
-use prog.Routine.{Routine}
-use prog.Wp.{Calls, Loops, WpFn, Tables}
 use contract.Monad.{Fun}
 use contract.Running.{tables, tables_of}
-use sound.WpLaws.{WpFn-mono}
-use types.Logic.{Logic}
-use types.Kit.{Goal, Step, step, Item, ‵, raw, ◌⊛◌, prop, ◌$◌, ◌∵◌, !, qed, move, keep, drop, split, fsplit, fjoin}
-use types.Kit.{fpack, feq_i, feq_l, regoal, suffices, done}
-use types.Part.{agg}
-use types.Run.{enter, returns, and_then, no_more}
-use types.ByLocal.{alloc_all, pass_all, free_all, look_at, get, sets}
-use denote.Exit.{yes}
-use denote.RattleType.{RattleType, owns, Valss}
 use denote.Builtin.{RefOf}
+use denote.Exit.{yes}
 use denote.Laws.{Is}
 use denote.Param.{param, layouts}
+use denote.RattleType.{RattleType, owns, Valss}
 use denote.Signature.{plain, types_at}
 use denote.Steps.{nothing, owned}
 use denote.Struct.Laws.{makes}
@@ -31,12 +18,25 @@ use denote.Triple.Entry.{alive}
 use denote.Triple.Spec.{Meets, triple_of}
 use denote.Triple.Table.{entered}
 use denote.Triple.Walked.{says, Stays, stay_dropped, walk_of, ends_at, walk_Meets, Goes-dropped}
-use Rattle.std.specs.contracts.marker.PhantomData as Mark
+use mir.MapTy.{inst_fn}
+use mir.Syntax.{Fn, Args, a_type}
+use mir.Val.{Val, vptr, vstruct, vcons, vnil}
+use prog.Memory.{Memory}
+use prog.Routine.{Routine}
+use prog.Wp.{Calls, Loops, WpFn, Tables}
+use seplogic.Ra.Ura.{Ura}
+use sound.WpLaws.{WpFn-mono}
+use types.ByLocal.{alloc_all, pass_all, free_all, look_at, get, sets}
+use types.Kit.{Goal, Step, step, Item, ‵, raw, ◌⊛◌, prop, ◌$◌, ◌∵◌, !, qed, move, keep, drop, split, fsplit, fjoin}
+use types.Kit.{fpack, feq_i, feq_l, regoal, suffices, done}
+use types.Logic.{Logic}
+use types.Part.{agg}
+use types.Run.{enter, returns, and_then, no_more}
+use Rattle.ghost_value.proofs.value.Ghost.picked.Code as code
+use Rattle.ghost_value.proofs.value.Ghost.picked.Statement as stated
 use Rattle.ghost_value.specs.contracts.value.Ghost as Ghost
 use Rattle.ghost_value.specs.contracts.value.Ghost.picked as F
 use Rattle.ghost_value.specs.contracts.value.Ghost.picked.Key.{name as #self}
-use Rattle.ghost_value.proofs.value.Ghost.picked.Statement as stated
-use Rattle.ghost_value.proofs.value.Ghost.picked.Code as code
 
 -- at run time: a mark, and a struct that has a mark alone
 abbrev mark : Val

@@ -1,8 +1,8 @@
 use Rattle.std.proofs.Common.{refl}
 use Rattle.document_checks.specs.Checking.{as_asked}
-use Rattle.gqlcheck_run.specs.Program.{as_paths}
 use Rattle.gqlcheck_run.proofs.Openings.{stopped, went_on}
 use Rattle.gqlcheck_run.proofs.job.Job.check_all.Goals as goal
+use Rattle.gqlcheck_run.specs.Program.{as_paths}
 
 pub returns-then-opened-ne0 : goal.returns-then-opened-ne0
 returns-then-opened-ne0 g c = record {

@@ -1,8 +1,8 @@
 use Rattle.std.proofs.Common.{inl}
 use Rattle.document_checks.specs.Checking.{as_asked}
-use Rattle.gqlcheck_run.specs.Judging.{judged_by}
 use Rattle.gqlcheck_run.proofs.Judged.{all_found, all_together, each, warned, which}
 use Rattle.gqlcheck_run.proofs.job.Job.check_inputs.Goals as goal
+use Rattle.gqlcheck_run.specs.Judging.{judged_by}
 
 pub returns-in-Ok-clause-judges : goal.returns-in-Ok-clause-judges
 returns-in-Ok-clause-judges g c = inl (record {

@@ -2,11 +2,11 @@ use Rattle.std.proofs.Common.{◌≡◌, ◌∙◌, ℕ, List, ap, ap₂, length
 use Rattle.std.proofs.lemmas.List.{length-map}
 use Rattle.document_checks.specs.Checking.{as_asked}
 use Rattle.command_lines.specs.Words.{texts}
+use Rattle.gqlcheck_run.proofs.Plans.{judges_by}
+use Rattle.gqlcheck_run.proofs.job.Job.check_texts.Goals as goal
 use Rattle.gqlcheck_run.specs.Inputs.{Input, Texts, as_input, as_texts}
 use Rattle.gqlcheck_run.specs.Program.{asked_of}
 use Rattle.gqlcheck_run.specs.Reading.{ReadsTexts}
-use Rattle.gqlcheck_run.proofs.Plans.{judges_by}
-use Rattle.gqlcheck_run.proofs.job.Job.check_texts.Goals as goal
 
 pub returns-clause-checks : goal.returns-clause-checks
 returns-clause-checks g c =

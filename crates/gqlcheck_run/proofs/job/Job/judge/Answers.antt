@@ -1,7 +1,7 @@
 use Rattle.std.proofs.Common.{◌≡◌, ◌∙◌, ap, map}
 use Rattle.document_checks.specs.Checking.{texts_of}
-use Rattle.gqlcheck_run.specs.Inputs.{as_input, text_of}
 use Rattle.gqlcheck_run.proofs.job.Job.judge.Goals as goal
+use Rattle.gqlcheck_run.specs.Inputs.{as_input, text_of}
 
 pub returns-clause-judged : goal.returns-clause-judged
 returns-clause-judged g c =

@@ -1,11 +1,11 @@
 use Rattle.std.proofs.Common.{arith}
-use Rattle.std.specs.List.{zip}
 use Rattle.std.proofs.lemmas.List.{take_all}
+use Rattle.std.specs.List.{zip}
 use Rattle.named_files.proofs.Turns.{in_turn-next}
-use Rattle.gqlcheck_run.specs.Judging.{WritesReport, as_judged}
 use Rattle.gqlcheck_run.proofs.Judged.{as_many, as_many_pairs, pair_at}
 use Rattle.gqlcheck_run.proofs.Quiet.{quiet_more}
 use Rattle.gqlcheck_run.proofs.job.Job.write_reports.Goals as goal
+use Rattle.gqlcheck_run.specs.Judging.{WritesReport, as_judged}
 
 pub bounds-reports-here : goal.bounds-reports-here
 bounds-reports-here g c =

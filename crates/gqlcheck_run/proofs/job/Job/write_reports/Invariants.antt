@@ -1,8 +1,8 @@
 use Rattle.std.proofs.Common.{◌≡◌, map, take}
 use Rattle.std.specs.List.{zip}
 use Rattle.named_files.specs.Handling.{InTurn}
-use Rattle.gqlcheck_run.specs.Judging.{WritesReport, as_judged}
 use Rattle.gqlcheck_run.proofs.job.Job.write_reports.Given as goal
+use Rattle.gqlcheck_run.specs.Judging.{WritesReport, as_judged}
 
 abbrev pub invariant-loop-here : goal.invariant-loop-here
 invariant-loop-here g l = record {

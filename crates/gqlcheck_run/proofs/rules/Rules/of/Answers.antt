@@ -1,11 +1,11 @@
 use Rattle.std.proofs.Common.{◌∙◌, ℕ, List, ap, subst}
-use Rattle.std.specs.Prelude.{option_map}
 use Rattle.std.proofs.lemmas.Result.{err_from_is_err_and}
+use Rattle.std.specs.Prelude.{option_map}
 use denote.Ref.{Bor}
 use Rattle.command_lines.specs.Words.{texts}
-use Rattle.gqlcheck_run.specs.Rules.{AreRules, IsNotRead, IsUnknownRule, names_of}
 use Rattle.gqlcheck_run.proofs.RuleNames.{are_rules, unknown_allowed, unknown_warned}
 use Rattle.gqlcheck_run.proofs.rules.Rules.of.Goals as goal
+use Rattle.gqlcheck_run.specs.Rules.{AreRules, IsNotRead, IsUnknownRule, names_of}
 
 -- ---- a name is no rule's
 

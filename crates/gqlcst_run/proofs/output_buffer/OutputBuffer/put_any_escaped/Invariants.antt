@@ -1,5 +1,5 @@
-use Rattle.gqlcst_run.specs.Buffering.{PutsAny}
 use Rattle.gqlcst_run.proofs.output_buffer.OutputBuffer.put_any_escaped.Given as goal
+use Rattle.gqlcst_run.specs.Buffering.{PutsAny}
 
 abbrev pub invariant-loop-character : goal.invariant-loop-character
 invariant-loop-character g l =

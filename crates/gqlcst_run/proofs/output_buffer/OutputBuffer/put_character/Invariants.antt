@@ -1,5 +1,5 @@
-use Rattle.gqlcst_run.specs.Buffering.{PutsAny}
 use Rattle.gqlcst_run.proofs.output_buffer.OutputBuffer.put_character.Given as goal
+use Rattle.gqlcst_run.specs.Buffering.{PutsAny}
 
 abbrev pub invariant-loop-part : goal.invariant-loop-part
 invariant-loop-part g l =

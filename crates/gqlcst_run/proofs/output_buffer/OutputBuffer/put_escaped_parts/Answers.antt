@@ -1,5 +1,5 @@
-use Rattle.gqlcst_run.proofs.Buffers.{puts_then}
 use Rattle.std.proofs.Common.{◌++◌}
+use Rattle.gqlcst_run.proofs.Buffers.{puts_then}
 use Rattle.gqlcst_run.proofs.Quoting.{escaped-parts}
 use Rattle.gqlcst_run.proofs.output_buffer.OutputBuffer.put_escaped_parts.Goals as goal
 

@@ -1,9 +1,9 @@
 use Rattle.std.proofs.Common.{refl}
 use Rattle.apollo_parser.specs.Errors.{error_of}
-use Rattle.gqlcst_run.specs.Rendering.{IsErrorForm}
-use Rattle.gqlcst_run.proofs.Lines.{lines-next}
 use Rattle.gqlcst_run.proofs.Buffers.{puts_then}
+use Rattle.gqlcst_run.proofs.Lines.{lines-next}
 use Rattle.gqlcst_run.proofs.report.errors.put_lines.Goals as goal
+use Rattle.gqlcst_run.specs.Rendering.{IsErrorForm}
 
 pub loop-error-preserved : goal.loop-error-preserved
 loop-error-preserved g c =

@@ -1,8 +1,8 @@
 use Rattle.std.proofs.Common.{take}
 use Rattle.apollo_parser.specs.Errors.{error_of}
+use Rattle.gqlcst_run.proofs.report.errors.put_lines.Given as goal
 use Rattle.gqlcst_run.specs.Buffering.{PutsSome}
 use Rattle.gqlcst_run.specs.Rendering.{AreLines, IsErrorForm}
-use Rattle.gqlcst_run.proofs.report.errors.put_lines.Given as goal
 
 abbrev pub invariant-loop-error : goal.invariant-loop-error
 invariant-loop-error g l =

@@ -1,10 +1,10 @@
 use Rattle.std.proofs.Common.{◌∙◌, ap, sym, refl, take}
-use Rattle.std.specs.Prelude.{◌&&◌}
-use Rattle.std.specs.List.{list_all}
 use Rattle.std.proofs.lemmas.List.{take_all}
 use Rattle.std.proofs.lemmas.List.Folds.{list_all_more}
-use Rattle.gqlcst_run.specs.Quoted.{is_plain}
+use Rattle.std.specs.List.{list_all}
+use Rattle.std.specs.Prelude.{◌&&◌}
 use Rattle.gqlcst_run.proofs.report.quoted.are_plain.Goals as goal
+use Rattle.gqlcst_run.specs.Quoted.{is_plain}
 
 pub loop-byte-init : goal.loop-byte-init
 loop-byte-init c = refl

@@ -1,6 +1,6 @@
 use Rattle.std.proofs.Common.{◌≡◌, ◌+◌, true, false, ◌++◌, ◌∙◌, codes, length}
-use Rattle.apollo_parser.specs.declared.TokenKind.TheVariants.{Eof}
 use Rattle.apollo_parser.specs.Printed.{range_text}
+use Rattle.apollo_parser.specs.declared.TokenKind.TheVariants.{Eof}
 use Rattle.gqlcst_run.proofs.Buffers.{puts_then}
 use Rattle.gqlcst_run.proofs.Forms.{token-form}
 use Rattle.gqlcst_run.proofs.report.tokens.put_token.Goals as goal

@@ -1,8 +1,8 @@
 use Rattle.std.proofs.Common.{◌∙◌, ap, arith, length, refl}
 use Rattle.apollo_parser.specs.LexerAnswers.{answers_left}
-use Rattle.gqlcst_run.specs.Parsing.{finding_of}
 use Rattle.gqlcst_run.proofs.Items.{none_put, errors-within, item_put, all-printed}
 use Rattle.gqlcst_run.proofs.report.tokens.put_tokens.Goals as goal
+use Rattle.gqlcst_run.specs.Parsing.{finding_of}
 
 pub loop-item-init : goal.loop-item-init
 loop-item-init g c = none_put _ _

@@ -1,7 +1,7 @@
 use Rattle.apollo_parser.specs.LexerAnswers.{answers_left}
-use Rattle.gqlcst_run.specs.Buffering.{PutsSome}
 use Rattle.gqlcst_run.proofs.Items.{ArePrinted}
 use Rattle.gqlcst_run.proofs.report.tokens.put_tokens.Given as goal
+use Rattle.gqlcst_run.specs.Buffering.{PutsSome}
 
 abbrev pub invariant-loop-item : goal.invariant-loop-item
 invariant-loop-item g l =

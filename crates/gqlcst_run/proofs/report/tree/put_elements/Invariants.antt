@@ -1,5 +1,5 @@
-use Rattle.gqlcst_run.specs.Buffering.{PutsAny}
 use Rattle.gqlcst_run.proofs.report.tree.put_elements.Given as goal
+use Rattle.gqlcst_run.specs.Buffering.{PutsAny}
 
 abbrev pub invariant-loop-index : goal.invariant-loop-index
 invariant-loop-index g l =

@@ -1,5 +1,5 @@
-use Rattle.gqlcst_run.specs.Buffering.{PutsAny}
 use Rattle.gqlcst_run.proofs.report.tree.put_error_lines.Given as goal
+use Rattle.gqlcst_run.specs.Buffering.{PutsAny}
 
 abbrev pub invariant-loop-error : goal.invariant-loop-error
 invariant-loop-error g l =

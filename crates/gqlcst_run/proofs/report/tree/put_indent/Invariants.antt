@@ -1,5 +1,5 @@
-use Rattle.gqlcst_run.specs.Buffering.{PutsAny}
 use Rattle.gqlcst_run.proofs.report.tree.put_indent.Given as goal
+use Rattle.gqlcst_run.specs.Buffering.{PutsAny}
 
 abbrev pub invariant-loop-left : goal.invariant-loop-left
 invariant-loop-left g l =

@@ -1,7 +1,7 @@
-use Rattle.named_files.specs.Finding.{as_named}
 use Rattle.named_files.proofs.Turns.{in_turn-next}
-use Rattle.gqlfmt_run.specs.Paths.{FormatsFound}
+use Rattle.named_files.specs.Finding.{as_named}
 use Rattle.gqlfmt_run.proofs.job.Job.format_files.Goals as goal
+use Rattle.gqlfmt_run.specs.Paths.{FormatsFound}
 
 pub loop-named-preserved : goal.loop-named-preserved
 loop-named-preserved g c =

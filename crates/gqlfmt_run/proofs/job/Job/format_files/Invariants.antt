@@ -1,9 +1,9 @@
 use Rattle.std.proofs.Common.{map, take}
 use Rattle.named_files.specs.Finding.{as_named}
 use Rattle.named_files.specs.Handling.{InTurn}
+use Rattle.gqlfmt_run.proofs.job.Job.format_files.Given as goal
 use Rattle.gqlfmt_run.specs.Desks.{desk_of}
 use Rattle.gqlfmt_run.specs.Paths.{FormatsFound}
-use Rattle.gqlfmt_run.proofs.job.Job.format_files.Given as goal
 
 abbrev pub invariant-loop-named : goal.invariant-loop-named
 invariant-loop-named g l =

@@ -1,7 +1,7 @@
 use Rattle.std.proofs.Common.{[]}
 use Rattle.named_files.proofs.Turns.{in_turn-next}
-use Rattle.gqlfmt_run.specs.Folders.{HandlesPath}
 use Rattle.gqlfmt_run.proofs.job.Job.format_paths.Goals as goal
+use Rattle.gqlfmt_run.specs.Folders.{HandlesPath}
 
 pub loop-path-preserved : goal.loop-path-preserved
 loop-path-preserved g c =

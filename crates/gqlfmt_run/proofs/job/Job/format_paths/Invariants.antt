@@ -1,8 +1,8 @@
 use Rattle.std.proofs.Common.{take}
 use Rattle.command_lines.specs.Words.{texts}
+use Rattle.gqlfmt_run.proofs.job.Job.format_paths.Given as goal
 use Rattle.gqlfmt_run.specs.Desks.{desk_of}
 use Rattle.gqlfmt_run.specs.Folders.{HandlesPaths}
-use Rattle.gqlfmt_run.proofs.job.Job.format_paths.Given as goal
 
 abbrev pub invariant-loop-path : goal.invariant-loop-path
 invariant-loop-path g l =

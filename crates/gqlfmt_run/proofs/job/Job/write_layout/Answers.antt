@@ -1,10 +1,10 @@
 use Rattle.std.proofs.Common.{string_bytes, refl}
 use Rattle.std.proofs.lemmas.Result.{err_from_is_err_and}
-use Rattle.byte_streams.specs.declared.fault.Fault.{Fault}
 use Rattle.byte_streams.proofs.Ends.{cut}
-use Rattle.gqlfmt_run.specs.Input.{IsOutput}
+use Rattle.byte_streams.specs.declared.fault.Fault.{Fault}
 use Rattle.gqlfmt_run.proofs.Saying.{silent-again, silent-broken}
 use Rattle.gqlfmt_run.proofs.job.Job.write_layout.Goals as goal
+use Rattle.gqlfmt_run.specs.Input.{IsOutput}
 
 -- what the writer did where it failed or took no byte
 pub returns-in_err-write_all-clause-output : goal.returns-in_err-write_all-clause-output

@@ -1,5 +1,5 @@
-use Rattle.gqlls_program.specs.FolderDialogues.{nothing}
 use Rattle.gqlls_program.proofs.folder.FolderServer.known_document.Goals as goal
+use Rattle.gqlls_program.specs.FolderDialogues.{nothing}
 
 pub returns-in-None : goal.returns-in-None
 returns-in-None g c = nothing

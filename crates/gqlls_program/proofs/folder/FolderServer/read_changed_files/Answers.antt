@@ -1,6 +1,6 @@
-use Rattle.gqlls_program.specs.FolderDialogues.{nothing}
 use Rattle.gqlls_program.proofs.Reading.{reads_on}
 use Rattle.gqlls_program.proofs.folder.FolderServer.read_changed_files.Goals as goal
+use Rattle.gqlls_program.specs.FolderDialogues.{nothing}
 
 pub loop-uri-init : goal.loop-uri-init
 loop-uri-init g c = nothing

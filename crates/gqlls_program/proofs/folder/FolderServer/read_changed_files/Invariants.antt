@@ -1,6 +1,6 @@
+use Rattle.gqlls_program.proofs.folder.FolderServer.read_changed_files.Given as goal
 use Rattle.gqlls_program.specs.FolderDialogues.{Reads}
 use Rattle.gqlls_program.specs.State.{folder_dialogue_of}
-use Rattle.gqlls_program.proofs.folder.FolderServer.read_changed_files.Given as goal
 
 abbrev pub invariant-loop-uri : goal.invariant-loop-uri
 invariant-loop-uri g l =

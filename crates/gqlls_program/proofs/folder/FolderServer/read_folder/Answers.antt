@@ -1,8 +1,8 @@
 use Rattle.std.proofs.Common.{subst}
 use Rattle.named_files.specs.Finding.{Lists}
-use Rattle.gqlls_program.specs.State.{folder_dialogue_of}
 use Rattle.gqlls_program.proofs.Reading.{reads_lists, reads_on, within}
 use Rattle.gqlls_program.proofs.folder.FolderServer.read_folder.Goals as goal
+use Rattle.gqlls_program.specs.State.{folder_dialogue_of}
 
 pub loop-named-init : goal.loop-named-init
 loop-named-init g c =

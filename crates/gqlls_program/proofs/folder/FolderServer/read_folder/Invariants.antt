@@ -1,6 +1,6 @@
+use Rattle.gqlls_program.proofs.folder.FolderServer.read_folder.Given as goal
 use Rattle.gqlls_program.specs.FolderDialogues.{Reads}
 use Rattle.gqlls_program.specs.State.{folder_dialogue_of}
-use Rattle.gqlls_program.proofs.folder.FolderServer.read_folder.Given as goal
 
 abbrev pub invariant-loop-named : goal.invariant-loop-named
 invariant-loop-named g l =

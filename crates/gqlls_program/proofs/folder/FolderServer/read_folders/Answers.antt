@@ -1,6 +1,6 @@
-use Rattle.gqlls_program.specs.FolderDialogues.{nothing}
 use Rattle.gqlls_program.proofs.Reading.{reads_on}
 use Rattle.gqlls_program.proofs.folder.FolderServer.read_folders.Goals as goal
+use Rattle.gqlls_program.specs.FolderDialogues.{nothing}
 
 pub loop-folder-init : goal.loop-folder-init
 loop-folder-init g c = nothing

@@ -1,6 +1,6 @@
+use Rattle.gqlls_program.proofs.folder.FolderServer.read_folders.Given as goal
 use Rattle.gqlls_program.specs.FolderDialogues.{Reads}
 use Rattle.gqlls_program.specs.State.{folder_dialogue_of}
-use Rattle.gqlls_program.proofs.folder.FolderServer.read_folders.Given as goal
 
 abbrev pub invariant-loop-folder : goal.invariant-loop-folder
 invariant-loop-folder g l =

@@ -1,12 +1,12 @@
 use Rattle.std.proofs.Common.{ℕ, List, Ok, Result, ap, sym, ◌∙◌, subst}
 use Rattle.std.specs.declared.io.Error.{Error}
 use Rattle.file_uris.specs.Uris.{uri_of}
+use Rattle.gqlls_server.specs.Diagnostics.{KeepsFile}
 use Rattle.gqlls_server.specs.Dialogue.{Dialogue}
 use Rattle.gqlls_server.specs.State.{dialogue_of}
-use Rattle.gqlls_server.specs.Diagnostics.{KeepsFile}
-use Rattle.gqlls_program.specs.FolderDialogues.{kept, nothing, passed_over}
 use Rattle.gqlls_program.proofs.Reading.{reads_on}
 use Rattle.gqlls_program.proofs.folder.FolderServer.refresh.Goals as goal
+use Rattle.gqlls_program.specs.FolderDialogues.{kept, nothing, passed_over}
 
 pub returns-then-not-is_graphql : goal.returns-then-not-is_graphql
 returns-then-not-is_graphql g c = nothing

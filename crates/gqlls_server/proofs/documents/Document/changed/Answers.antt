@@ -1,11 +1,11 @@
 use Rattle.std.proofs.Common.{map, refl, subst, sym, ◌∙◌}
 use Rattle.line_index.specs.Positions.{units}
+use Rattle.gqlls_server.proofs.Texts.{told_all}
+use Rattle.gqlls_server.proofs.documents.Document.changed.Goals as goal
 use Rattle.gqlls_server.specs.Dialogue.{IsChanged}
 use Rattle.gqlls_server.specs.Files.{OpenFile}
 use Rattle.gqlls_server.specs.Parameters.{client_edit}
 use Rattle.gqlls_server.specs.Parsing.{ParsedFile}
-use Rattle.gqlls_server.proofs.Texts.{told_all}
-use Rattle.gqlls_server.proofs.documents.Document.changed.Goals as goal
 
 pub returns : goal.returns
 returns c =

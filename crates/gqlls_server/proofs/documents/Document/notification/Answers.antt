@@ -1,13 +1,13 @@
 use Rattle.std.proofs.Common.{◌≡◌, List, [], map, subst, sym}
+use denote.Ref.{Bor}
+use Rattle.formatter.specs.Comments.{HasNoDefinitions}
 use Rattle.editor_diagnostics.specs.Remarks.{as_remarked}
 use Rattle.editor_diagnostics.specs.declared.remark.Remark.{Remark}
 use Rattle.editor_validation.specs.Fragments.{as_fragments}
 use Rattle.editor_validation.specs.declared.fragments.FragmentNames.{FragmentNames}
-use denote.Ref.{Bor}
-use Rattle.formatter.specs.Comments.{HasNoDefinitions}
-use Rattle.gqlls_server.specs.Diagnostics.{AreRemarksOf}
 use Rattle.gqlls_server.proofs.Texts.{same_publication}
 use Rattle.gqlls_server.proofs.documents.Document.notification.Goals as goal
+use Rattle.gqlls_server.specs.Diagnostics.{AreRemarksOf}
 
 pub returns-clause-published : goal.returns-clause-published
 returns-clause-published c =

@@ -1,10 +1,10 @@
 use Rattle.std.proofs.Common.{List, [], ◌∷◌, ap, map, subst, sym, ◌++◌, ◌∙◌}
 use Rattle.std.proofs.lemmas.List.Elements.{All-push, All-nil}
+use Rattle.gqlls_server.proofs.Found.{are_known}
+use Rattle.gqlls_server.proofs.documents.Documents.from.Goals as goal
 use Rattle.gqlls_server.specs.Parsing.{IsParsed}
 use Rattle.gqlls_server.specs.Renaming.{AreParsed, KnownFile}
 use Rattle.gqlls_server.specs.State.{entries_that, entry_of, is_other, is_stored, known_of}
-use Rattle.gqlls_server.proofs.Found.{are_known}
-use Rattle.gqlls_server.proofs.documents.Documents.from.Goals as goal
 
 pub returns : goal.returns
 returns c = λ is_open.

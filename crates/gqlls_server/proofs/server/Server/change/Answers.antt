@@ -2,14 +2,14 @@ use Rattle.std.proofs.Common.{List, ap, map, refl, subst, sym, ◌∙◌}
 use Rattle.std.specs.Prelude.{option_map}
 use Rattle.json.specs.Value.{value_view}
 use Rattle.editor_text.specs.declared.Change.{Change}
-use Rattle.gqlls_server.specs.Parameters.{client_edit}
-use Rattle.gqlls_server.specs.Dialogue.{IsChanged}
-use Rattle.gqlls_server.specs.State.{dialogue_of, file_of, names_of}
-use Rattle.gqlls_server.specs.declared.server.Server.{Server}
 use Rattle.gqlls_server.proofs.Maps.{updated}
 use Rattle.gqlls_server.proofs.Messages.{changes, found_in}
 use Rattle.gqlls_server.proofs.Others.{publishes_again}
 use Rattle.gqlls_server.proofs.server.Server.change.Goals as goal
+use Rattle.gqlls_server.specs.Dialogue.{IsChanged}
+use Rattle.gqlls_server.specs.Parameters.{client_edit}
+use Rattle.gqlls_server.specs.State.{dialogue_of, file_of, names_of}
+use Rattle.gqlls_server.specs.declared.server.Server.{Server}
 
 pub returns-clause-changes : goal.returns-clause-changes
 returns-clause-changes c =

@@ -2,11 +2,11 @@ use Rattle.std.proofs.Common.{ap, refl, rules}
 use Rattle.std.specs.Prelude.{option_map}
 use Rattle.json.specs.Value.{value_view}
 use Rattle.rpc_messages.specs.declared.reply.Reply.TheVariants.{Notice}
-use Rattle.gqlls_server.specs.State.{dialogue_of, file_of, names_of}
-use Rattle.gqlls_server.specs.declared.server.Server.{Server}
 use Rattle.gqlls_server.proofs.Maps.{updated}
 use Rattle.gqlls_server.proofs.Messages.{closes, found_in}
 use Rattle.gqlls_server.proofs.server.Server.close.Goals as goal
+use Rattle.gqlls_server.specs.State.{dialogue_of, file_of, names_of}
+use Rattle.gqlls_server.specs.declared.server.Server.{Server}
 
 pub returns-clause-closes : goal.returns-clause-closes
 returns-clause-closes c =

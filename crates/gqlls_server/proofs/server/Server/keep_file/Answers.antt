@@ -1,10 +1,10 @@
 use Rattle.std.proofs.Common.{ℕ, List, Some, refl, subst}
 use Rattle.editor_validation.specs.Fragments.{Fragments}
+use Rattle.gqlls_server.proofs.server.Server.keep_file.Goals as goal
 use Rattle.gqlls_server.specs.Dialogue.{Updates}
 use Rattle.gqlls_server.specs.Files.{IsSource, OpenFile}
 use Rattle.gqlls_server.specs.Parsing.{IsParse}
 use Rattle.gqlls_server.specs.State.{files, names_in}
-use Rattle.gqlls_server.proofs.server.Server.keep_file.Goals as goal
 
 pub returns : goal.returns
 returns c =

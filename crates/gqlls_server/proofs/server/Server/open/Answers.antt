@@ -1,9 +1,9 @@
 use Rattle.std.proofs.Common.{ap, ◌∙◌}
 use Rattle.json.specs.Value.{value_view}
-use Rattle.gqlls_server.specs.Dialogue.{opened}
-use Rattle.gqlls_server.specs.State.{dialogue_of, file_of}
 use Rattle.gqlls_server.proofs.Messages.{found_in, opens}
 use Rattle.gqlls_server.proofs.server.Server.open.Goals as goal
+use Rattle.gqlls_server.specs.Dialogue.{opened}
+use Rattle.gqlls_server.specs.State.{dialogue_of, file_of}
 
 pub returns-clause-opens : goal.returns-clause-opens
 returns-clause-opens c =

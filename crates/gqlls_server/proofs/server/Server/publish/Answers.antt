@@ -1,9 +1,9 @@
 use Rattle.std.proofs.Common.{refl, subst}
-use Rattle.gqlls_server.specs.State.{AreBeside, file_of, is_own, names_in, names_of}
 use Rattle.gqlls_server.proofs.Maps.{updated}
 use Rattle.gqlls_server.proofs.Others.{again}
 use Rattle.gqlls_server.proofs.Own.{beside}
 use Rattle.gqlls_server.proofs.server.Server.publish.Goals as goal
+use Rattle.gqlls_server.specs.State.{AreBeside, file_of, is_own, names_in, names_of}
 
 pub returns-clause-publishes : goal.returns-clause-publishes
 returns-clause-publishes c =

@@ -1,11 +1,11 @@
 use Rattle.std.proofs.Common.{◌++◌, Some, map}
 use Rattle.std.specs.List.{filter_map}
-use Rattle.ignore_rules.specs.Fits.{byte}
-use Rattle.ignore_rules.specs.Ignored.{as_rules}
-use Rattle.ignore_rules.specs.Lines.{as_rule, rule_of}
 use Rattle.ignore_rules.proofs.PartLemmas.{parts_cut, parts_left}
 use Rattle.ignore_rules.proofs.RuleLemmas.{no_rule, rules_more}
 use Rattle.ignore_rules.proofs.rules.Rules.add.Goals as goal
+use Rattle.ignore_rules.specs.Fits.{byte}
+use Rattle.ignore_rules.specs.Ignored.{as_rules}
+use Rattle.ignore_rules.specs.Lines.{as_rule, rule_of}
 
 pub loop-rest-preserved-in_ok-push : goal.loop-rest-preserved-in_ok-push
 loop-rest-preserved-in_ok-push g c =

@@ -1,10 +1,10 @@
 use Rattle.std.proofs.Common.{◌≡◌, ◌++◌, map}
 use Rattle.std.specs.List.{filter_map}
+use Rattle.ignore_rules.proofs.PartLemmas.{parts_left, size_left}
+use Rattle.ignore_rules.proofs.rules.Rules.add.Given as goal
 use Rattle.ignore_rules.specs.Fits.{byte}
 use Rattle.ignore_rules.specs.Ignored.{as_rules}
 use Rattle.ignore_rules.specs.Lines.{as_rule, rule_of}
-use Rattle.ignore_rules.proofs.PartLemmas.{parts_left, size_left}
-use Rattle.ignore_rules.proofs.rules.Rules.add.Given as goal
 
 abbrev pub invariant-loop-rest : goal.invariant-loop-rest
 invariant-loop-rest g l =

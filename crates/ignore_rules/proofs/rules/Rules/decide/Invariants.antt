@@ -1,8 +1,8 @@
 use Rattle.std.proofs.Common.{◌≡◌, drop, false, map}
+use Rattle.ignore_rules.proofs.rules.Rules.decide.Given as goal
 use Rattle.ignore_rules.specs.Ignored.{as_rules, decided}
 use Rattle.ignore_rules.specs.Lines.{as_rule}
 use Rattle.ignore_rules.specs.Tables.{IsClear}
-use Rattle.ignore_rules.proofs.rules.Rules.decide.Given as goal
 
 abbrev pub invariant-loop-rule : goal.invariant-loop-rule
 invariant-loop-rule g l =

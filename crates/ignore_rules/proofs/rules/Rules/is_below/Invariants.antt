@@ -1,7 +1,7 @@
 use Rattle.std.proofs.Common.{◌≡◌, [], drop, take}
+use Rattle.ignore_rules.proofs.rules.Rules.is_below.Given as goal
 use Rattle.ignore_rules.specs.Ignored.{as_rules, is_below}
 use Rattle.ignore_rules.specs.Tables.{IsClear}
-use Rattle.ignore_rules.proofs.rules.Rules.is_below.Given as goal
 
 abbrev pub invariant-loop-index : goal.invariant-loop-index
 invariant-loop-index g l =

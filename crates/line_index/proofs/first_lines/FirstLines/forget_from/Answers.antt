@@ -1,9 +1,9 @@
 use Rattle.std.proofs.Common.{◌∙◌, List, ℕ, ap, subst, sym, ltb, max, rules, take}
 use Rattle.std.proofs.lemmas.List.Sorted.{IsPartitionPoint-from_clause, IsPartitionedBy-ltb}
-use Rattle.line_index.specs.LineStarts.{AreFirstStarts}
-use Rattle.line_index.proofs.LineLemmas.{numbered-ordered}
 use Rattle.line_index.proofs.FirstLineLemmas.{kept}
+use Rattle.line_index.proofs.LineLemmas.{numbered-ordered}
 use Rattle.line_index.proofs.first_lines.FirstLines.forget_from.Goals as goal
+use Rattle.line_index.specs.LineStarts.{AreFirstStarts}
 
 pub returns : goal.returns
 returns c = λ old new s same.

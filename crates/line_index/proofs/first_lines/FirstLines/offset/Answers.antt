@@ -1,7 +1,7 @@
 use Rattle.std.proofs.Common.{◌<◌, length}
-use Rattle.line_index.specs.Lines.{line_at}
 use Rattle.line_index.proofs.TextLemmas.{beyond}
 use Rattle.line_index.proofs.first_lines.FirstLines.offset.Goals as goal
+use Rattle.line_index.specs.Lines.{line_at}
 
 pub returns-then-not-branch-clause-position : goal.returns-then-not-branch-clause-position
 returns-then-not-branch-clause-position c =

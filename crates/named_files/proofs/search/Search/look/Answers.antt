@@ -1,8 +1,8 @@
 use Rattle.std.proofs.Common.{ℕ, List, Some, map, subst, string_bytes}
 use Rattle.file_access.specs.Listing.{no_folder, unlisted, entries, as_entry}
-use Rattle.named_files.specs.Finding.{at_file, at_unreadable, at_no_folder, at_unlisted, none, more, file, unreadable}
 use Rattle.named_files.proofs.SearchLemmas.{advances_by, advances_into}
 use Rattle.named_files.proofs.search.Search.look.Goals as goal
+use Rattle.named_files.specs.Finding.{at_file, at_unreadable, at_no_folder, at_unlisted, none, more, file, unreadable}
 
 pub returns-in-File-clause-ok : goal.returns-in-File-clause-ok
 returns-in-File-clause-ok g c =

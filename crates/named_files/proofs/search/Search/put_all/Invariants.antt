@@ -1,9 +1,9 @@
 use Rattle.std.proofs.Common.{◌≡◌, ◌++◌, map, length}
 use Rattle.std.specs.List.{filter_map}
 use Rattle.file_access.specs.Listing.{as_entry}
+use Rattle.named_files.proofs.search.Search.put_all.Given as goal
 use Rattle.named_files.specs.Finding.{found_path_in}
 use Rattle.named_files.specs.Search.{found_by, waiting_of}
-use Rattle.named_files.proofs.search.Search.put_all.Given as goal
 
 abbrev pub invariant-loop-entry : goal.invariant-loop-entry
 invariant-loop-entry g l = record {

@@ -1,9 +1,9 @@
 use Rattle.std.proofs.Common.{refl}
-use Rattle.parser_rules.specs.State.{flush, opened}
 use Rattle.parser_rules.specs.Nodes.{BooleanValue}
 use Rattle.parser_rules.specs.RuleLanguage.{holds, step}
 use Rattle.parser_rules.specs.Rules.{inside}
 use Rattle.parser_rules.specs.Runs.{child, does, yes, no}
+use Rattle.parser_rules.specs.State.{flush, opened}
 use Rattle.parser_state.proofs.state.ParserState.boolean_value.Goals as goal
 
 pub returns-in_ok-leaf_node : goal.returns-in_ok-leaf_node

@@ -1,13 +1,13 @@
 use Rattle.std.proofs.Common.{◌∙◌, ap, sym, subst, ◌<◌, ◌^◌}
 use Rattle.std.proofs.lemmas.Result.{on_ok_weaker}
-use Rattle.parser_rules.specs.State.{State}
 use Rattle.parser_rules.specs.RuleLanguage.{step}
 use Rattle.parser_rules.specs.Runs.{does}
-use Rattle.parser_state.specs.Lengths.{length_of}
-use Rattle.parser_state.specs.View.{lexeme_of, current_of}
+use Rattle.parser_rules.specs.State.{State}
 use Rattle.parser_state.proofs.Lengths.{room-bumped}
 use Rattle.parser_state.proofs.Reading.{bumped}
 use Rattle.parser_state.proofs.state.ParserState.bump.Goals as goal
+use Rattle.parser_state.specs.Lengths.{length_of}
+use Rattle.parser_state.specs.View.{lexeme_of, current_of}
 
 pub push_token-requires : goal.push_token-requires
 push_token-requires g c =

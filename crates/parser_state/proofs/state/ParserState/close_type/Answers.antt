@@ -1,6 +1,6 @@
 use Rattle.std.proofs.lemmas.Result.{on_ok_weaker}
-use Rattle.parser_rules.proofs.runs.Frame.{open-wrapped}
 use Rattle.parser_rules.proofs.fragments.TypeRoots.{root-checkpoint, still-none, closed-none, from-checkpoint}
+use Rattle.parser_rules.proofs.runs.Frame.{open-wrapped}
 use Rattle.parser_state.proofs.state.ParserState.close_type.Goals as goal
 
 pub wrap-requires : goal.wrap-requires

@@ -1,17 +1,17 @@
 use Rattle.std.proofs.Common.{◌≡◌, ◌+◌, ◌<◌, ◌^◌, ◌∙◌, List, sym, ap, subst, map, length}
 use Rattle.std.specs.List.{AllZip}
 use Rattle.document_grammar.specs.Builds.{Building, finish, built_text}
-use Rattle.apollo_tree.specs.Open.{IsComplete}
-use Rattle.parser_rules.specs.State.{State, Report, add_all, finished}
 use Rattle.parser_rules.specs.Open.{IsRoot}
-use Rattle.parser_state.specs.declared.state.PendingToken.{PendingToken}
-use Rattle.parser_state.specs.Lengths.{pending_length}
-use Rattle.parser_state.specs.Errors.{IsErrorOf, error_of}
-use Rattle.parser_state.specs.View.{pending_of}
-use Rattle.parser_state.proofs.Lengths.{room-all}
+use Rattle.parser_rules.specs.State.{State, Report, add_all, finished}
+use Rattle.apollo_tree.specs.Open.{IsComplete}
 use Rattle.parser_state.proofs.Building.{free-fits, root-flushed, root-is-open, root-closes, begins-with}
 use Rattle.parser_state.proofs.Faults.{all-say}
+use Rattle.parser_state.proofs.Lengths.{room-all}
 use Rattle.parser_state.proofs.state.ParserState.finish.Goals as goal
+use Rattle.parser_state.specs.Errors.{IsErrorOf, error_of}
+use Rattle.parser_state.specs.Lengths.{pending_length}
+use Rattle.parser_state.specs.View.{pending_of}
+use Rattle.parser_state.specs.declared.state.PendingToken.{PendingToken}
 
 pub push_all-requires : goal.push_all-requires
 push_all-requires g c =

@@ -1,6 +1,6 @@
 use Rattle.std.proofs.Common.{sym, subst}
-use Rattle.parser_rules.specs.State.{State}
 use Rattle.parser_rules.specs.Open.{IsOpen}
+use Rattle.parser_rules.specs.State.{State}
 use Rattle.parser_state.proofs.Building.{free-fits}
 use Rattle.parser_state.proofs.Lengths.{after-finish}
 use Rattle.parser_state.proofs.state.ParserState.finish_node.Goals as goal

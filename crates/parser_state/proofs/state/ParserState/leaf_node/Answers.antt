@@ -3,13 +3,13 @@ use Rattle.std.proofs.lemmas.Result.{on_ok_weaker}
 use Rattle.document_grammar.specs.Builds.{start, add_leaf, finish}
 use Rattle.parser_rules.proofs.runs.Forms.{one-leaf}
 use Rattle.parser_rules.specs.State.{State, read_on}
-use Rattle.parser_state.specs.Lengths.{length_of}
-use Rattle.parser_state.specs.Reading.{is_leaf_of}
-use Rattle.parser_state.specs.View.{lexeme_of, current_of}
 use Rattle.parser_state.proofs.Leaves.{fits-text}
 use Rattle.parser_state.proofs.Lengths.{room-bumped}
 use Rattle.parser_state.proofs.Reading.{read-anew}
 use Rattle.parser_state.proofs.state.ParserState.leaf_node.Goals as goal
+use Rattle.parser_state.specs.Lengths.{length_of}
+use Rattle.parser_state.specs.Reading.{is_leaf_of}
+use Rattle.parser_state.specs.View.{lexeme_of, current_of}
 
 pub push_leaf_node-requires-clause-leaf : goal.push_leaf_node-requires-clause-leaf
 push_leaf_node-requires-clause-leaf g c =

@@ -1,11 +1,11 @@
 use Rattle.std.proofs.Common.{rules, subst, arith, ◌<◌, ◌^◌}
 use Rattle.lexical_grammar.specs.Answers.{AreAnswers}
-use Rattle.apollo_lexer.proofs.Law.{answers-are-items}
 use Rattle.parser_rules.specs.State.{State}
-use Rattle.parser_state.specs.Lengths.{length_of}
+use Rattle.apollo_lexer.proofs.Law.{answers-are-items}
 use Rattle.parser_state.proofs.Lengths.{after-taken, taken-length}
 use Rattle.parser_state.proofs.Reading.{taken-text}
 use Rattle.parser_state.proofs.state.ParserState.next_answer.Goals as goal
+use Rattle.parser_state.specs.Lengths.{length_of}
 
 pub invariant_of-self : goal.invariant_of-self
 invariant_of-self g c = (c.self.invariant.0, after-taken _ _ _ _ _ _ c.next_answer.ensures.answers c.self.invariant.1)

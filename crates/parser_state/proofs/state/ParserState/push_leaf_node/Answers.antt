@@ -1,8 +1,8 @@
 use Rattle.std.proofs.Common.{◌+◌, ◌<◌, ◌^◌, length, None, sym, subst}
 use Rattle.parser_rules.specs.State.{State}
-use Rattle.parser_state.specs.Lengths.{text_length}
 use Rattle.parser_state.proofs.Lengths.{room-built, after-leaf_node, after-failed_node}
 use Rattle.parser_state.proofs.state.ParserState.push_leaf_node.Goals as goal
+use Rattle.parser_state.specs.Lengths.{text_length}
 
 pub leaf_node-requires-clause-len : goal.leaf_node-requires-clause-len
 leaf_node-requires-clause-len g c =

@@ -1,10 +1,10 @@
 use Rattle.std.proofs.Common.{◌+◌, ◌<◌, ◌≤◌, ◌^◌, sym, subst, map, length, List}
 use Rattle.document_grammar.specs.Builds.{built_text}
-use Rattle.parser_state.specs.declared.state.PendingToken.{PendingToken}
-use Rattle.parser_state.specs.Lengths.{pending_length}
-use Rattle.parser_state.specs.View.{pending_of}
 use Rattle.parser_state.proofs.Lengths.{room-all, after-all}
 use Rattle.parser_state.proofs.state.ParserState.push_several.Goals as goal
+use Rattle.parser_state.specs.Lengths.{pending_length}
+use Rattle.parser_state.specs.View.{pending_of}
+use Rattle.parser_state.specs.declared.state.PendingToken.{PendingToken}
 
 pub push_all-pushed-requires : goal.push_all-pushed-requires
 push_all-pushed-requires g c =

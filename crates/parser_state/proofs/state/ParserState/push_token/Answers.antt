@@ -1,8 +1,8 @@
 use Rattle.std.proofs.Common.{◌+◌, ◌<◌, ◌^◌, length, None, sym, subst}
 use Rattle.parser_rules.specs.State.{State}
-use Rattle.parser_state.specs.Lengths.{text_length}
 use Rattle.parser_state.proofs.Lengths.{room-built, after-leaf}
 use Rattle.parser_state.proofs.state.ParserState.push_token.Goals as goal
+use Rattle.parser_state.specs.Lengths.{text_length}
 
 pub token-requires : goal.token-requires
 token-requires g c =

@@ -1,10 +1,10 @@
 use Rattle.std.proofs.Common.{◌<◌, ◌^◌, [], map, sym, subst}
 use Rattle.document_grammar.specs.Builds.{Building}
 use Rattle.apollo_lexer.specs.Answers.{answers_left}
-use Rattle.parser_state.specs.Lengths.{text_length}
-use Rattle.parser_state.specs.View.{current_of, pending_of}
 use Rattle.parser_state.proofs.Lengths.{alone-fits, after-leaf, after-drop, room-built}
 use Rattle.parser_state.proofs.state.ParserState.push_waiting.Goals as goal
+use Rattle.parser_state.specs.Lengths.{text_length}
+use Rattle.parser_state.specs.View.{current_of, pending_of}
 
 pub token-requires : goal.token-requires
 token-requires g c =

@@ -1,8 +1,8 @@
 use Rattle.std.proofs.Common.{◌+◌, ◌<◌, ◌^◌, length, sym, subst}
 use Rattle.parser_rules.specs.State.{State}
-use Rattle.parser_state.specs.Lengths.{length_of}
 use Rattle.parser_state.proofs.Lengths.{after-wait}
 use Rattle.parser_state.proofs.state.ParserState.wait.Goals as goal
+use Rattle.parser_state.specs.Lengths.{length_of}
 
 pub invariant_of-self-2 : goal.invariant_of-self-2
 invariant_of-self-2 g c =

@@ -1,7 +1,7 @@
 use Rattle.std.proofs.Common.{sym, ◌∙◌, ap, arith}
+use Rattle.parser_rules.specs.State.{ignored}
 use Rattle.parser_state.proofs.Lookahead.{looked-found, looked-ignored, looked-end, bad-counted}
 use Rattle.parser_state.proofs.Reading.{second-found, second-ignored, second-bad, second-end, one-less}
-use Rattle.parser_rules.specs.State.{ignored}
 use Rattle.parser_state.proofs.state.reader.next_significant.Goals as goal
 
 pub loop-answer-smaller-else-is_none : goal.loop-answer-smaller-else-is_none

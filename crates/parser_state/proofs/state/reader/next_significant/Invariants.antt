@@ -1,8 +1,8 @@
 use Rattle.std.proofs.Common.{◌≡◌, ◌+◌, length}
-use Rattle.apollo_lexer.specs.Answers.{answers_left}
 use Rattle.parser_rules.specs.State.{second}
-use Rattle.parser_state.specs.Lookahead.{looked}
+use Rattle.apollo_lexer.specs.Answers.{answers_left}
 use Rattle.parser_state.proofs.state.reader.next_significant.Given as goal
+use Rattle.parser_state.specs.Lookahead.{looked}
 
 abbrev pub invariant-loop-answer : goal.invariant-loop-answer
 invariant-loop-answer l =

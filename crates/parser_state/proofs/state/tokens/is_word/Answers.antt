@@ -1,9 +1,9 @@
 use Rattle.std.proofs.Common.{sym, ap, ◌∙◌}
 use Rattle.lexical_grammar.specs.declared.TokenKind.TheVariants as token
 use Rattle.parser_rules.specs.State.{same_kind, is_word}
-use Rattle.parser_state.specs.View.{lexeme_of, current_of}
 use Rattle.parser_state.proofs.Keywords.{name-is-word, no_word}
 use Rattle.parser_state.proofs.state.tokens.is_word.Goals as goal
+use Rattle.parser_state.specs.View.{lexeme_of, current_of}
 
 pub returns-in_default : goal.returns-in_default
 returns-in_default c = sym (no_word c.args.keyword (current_of c.args.token) c.requires c.in_default.ensures)

@@ -1,8 +1,8 @@
 use Rattle.std.proofs.Common.{◌≡◌, ◌∙◌, Some, [], rules, sym}
 use Rattle.std.proofs.lemmas.Result.{IfOk-weaker}
-use Rattle.rpc_messages.specs.Nesting.{expected_in}
 use Rattle.rpc_messages.proofs.Answered.{refused_is, whole_answers, whole_is}
 use Rattle.rpc_messages.proofs.message.LongAnswer.finish.Goals as goal
+use Rattle.rpc_messages.specs.Nesting.{expected_in}
 
 pub returns-then-is_whole-clause-member : goal.returns-then-is_whole-clause-member
 returns-then-is_whole-clause-member c =

@@ -1,8 +1,8 @@
 use Rattle.std.proofs.Common.{ℕ, Option, subst, ◌∙◌}
 use Rattle.std.specs.Prelude.{IfNone}
-use Rattle.rpc_serving.specs.Frames.{HasNoFrame, NeverHasFrame}
 use Rattle.rpc_serving.proofs.FrameLemmas.{if-err}
 use Rattle.rpc_serving.proofs.frames.FrameBuffer.next_body.Goals as goal
+use Rattle.rpc_serving.specs.Frames.{HasNoFrame, NeverHasFrame}
 
 pub returns-in_err-range-clause-never : goal.returns-in_err-range-clause-never
 returns-in_err-range-clause-never c =

@@ -1,7 +1,7 @@
 use Rattle.std.proofs.Common.{◌≡◌, List, drop, subst, ◌∙◌, ℕ}
-use Rattle.rpc_serving.specs.Frames.{AreGarbage}
 use Rattle.rpc_serving.proofs.NameLemmas.{rest, skipped}
 use Rattle.rpc_serving.proofs.frames.FrameBuffer.skip.Goals as goal
+use Rattle.rpc_serving.specs.Frames.{AreGarbage}
 
 pub returns : goal.returns
 returns c =

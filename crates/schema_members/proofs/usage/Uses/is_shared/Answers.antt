@@ -1,11 +1,11 @@
 use Rattle.std.proofs.Common.{◌∙◌, ap, List, ℕ, Bool, false, Option}
-use Rattle.std.specs.Prelude.{option_map, unwrap_or}
 use Rattle.std.specs.List.{list_any}
+use Rattle.std.specs.Prelude.{option_map, unwrap_or}
 use Rattle.apollo_tree.specs.Order.{Place}
 use Rattle.apollo_tree.specs.References.{node_place}
-use Rattle.schema_members.specs.Members.{has_interface_named, name_at}
 use Rattle.schema_members.proofs.Found.{made, made_without}
 use Rattle.schema_members.proofs.usage.Uses.is_shared.Goals as goal
+use Rattle.schema_members.specs.Members.{has_interface_named, name_at}
 
 pub returns-in-Some : goal.returns-in-Some
 returns-in-Some c =

@@ -1,8 +1,8 @@
 use Rattle.std.proofs.Common.{sym, ◌∙◌, inl, inr}
 use Rattle.std.proofs.lemmas.Result.{err_from_is_err_and}
-use Rattle.unignored_files.specs.Unignored.{nowhere, refused_above, stopped_above, unlisted_path, unlocated_path}
 use Rattle.unignored_files.proofs.UnignoredLemmas.{decides}
 use Rattle.unignored_files.proofs.unignored.UnignoredFiles.leaves_out.Goals as goal
+use Rattle.unignored_files.specs.Unignored.{nowhere, refused_above, stopped_above, unlisted_path, unlocated_path}
 
 pub returns-in-NotFound : goal.returns-in-NotFound
 returns-in-NotFound g c =

@@ -6,10 +6,10 @@ use Rattle.std.proofs.lemmas.Result.{err_from_is_err_and}
 use Rattle.file_access.specs.Listing.{AreInOrder, Entry, as_entry, entries}
 use Rattle.file_access.specs.declared.listing.Entry as declared
 use Rattle.ignore_rules.specs.Ignored.{as_rules}
-use Rattle.unignored_files.specs.Unignored.{Sifts, is_kept, no_folder_listed, refused, sifted, stopped, unlisted_folder}
-use Rattle.unignored_files.specs.Unignored.{unlocated}
 use Rattle.unignored_files.proofs.UnignoredLemmas.{map-filter}
 use Rattle.unignored_files.proofs.unignored.UnignoredFiles.list.Goals as goal
+use Rattle.unignored_files.specs.Unignored.{Sifts, is_kept, no_folder_listed, refused, sifted, stopped, unlisted_folder}
+use Rattle.unignored_files.specs.Unignored.{unlocated}
 
 pub returns-in_err-entries-clause-lists : goal.returns-in_err-entries-clause-lists
 returns-in_err-entries-clause-lists g c =

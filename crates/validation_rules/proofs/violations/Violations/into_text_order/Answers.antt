@@ -1,9 +1,9 @@
 use Rattle.std.proofs.Common.{rules}
 use Rattle.std.proofs.lemmas.List.Sorted.{IsPermutation-map, answers_always}
-use Rattle.validation_rules.specs.TextOrder.{text_key}
-use Rattle.validation_rules.specs.Violations.{as_breach}
 use Rattle.validation_rules.proofs.TextOrderLemmas.{sorted_breaches, stable_breaches}
 use Rattle.validation_rules.proofs.violations.Violations.into_text_order.Goals as goal
+use Rattle.validation_rules.specs.TextOrder.{text_key}
+use Rattle.validation_rules.specs.Violations.{as_breach}
 
 pub returns : goal.returns
 returns c =

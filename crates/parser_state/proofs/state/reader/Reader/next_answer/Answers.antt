@@ -1,9 +1,9 @@
 use Rattle.std.proofs.Common.{◌≡◌, ◌+◌, ◌*◌, ℕ, min, Some, None, refl, sym, ap, ap₂, ◌∙◌, arith}
 use Rattle.parser_rules.specs.State.{ignored}
-use Rattle.parser_state.specs.Lookahead.{all_given}
-use Rattle.parser_state.proofs.Reading.{second-ignored, second-bad}
 use Rattle.parser_state.proofs.Lookahead.{after-token, after-ignored, after-bad, still-shown}
+use Rattle.parser_state.proofs.Reading.{second-ignored, second-bad}
 use Rattle.parser_state.proofs.state.reader.Reader.next_answer.Goals as goal
+use Rattle.parser_state.specs.Lookahead.{all_given}
 
 pub invariant_of-self-in-None : goal.invariant_of-self-in-None
 invariant_of-self-in-None c =
