@@ -15,6 +15,7 @@ FEATURES = ["--enable-bulk-memory", "--enable-sign-ext"]
 # The first version of node that the tests and the packages are for.
 OLDEST_NODE = 18
 
+
 def unpacked(folder):
     """The sources of the page's crates in a folder, under the names that rattle wants. In the repository each file has
     `.in` after its name: `rt ci` refuses sources of crates that crates.txt does not list, and those that crates.txt
@@ -81,7 +82,9 @@ def test_module():
     ]
     test = ["node", WEB / "tests/parser_test.mjs", SITE / "dumyroke.wasm"]
     printed = run(*test, input=json.dumps(given).encode(), stdout=subprocess.PIPE, timeout=300).stdout.splitlines()
-    for (text, limits), line in zip(cases, printed, strict=True):
+    if len(printed) != len(cases):
+        stop(f"the module printed {len(printed)} trees of {len(cases)} texts")
+    for (text, limits), line in zip(cases, printed):
         if json.loads(line).encode() != gqlcst(text, "tree", limits).stdout:
             stop(f"the module and gqlcst differ with the limits {limits} for the text\n{text.decode()}")
     print(f"the module and gqlcst print the same {len(cases)} trees")

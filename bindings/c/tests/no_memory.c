@@ -32,7 +32,8 @@ static int all_give(uint32_t status)
     dumyroke_counts counts = {1, 1, 1, 1, 1, 1, 1};
     dumyroke_violation_counts violations = {1, 1, 1, 1, 1};
     dumyroke_measure_counts measured = {1, 1, 1, 1, 1, 1};
-    dumyroke_tree tree;
+    /* freed also where an earlier call gave another status, and so it was not parsed */
+    dumyroke_tree tree = {0};
     size_t bytes = 1;
     int is_right = dumyroke_parse(source, LENGTH, dumyroke_default_limits(), NULL, 0, NULL, 0, NULL, 0, &counts) == status
         && (counts.elements == 0) == (status != DUMYROKE_OK) && counts.message_bytes == 0
