@@ -28,6 +28,8 @@ Before a merge, and after it:
   fresh              the gate in a bare Debian that has the kit, Python, gcc and git alone, with a
                      network and without one: before a commit that touches tools/, tests/, release/,
                      do or .ci/
+  programs           makes the programs as static files for any Linux after rt ci, and tests them.
+                     The gate leaves this out, since each program is proved twice more
   bindings [..]      makes the libraries for C, Rust and Python after rt ci, and tests them; a word
                      says a part: build, test, pages, install, flags
   release [trial]    makes build/release/, or tries it in a bare Debian: programs, libraries, the
@@ -143,6 +145,7 @@ case $command in
     check) enter "$@"; shift; exec rt check "$@" ;;
     try) enter "$@"; shift; exec rt try "$@" ;;
     test) tests ;;
+    programs) exec release/programs/run "$@" ;;
     bindings) exec release/bindings/run "$@" ;;
     release) exec release/packages/run "$@" ;;
     fresh) exec tools/fresh ;;

@@ -1,4 +1,5 @@
-/* Loaded before the C library (LD_PRELOAD), it counts the calls of one sort, and lets one of them fail.
+/* Loaded before the C library (LD_PRELOAD), it counts the calls of one sort, and lets one of them fail. With LINKED it is for a static program: the
+ * linker takes its functions for those of the C library (--wrap).
  *
  * FAULT is SORT NUMBER: `memory` for requests of memory, `read`, `write` or `file` (all other calls on files), or `pieces`, with which each read gives at
  * most one byte and each write takes at most three. With `on` after the number all later calls of the sort fail too. The file that FAULT_COUNT names holds
@@ -13,12 +14,23 @@
 #include <string.h>
 #include <sys/file.h>
 #include <sys/mman.h>
-#include <sys/stat.h>
 #include <sys/syscall.h>
 #include <sys/uio.h>
 #include <unistd.h>
 
-extern void *__libc_malloc(size_t), *__libc_realloc(void *, size_t);
+#ifdef LINKED
+#define FAULTY(name) __wrap_##name
+#define OF_LIBC(name) __real_##name
+#define FIND(type, name, parameters) \
+    type __real_##name parameters;   \
+    type(*next) parameters = __real_##name
+#else
+#define FAULTY(name) name
+#define OF_LIBC(name) __libc_##name
+#define FIND(type, name, parameters) type(*next) parameters = dlsym(RTLD_NEXT, #name)
+#endif
+extern void *OF_LIBC(malloc)(size_t), *OF_LIBC(realloc)(void *, size_t);
+struct statx;
 
 static char sort[16], onward[4];
 static long wanted, *count;
@@ -47,12 +59,12 @@ static size_t at_most(size_t size, size_t most)
     return strcmp(sort, "pieces") == 0 && size > most ? most : size;
 }
 
-void *malloc(size_t size) { return fails("memory", ENOMEM) ? NULL : __libc_malloc(size); }
-void *realloc(void *block, size_t size) { return fails("memory", ENOMEM) ? NULL : __libc_realloc(block, size); }
-ssize_t read(int file, void *to, size_t size) { return fails("read", EIO) ? -1 : syscall(SYS_read, file, to, at_most(size, 1)); }
-ssize_t write(int file, const void *from, size_t size) { return fails("write", EIO) ? -1 : syscall(SYS_write, file, from, at_most(size, 3)); }
+void *FAULTY(malloc)(size_t size) { return fails("memory", ENOMEM) ? NULL : OF_LIBC(malloc)(size); }
+void *FAULTY(realloc)(void *block, size_t size) { return fails("memory", ENOMEM) ? NULL : OF_LIBC(realloc)(block, size); }
+ssize_t FAULTY(read)(int file, void *to, size_t size) { return fails("read", EIO) ? -1 : syscall(SYS_read, file, to, at_most(size, 1)); }
+ssize_t FAULTY(write)(int file, const void *from, size_t size) { return fails("write", EIO) ? -1 : syscall(SYS_write, file, from, at_most(size, 3)); }
 
-ssize_t writev(int file, const struct iovec *parts, int number)
+ssize_t FAULTY(writev)(int file, const struct iovec *parts, int number)
 {
     struct iovec first = {parts[0].iov_base, at_most(parts[0].iov_len, 3)};
     if (fails("write", EIO))
@@ -61,9 +73,9 @@ ssize_t writev(int file, const struct iovec *parts, int number)
 }
 
 #define FILE_CALL(name, parameters, ...)                       \
-    int name parameters                                        \
+    int FAULTY(name) parameters                                \
     {                                                          \
-        int(*next) parameters = dlsym(RTLD_NEXT, #name);       \
+        FIND(int, name, parameters);                           \
         return fails("file", EIO) ? -1 : next(__VA_ARGS__);    \
     }
 FILE_CALL(fsync, (int file), file)
@@ -76,9 +88,9 @@ FILE_CALL(rename, (const char *from, const char *to), from, to)
 FILE_CALL(ftruncate, (int file, off_t size), file, size)
 FILE_CALL(statx, (int folder, const char *path, int flags, unsigned mask, struct statx *found), folder, path, flags, mask, found)
 
-off_t lseek(int file, off_t to, int from) { return fails("file", EIO) ? -1 : syscall(SYS_lseek, file, to, from); }
+off_t FAULTY(lseek)(int file, off_t to, int from) { return fails("file", EIO) ? -1 : syscall(SYS_lseek, file, to, from); }
 
-int open(const char *path, int flags, ...)
+int FAULTY(open)(const char *path, int flags, ...)
 {
     va_list rest;
     mode_t mode;
@@ -88,8 +100,8 @@ int open(const char *path, int flags, ...)
     return fails("file", EIO) ? -1 : (int)syscall(SYS_openat, AT_FDCWD, path, flags, mode);
 }
 
-char *realpath(const char *path, char *to)
+char *FAULTY(realpath)(const char *path, char *to)
 {
-    char *(*next)(const char *, char *) = dlsym(RTLD_NEXT, "realpath");
+    FIND(char *, realpath, (const char *, char *));
     return fails("file", EIO) ? NULL : next(path, to);
 }
