@@ -1,5 +1,5 @@
-/* The heap of the library for arm64, for which the kit has none: the three functions that the library calls, over those of C. They have to keep the contracts
- * that the kit declares in rattle/libc/src/heap.rt, and nothing proves it. A size may be 0, and an alignment divides 16. */
+/* The heap of the library for arm64, Windows and macOS, for which the kit has none, and of the static programs: the three functions that they call, over those
+ * of C. They have to keep the contracts that the kit declares in rattle/libc/src/heap.rt, and nothing proves it. A size may be 0, and an alignment divides 16. */
 #include <stddef.h>
 #include <stdint.h>
 #include <stdlib.h>

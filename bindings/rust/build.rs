@@ -1,16 +1,20 @@
 //! Links the library, and says where it is: the folder in `DUMYROKE_LIB_DIR`; else `lib/TARGET` of this crate, where a package has it; else, on a platform
 //! that the library is made for, `build` of the repository that this crate lies in; or, on x86-64 with glibc, where pkg-config says. With `DUMYROKE_LINK=dylib` it is
-//! the shared library.
+//! the shared library, but on Windows.
 use std::path::PathBuf;
 use std::process::Command;
 use std::{env, fs};
 
 /// The platforms that the library is made for, and where the repository has it: one file with glibc and with musl.
-const PLATFORMS: [(&str, &str); 4] = [
+const PLATFORMS: [(&str, &str); 8] = [
     (GLIBC, "build"),
     ("x86_64-unknown-linux-musl", "build"),
     ("aarch64-unknown-linux-gnu", "build/arm64"),
     ("aarch64-unknown-linux-musl", "build/arm64"),
+    ("x86_64-pc-windows-msvc", "build/systems/x86_64-pc-windows-msvc"),
+    ("x86_64-pc-windows-gnu", "build/systems/x86_64-pc-windows-msvc"),
+    ("aarch64-apple-darwin", "build/systems/aarch64-apple-darwin"),
+    ("x86_64-apple-darwin", "build/systems/x86_64-apple-darwin"),
 ];
 /// The platform of what pkg-config finds.
 const GLIBC: &str = "x86_64-unknown-linux-gnu";
@@ -22,6 +26,16 @@ fn pkg_config() -> Option<PathBuf> {
     found.status.success().then(|| folder.trim().into())
 }
 
+/// How a target links the library, and the file's name there.
+fn file_for(target: &str, is_shared: bool) -> (&'static str, &'static str) {
+    match (is_shared, target) {
+        (_, "x86_64-pc-windows-msvc") => ("static", "dumyroke.lib"),
+        (true, _) if target.ends_with("-apple-darwin") => ("dylib", "libdumyroke.dylib"),
+        (true, _) if !target.contains("-windows-") => ("dylib", "libdumyroke.so"),
+        _ => ("static", "libdumyroke.a"),
+    }
+}
+
 fn main() {
     for name in ["DUMYROKE_LIB_DIR", "DUMYROKE_LINK", "PKG_CONFIG", "PKG_CONFIG_PATH"] {
         println!("cargo:rerun-if-env-changed={name}");
@@ -29,12 +43,9 @@ fn main() {
     if env::var_os("DOCS_RS").is_some() {
         return; // documentation needs no library
     }
-    let (kind, file) = match env::var("DUMYROKE_LINK").as_deref() {
-        Ok("dylib") => ("dylib", "libdumyroke.so"),
-        _ => ("static", "libdumyroke.a"),
-    };
     let crate_folder = PathBuf::from(env::var_os("CARGO_MANIFEST_DIR").unwrap());
     let target = env::var("TARGET").unwrap();
+    let (kind, file) = file_for(&target, env::var("DUMYROKE_LINK").is_ok_and(|link| link == "dylib"));
     let packed = Some(crate_folder.join("lib").join(&target));
     let built = PLATFORMS.iter().find(|platform| platform.0 == target).map(|platform| crate_folder.join("../..").join(platform.1));
     let is_made_for_it = built.is_some();

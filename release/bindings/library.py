@@ -6,7 +6,9 @@ import tempfile
 from dataclasses import dataclass
 from pathlib import Path
 
-from .shared import BUILD, C, INCLUDE, PACKAGE, TOP, WARNINGS, kit, need, rattle, run, static_library, stop, version
+from .shared import (
+    BUILD, C, INCLUDE, PACKAGE, TOP, WARNINGS, kit, need, rattle, run, static_library, stop, toolchain, version,
+)
 
 CALLS = [
     "dumyroke_default_steps", "dumyroke_format", "dumyroke_lex", "dumyroke_measure", "dumyroke_parse",
@@ -36,13 +38,26 @@ class Platform:
 HERE = Platform("x86_64", BUILD)
 ARM64 = Platform("aarch64", BUILD / "arm64", "aarch64-linux-gnu-")
 TOOLS = ["gcc", "ar", "ld", "objcopy"]
+# In a platform's folder, the module that rattle has its compiler make code of. Beside it are the compiler's words.
+KEPT = "module"
+# Stands in for the compiler, and keeps both of its last call.
+KEEPING = """#!/bin/sh
+for word in "$@"; do
+    [ ! -f "$word" ] || cp "$word" {kept}
+done
+echo "$@" > {kept}.words
+exec {clang} "$@"
+"""
 
 
 def make_archive(archive, platform):
-    """Has rattle prove c_exports once more, over the libraries that `rt ci` proved, and make the static library.
-    `rt ci` itself makes none, and `rt lib` would prove all libraries again, since it takes nothing from `rt ci`."""
+    """Has rattle prove c_exports once more, over the libraries that `rt ci` proved, and make the static library, beside
+    which its module is kept. `rt ci` itself makes none, and `rt lib` would prove all libraries again, since it takes
+    nothing from `rt ci`."""
     target = () if platform == HERE else ("--target", platform.target)
-    return rattle("c_exports", TOP / "crates/c_exports", archive, *static_library(), *target)
+    keeping = KEEPING.format(kept=archive.with_name(KEPT), clang=kit() / "toolchain/bin/clang")
+    words = static_library(toolchain(archive.with_name("toolchain"), keeping))
+    return rattle("c_exports", TOP / "crates/c_exports", archive, *words, *target)
 
 
 def make_heap(heap, platform):
@@ -121,6 +136,8 @@ def make_libraries(platform, given=None):
         platform.folder.mkdir()
         archive = platform.folder / "libdumyroke.a"
         shutil.copyfile(made, archive)
+        for kept in folder.glob(f"{KEPT}*"):
+            shutil.copy(kept, platform.folder)
         make_heap(heap, platform)
         join(platform, archive, heap)
     shared = platform.folder / f"libdumyroke.so.{version()}"

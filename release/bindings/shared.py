@@ -101,8 +101,9 @@ def rattle(name, source, output, *words, made=None):
     """Has rattle prove a crate, whose folder is `source`, over the libraries that are proved, and write what it
     builds."""
     folder, crates = kit(), {**uses(), **uses(PAGES)}
+    root = next(root for root in ("src/main.rt", "src/lib.rt") if (source / root).exists())
     command = [
-        folder / "bin/rattle", "build", "--crate-name", name, "src/lib.rt", *library_words(name, crates, made), *words,
+        folder / "bin/rattle", "build", "--crate-name", name, root, *library_words(name, crates, made), *words,
     ]
     command += [
         "--antt-project", folder / "rattle/logic/antt-project.json", "--logic-built", folder / "logic_built", "--jobs",
@@ -112,9 +113,22 @@ def rattle(name, source, output, *words, made=None):
     return output
 
 
-def static_library():
-    """The words for a static library."""
-    return "--crate-type", "staticlib", "--toolchain", kit() / "toolchain"
+def static_library(tools=None):
+    """The words for a static library, by the kit's toolchain or another one."""
+    return "--crate-type", "staticlib", "--toolchain", tools or kit() / "toolchain"
+
+
+def toolchain(folder, script):
+    """The kit's toolchain in a folder, with a script in the place of its compiler."""
+    (folder / "bin").mkdir(parents=True)
+    (folder / "lib").symlink_to(kit() / "toolchain/lib")
+    for tool in (kit() / "toolchain/bin").iterdir():
+        if tool.name != "clang":
+            (folder / "bin" / tool.name).symlink_to(tool)
+    compiler = folder / "bin/clang"
+    compiler.write_text(script)
+    compiler.chmod(0o755)
+    return folder
 
 
 def texts():

@@ -19,6 +19,7 @@ from .shared import (
     BUILD, C, INCLUDE, LIMITS, PACKAGE, PYTHON, RUST, UNPROVED, WARNINGS, gqlcst, need, run, stop, texts, version,
     words_of,
 )
+from .systems import SYSTEMS
 
 # The fewest bytes that glibc takes for a thread's stack on arm64.
 SMALLEST_ON_ARM64 = 131_072
@@ -27,6 +28,7 @@ RUST_LIBRARIES = {
     f"{platform.processor}-unknown-linux-{system}": platform.folder
     for platform, system in itertools.product((HERE, ARM64), ("gnu", "musl"))
 }
+RUST_LIBRARIES |= {target: system.folder for system in SYSTEMS for target in system.static}
 # All that the library calls.
 NEEDED = ["free", "malloc", "memcpy", "memmove", "memset", "realloc"]
 
@@ -189,7 +191,7 @@ def test_rust_platforms(_folder):
         return
     there = {name: value for name, value in os.environ.items() if name != "DUMYROKE_LIB_DIR"}
     made = ", ".join(RUST_LIBRARIES)
-    for target in ("aarch64-apple-darwin", "x86_64-pc-windows-msvc", "wasm32-unknown-unknown"):
+    for target in ("aarch64-pc-windows-msvc", "riscv64gc-unknown-linux-gnu", "wasm32-unknown-unknown"):
         built = subprocess.run(
             ["cargo", "check", "--offline", "--target", target], cwd=RUST, env=there, capture_output=True, text=True
         )
@@ -213,7 +215,8 @@ def test_rust_libraries(folder):
     for target, built in RUST_LIBRARIES.items():
         packed = folder / "crate/lib" / target
         packed.mkdir(parents=True)
-        (packed / "libdumyroke.a").touch()
+        for file in ("libdumyroke.a", "dumyroke.lib"):
+            (packed / file).touch()
         places = {folder / "crate": packed, RUST: built}
         wanted = {crate: str(place) for crate, place in places.items() if place.exists()}
         found = {crate: linked(program, target, crate) for crate in wanted}
@@ -399,13 +402,13 @@ PYTHON_PARTS = (test_python, test_mypy, test_python_readme, test_query_log, test
 COMPARING = (test_trees, test_rust_trees)
 
 
-def test(is_quick=False):
-    """All tests, up to the first that fails; or those that need no program of `rt ci`."""
+def test(is_quick, more):
+    """All tests, and more, up to the first that fails; or those that need no program of `rt ci`."""
     need("gcc", "nm", "readelf")
     if not (BUILD / "libdumyroke.so").exists():
         stop("there is nothing to test: `./do bindings build` comes first")
     test_symbols()
-    for part in (*C_PARTS, *RUST_PARTS, *PYTHON_PARTS):
+    for part in (*C_PARTS, *more, *RUST_PARTS, *PYTHON_PARTS):
         if not (is_quick and part in COMPARING):
             with tempfile.TemporaryDirectory() as folder:
                 part(Path(folder))

@@ -24,7 +24,7 @@ LEFT_OUT = "a_guess_takes_nothing_that_a_parse_needs"
 
 def unpack(root):
     """Unpacks both packages in the folder, and answers where they are."""
-    with zipfile.ZipFile(package("aarch64.whl")) as wheel:
+    with zipfile.ZipFile(package("linux_*_aarch64.whl")) as wheel:
         wheel.extractall(root / "wheel")
     with tarfile.open(package(".crate")) as crate:
         crate.extractall(root)

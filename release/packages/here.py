@@ -103,7 +103,7 @@ def test_completions(_folder):
 
 def contents(file):
     """The files of a package, by the last part of their names."""
-    if file.suffix in (".whl", ".vsix"):
+    if file.suffix in (".whl", ".vsix", ".zip"):
         with zipfile.ZipFile(file) as archive:
             return {Path(name).name: archive.read(name) for name in archive.namelist()}
     with tarfile.open(file) as archive:
@@ -161,7 +161,7 @@ def test_wheel(wheel):
         print("there is no pip that reads the names of wheels: the tags of the wheel were not tried")
         return
     tags = re.findall(r"^Tag: (.*)$", contents(wheel)["WHEEL"].decode(), re.MULTILINE)
-    if sorted(read.stdout.split()) != sorted(tags) or "musllinux" not in read.stdout:
+    if sorted(read.stdout.split()) != sorted(tags) or ("linux" in wheel.name) != ("musllinux" in read.stdout):
         stop(f"the name {wheel.name} has the tags {read.stdout.strip()}, and the wheel {' '.join(tags)}")
 
 

@@ -19,10 +19,15 @@ DOCUMENTS = [
 ]
 
 
+def described(programs):
+    """Programs, by their names, with manual pages, completions and documents, as they lie below /usr/local or /usr."""
+    files = manuals(PROGRAMS) | {f"bin/{name}": read(path, True) for name, path in programs.items()}
+    return files | {f"share/doc/dumyroke/{Path(name).name}": read(TOP / name) for name in DOCUMENTS}
+
+
 def installed():
-    """Programs, manual pages, completions, libraries, headers, dumyroke.pc and documents, as they lie below /usr/local
-    or /usr."""
-    files = manuals(PROGRAMS) | {f"bin/{name}": read(TOP / f"crates/{name}/out/{name}", True) for name in PROGRAMS}
+    """What is described, with libraries, headers and dumyroke.pc."""
+    files = described({name: TOP / f"crates/{name}/out/{name}" for name in PROGRAMS})
     with tempfile.TemporaryDirectory() as name:
         install([f"DESTDIR={name}", "PREFIX=/usr"])
         for path in sorted(Path(name, "usr").rglob("*")):
@@ -31,7 +36,6 @@ def installed():
                 files[inside] = File(link=str(path.readlink()))
             elif path.is_file():
                 files[inside] = read(path)
-    files |= {f"share/doc/dumyroke/{Path(name).name}": read(TOP / name) for name in DOCUMENTS}
     return files
 
 

@@ -32,7 +32,7 @@ def unpack(root, file, *words):
 
 def programs(root):
     """The program of all answers over the library of each package, by the package's name."""
-    unpack(root, package("x86_64.whl"), "unzip", "-q")
+    unpack(root, package("linux_*_x86_64.whl"), "unzip", "-q")
     unpack(root, package(".crate"), "tar", "-xzf")
     [shared] = root.glob("dumyroke/libdumyroke.so")
     [static] = root.glob("dumyroke-*/lib/x86_64-unknown-linux-musl/libdumyroke.a")

@@ -10,21 +10,36 @@ import tempfile
 from pathlib import Path
 
 from bindings.library import ARM64, HERE, pc_text
-from bindings.shared import BUILD, C, PACKAGE, PYTHON, RUST, SITE, TOP, UNPROVED, need, run, stop, version
+from bindings.shared import BUILD, C, INCLUDE, PACKAGE, PYTHON, RUST, SITE, TOP, UNPROVED, need, run, stop, version
+from bindings.systems import SYSTEMS, WINDOWS, systems
+from programs.static import NOTICE, static_folder
 
 from .about import LICENCES, about, licences
-from .archives import File, packed, read, tar, under
+from .archives import File, packed, read, tar, under, zipped
 from .deb import deb
-from .installed import glibc, installed
+from .installed import PROGRAMS, described, glibc, installed
 from .npm import npm
 from .vsix import vsix
 
 
 def archive():
-    """For any Linux of this processor: to be unpacked below any folder."""
+    """For a Linux of this processor with glibc: to be unpacked below any folder."""
     name = f"dumyroke-{version()}-linux-x86_64"
     found_by = pc_text("${pcfiledir}/../..", "${prefix}/include", "${prefix}/lib")
     files = installed() | {"lib/pkgconfig/dumyroke.pc": File(found_by.encode())}
+    return f"{name}.tar.gz", packed(tar(under(name, files)))
+
+
+def static_for():
+    """The platforms that have static programs."""
+    return [platform for platform in (HERE, ARM64) if static_folder(platform).exists()]
+
+
+def static(platform):
+    """The programs for any Linux of a processor, with the notice that comes with musl."""
+    name = f"dumyroke-{version()}-linux-{platform.processor}-static"
+    files = described({name: static_folder(platform) / name for name in PROGRAMS})
+    files |= {"share/doc/dumyroke/LICENSE-musl": read(NOTICE)}
     return f"{name}.tar.gz", packed(tar(under(name, files)))
 
 
@@ -32,19 +47,39 @@ def archive():
 MUSL = "1_2"
 
 
-def wheel(platform):
-    """The Python package, for each Linux of a processor whose glibc has the symbols that the library names, and for
-    those with musl."""
+def wheel(library, tags):
+    """The Python package with a library, for the systems that the tags name."""
     described = importlib.util.spec_from_file_location("backend", PYTHON / "backend.py")
     backend = importlib.util.module_from_spec(described)
     described.loader.exec_module(backend)
-    backend.LIBRARY = platform.folder / "libdumyroke.so"
-    major, minor = glibc(backend.LIBRARY)
-    systems = [f"manylinux_{major}_{minor}", f"musllinux_{MUSL}"]
-    backend.tag = lambda: f"py3-none-{'.'.join(f'{system}_{platform.processor}' for system in systems)}"
+    backend.LIBRARY = library
+    backend.tag = lambda: f"py3-none-{'.'.join(tags)}"
     with tempfile.TemporaryDirectory() as folder:
         name = backend.build_wheel(folder)
         return name, Path(folder, name).read_bytes()
+
+
+def linux_wheel(platform):
+    """For each Linux of a processor whose glibc has the symbols that the library names, and for those with musl."""
+    library = platform.folder / "libdumyroke.so"
+    major, minor = glibc(library)
+    tags = [f"manylinux_{major}_{minor}", f"musllinux_{MUSL}"]
+    return wheel(library, [f"{tag}_{platform.processor}" for tag in tags])
+
+
+def system_wheel(system):
+    return wheel(system.folder / system.shared, [system.wheel])
+
+
+def system_archive(system):
+    """The libraries and the headers for Windows or macOS."""
+    name = f"dumyroke-{version()}-{system.name}"
+    files = {f"include/{path.name}": read(path) for path in sorted(INCLUDE.glob("*.h"))}
+    files |= {f"lib/{path.name}": read(path) for path in sorted(system.folder.iterdir())}
+    files |= licences() | {"CHANGELOG.md": read(TOP / "CHANGELOG.md")}
+    if system == WINDOWS:
+        return f"{name}.zip", zipped(under(name, files))
+    return f"{name}.tar.gz", packed(tar(under(name, files)))
 
 
 def made_for():
@@ -59,10 +94,14 @@ def crate():
         shutil.copytree(RUST, folder, ignore=shutil.ignore_patterns("target", "original", "Cargo.lock"))
         for document in (*LICENCES, "CHANGELOG.md"):
             shutil.copy(TOP / document, folder)
-        for platform, system in itertools.product(made_for(), ("gnu", "musl")):
-            library = folder / f"lib/{platform.processor}-unknown-linux-{system}"
+        for platform, libc in itertools.product(made_for(), ("gnu", "musl")):
+            library = folder / f"lib/{platform.processor}-unknown-linux-{libc}"
             library.mkdir(parents=True)
             shutil.copy(platform.folder / "libdumyroke.a", library)
+        for system in systems():
+            for target, file in system.static.items():
+                (folder / "lib" / target).mkdir()
+                shutil.copy(system.folder / file, folder / "lib" / target)
         said = run(
             "cargo", "package", "--offline", "--no-verify", "--allow-dirty", cwd=folder, stderr=subprocess.PIPE
         ).stderr.decode()
@@ -87,6 +126,15 @@ def platforms():
     return re.search(r"^## (Platforms\n.*?)\n## ", text, re.DOTALL | re.MULTILINE)[1]
 
 
+def static_programs():
+    """Where the proof of the static programs ends."""
+    processors = " and ".join(platform.processor for platform in static_for())
+    if not processors:
+        return "No static programs were made."
+    below = "release/programs/system.c, bindings/c/heap.c and musl are trusted"
+    return f"The static programs are proved for {processors}. Below them, {below}."
+
+
 def proved():
     """What the release is made of, and where its proof ends."""
     words = {"stdout": subprocess.PIPE, "text": True, "check": True}
@@ -96,13 +144,17 @@ def proved():
     arm64 = "The libraries for arm64 are proved for it; the heap below them, bindings/c/heap.c, is tested only."
     if ARM64 not in made_for():
         arm64 = "No libraries for arm64 were made."
+    others = ", ".join(system.target for system in systems())
+    others = f"Not proved for its system, but made of the proved modules for Linux: {others}." if others else ""
     unproved = "NOT PROVED: the library was made without a proof, to try the packages.\n\n" if UNPROVED.exists() else ""
     return f"""{unproved}Dumyroke {version()}, from commit {commit}{" with changes" if changed else ""}, proved by {kit}.
 
 Programs: `run` of gqlcheck_run, gqlcst_run, gqlfmt_run and gqlls_program is proved, with the devices of byte_streams; the system below them is trusted.
+{static_programs()}
 libdumyroke, and so the Rust crate and the Python package; the page's module, which is the npm package's: each exported call is proved. Headers, Rust,
 Python, JavaScript, the module's memory, and the extension for VS Code are tested only. After the proof, binaryen gives the module addresses of 32 bits.
 {arm64}
+{others}
 docs/PROMISES.md says what is proved, and EVIDENCE.md which lemmas prove it. The provers and compilers of the kit, LLVM, binaryen and the C library are trusted.
 
 {platforms()}"""
@@ -126,6 +178,10 @@ def release():
         read(library, made_by="./do bindings build")
     if ARM64 not in made_for():
         print("there are no libraries for arm64: its wheel is left out, and the Rust crate has none for it")
+    for system in [system for system in SYSTEMS if system not in systems()]:
+        print(f"there is no library for {system.target}: its packages are left out")
+    for platform in [platform for platform in (HERE, ARM64) if platform not in static_for()]:
+        print(f"there are no static programs for {platform.processor}: they are left out (`./do programs`)")
     if f"## {version()}" not in read(TOP / "CHANGELOG.md").content.decode().splitlines():
         stop(f"CHANGELOG.md has no entry `## {version()}`")
     if about()["homepage"].endswith(".example"):
@@ -135,7 +191,9 @@ def release():
         print(
             "bindings/c/released_kinds.txt is of another release: run `tools/kinds` when these packages are published"
         )
-    packages = [*map(wheel, made_for()), *(make() for make in [archive, deb, vsix, *made_with_more()])]
+    packages = [*map(linux_wheel, made_for()), *map(static, static_for())]
+    packages += [make(system) for system in systems() for make in (system_wheel, system_archive)]
+    packages += [make() for make in [archive, deb, vsix, *made_with_more()]]
     files = dict(packages) | {
         "PROVED.txt": proved().encode(),
         "EVIDENCE.md": (BUILD / "EVIDENCE.md").read_bytes(),

@@ -1,4 +1,4 @@
-"""Tries the packages where the kit is not: in a bare Debian, in a folder with musl, and under qemu."""
+"""Tries the packages where the kit is not: in a bare Debian, in a folder with musl or with nothing, and under qemu."""
 
 import re
 import shutil
@@ -10,17 +10,18 @@ from pathlib import Path
 from bindings.shared import RUST, TOP, run, stop
 
 from . import debian
+from .alone import OPENING, try_alone
 from .arm64 import try_arm64
 from .here import NPM, npm_example, package, without
 from .installed import PROGRAMS
 from .musl import try_musl
+from .windows import try_windows
 
 # What the packages need beside themselves: a C compiler and pkg-config, pip, cargo, node. npm would bring four hundred
 # packages more.
 NEEDED = ["gcc", "libc6-dev", "pkgconf", "python3-pip", "cargo", "nodejs"]
 # The folder of a package's trial in the bare system.
 PLACE = "trial"
-HELLO = '{"jsonrpc":"2.0","id":1,"method":"initialize","params":{"capabilities":{}}}'
 readme = SourceFileLoader("readme", str(TOP / "tests/readme")).load_module()
 
 
@@ -85,7 +86,7 @@ class Bare:
 def try_installed(bare, before=""):
     """The programs, the server, and a program in C by pkg-config."""
     bare.show("README.md", "gqlcst", "gqlfmt", before=before)
-    answer = bare.run(f"{before}gqlls || true", input=f"Content-Length: {len(HELLO)}\r\n\r\n{HELLO}".encode())
+    answer = bare.run(f"{before}gqlls || true", input=OPENING)
     if '"capabilities"' not in answer:
         stop(f"in a bare Debian gqlls answers {answer!r}")
     bare.show("docs/BINDINGS.md", "gcc", "./fields", before=before)
@@ -145,13 +146,15 @@ def try_npm(bare, name):
 TRIALS = [
     (try_debian, ".deb", "strip"),
     (try_archive, "-linux-x86_64.tar.gz", "strip"),
-    (try_wheel, "x86_64.whl", "strip"),
+    (try_wheel, "linux_*_x86_64.whl", "strip"),
     (try_crate, ".crate", "cargo"),
     (try_npm, ".tgz", "wasm-opt"),
 ]
 
 
 def trial():
+    try_alone()
+    try_windows()
     try_musl()
     why = debian.why_not()
     if why:

@@ -9,6 +9,10 @@
 #include <stdio.h>
 #include <stdlib.h>
 #include <string.h>
+#ifdef _WIN32
+#include <fcntl.h>
+#include <io.h>
+#endif
 
 #include "dumyroke.h"
 
@@ -146,6 +150,10 @@ static void answer_all(char **names)
 int main(int count, char **words)
 {
     (void)count;
+#ifdef _WIN32
+    _setmode(0, _O_BINARY);
+    _setmode(1, _O_BINARY);
+#endif
     while (fread(&head, sizeof head, 1, stdin))
         answer_all(words + 1);
     return fclose(stdout) ? 1 : 0;

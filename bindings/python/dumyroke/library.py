@@ -5,6 +5,7 @@ from __future__ import annotations
 import ctypes
 import operator
 import os
+import sys
 from ctypes import POINTER, c_char, c_char_p, c_size_t, c_uint32, c_void_p
 from mmap import mmap
 from typing import Any, SupportsIndex
@@ -13,7 +14,8 @@ from .rows import NO_MEMORY, NOT_A_STRING, NOT_UTF8, TOO_LONG, Counts, Limits, M
 
 NO_LIMIT = c_size_t(-1).value
 
-_library = ctypes.CDLL(os.path.join(os.path.dirname(__file__), "libdumyroke.so"))
+_FILES = {"darwin": "libdumyroke.dylib", "win32": "dumyroke.dll"}
+_library = ctypes.CDLL(os.path.join(os.path.dirname(__file__), _FILES.get(sys.platform, "libdumyroke.so")))
 
 parse = _library.dumyroke_parse
 parse_selection_set = _library.dumyroke_parse_selection_set
