@@ -102,7 +102,6 @@ fn find_violations<'t>(
     };
     let validation = validate_with(alloc, &[*document], &options)?;
     let undecided = validation.undecided.map(|site| site.node);
-    // bound to a name, so that its clauses on `Ok` are found
     let report = report_of(alloc, validation.violations.as_slice(), undecided)?;
     Ok(report)
 }

@@ -98,7 +98,6 @@ fn add_all<'t>(
     add_unused_fragments(alloc, violations, parts, &graph, numbers)?;
     add_undefined_spreads(violations, parts, &fragments)?;
     add_cycles(alloc, violations, parts, &graph)?;
-    // bound to a name, so that its clauses on `Ok` are found
     let ended_at = add_variables(alloc, violations, parts, &graph, numbers, steps)?;
     Ok(ended_at)
 }

@@ -94,7 +94,6 @@ pub(crate) fn rule_remarks<'t>(
     let violations = validate(alloc, &[*document], MOST_VIOLATIONS)?;
     let mut kept = unmended(alloc, violations.as_slice(), others)?;
     kept.truncate(MOST);
-    // bound to a name, so that its clauses on `Ok` are found
     let found = remarks_of(alloc, kept.as_slice())?;
     Ok(found)
 }

@@ -124,7 +124,6 @@ pub fn uri_of(alloc: Global, path: &str) -> Result<String, AllocError>
     ensures names { (rest : List ℕ) → path.now ≡ 47 ∷ rest
         → IfOk result (λ uri. path_of (string_bytes uri) ≡ Some path.now) }
 {
-    // bound to a name, so that its clause on `Ok` is found
     let uri = uri_of_bytes(alloc, path.as_bytes())?;
     Ok(uri)
 }

@@ -392,7 +392,6 @@ impl<F: Files> Service for FolderServer<F> {
             (folder_dialogue_of self.new)) }
     {
         self.update_files(alloc, method, params)?;
-        // bound to a name, so that its clauses on `Ok` are found
         let reply = self.server.notification(alloc, method, params)?;
         Ok(reply)
     }

@@ -194,7 +194,6 @@ pub(crate) fn answer_initialize(
         Piece::Text(encoding_name(encoding)),
     ])?;
     push_served(&mut pieces, asks_before_renaming(params))?;
-    // bound to a name, so that its clauses on `Ok` are found
     let body = answer(alloc, id, pieces.as_slice())?;
     Ok(body)
 }
@@ -204,7 +203,6 @@ pub(crate) fn registration(alloc: Global) -> Result<Vec<u8>, AllocError>
     ensures requests { IfOk result (λ body. IsRequest body.items) }
     ensures registers { IfOk result (λ body. IsRegistration body.items) }
 {
-    // bound to a name, so that its clauses on `Ok` are found
     let body = request(alloc, "files", "client/registerCapability", &REGISTRATION)?;
     Ok(body)
 }

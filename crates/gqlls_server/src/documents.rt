@@ -62,7 +62,6 @@ fn source_in<'t>(content: &'t OpenDocument, masked: &'t Option<String>) -> &'t s
 fn parsed(alloc: Global, text: &str, limits: Limits) -> Result<SyntaxTree<DocumentRoot>, AllocError>
     ensures { IfOk result (IsParse limits text.now) }
 {
-    // bound to a name, so that its clauses on `Ok` are found
     let tree = Parser::within(text, limits).parse(alloc)?;
     Ok(tree)
 }
@@ -162,7 +161,6 @@ impl Document {
         ensures parsed { IfOk result IsParsed }
     {
         let content = OpenDocument::new(alloc, encoding, text)?;
-        // bound to a name, so that its clauses on `Ok` are found
         let document = Document::of(alloc, content, host, limits)?;
         Ok(document)
     }
@@ -177,7 +175,6 @@ impl Document {
     {
         let mut content = self.content;
         content.change_all(alloc, changes)?;
-        // bound to a name, so that its clauses on `Ok` are found
         let document = Document::of(alloc, content, self.host, self.limits)?;
         Ok(document)
     }
@@ -236,7 +233,6 @@ impl Document {
         if has_no_definitions(self.source()) {
             return Ok(Vec::new(alloc));
         }
-        // bound to a name, so that its clauses on `Ok` are found
         let found = remarks(
             alloc,
             &root,
@@ -264,7 +260,6 @@ impl Document {
     {
         let positions = self.positions(alloc)?;
         let remarks = self.remarks(alloc, others, takes_related)?;
-        // bound to a name, so that its clauses on `Ok` are found
         let body = publication(alloc, uri, version, &positions, remarks.as_slice())?;
         Ok(body)
     }
@@ -491,7 +486,6 @@ pub(crate) fn diagnostics_notification(
     let own = own_files(alloc, others.opened, uri)?;
     let more = file_fragments(alloc, others.files, &own)?;
     names.extend_from_slice(more.as_slice())?;
-    // bound to a name, so that its clauses on `Ok` are found
     let body = document.notification(alloc, uri, version, names.as_slice(), takes_related)?;
     Ok(body)
 }

@@ -53,7 +53,6 @@ pub(crate) fn answer_null(alloc: Global, id: &Value<'_>) -> Result<Vec<u8>, Allo
     ensures answers { IfOk result (λ body. IsAnswer (value_view id.now) body.items) }
     ensures null { IfOk result (λ body. IsResult (value_view id.now) null body.items) }
 {
-    // bound to a name, so that its clauses on `Ok` are found
     let body = answer(alloc, id, &[Piece::Null])?;
     Ok(body)
 }
@@ -72,7 +71,6 @@ fn answer_document(
 {
     let positions = document.positions(alloc)?;
     let layout = formatted(alloc, positions.text, limits)?;
-    // bound to a name, so that its clauses on `Ok` are found
     let body = answer_layout(alloc, id, &positions, &layout)?;
     Ok(body)
 }
@@ -114,7 +112,6 @@ fn answer_range(
         return refusal(alloc, id, code::INVALID_PARAMS, "no such place");
     };
     let layout = format_part(alloc, positions.text, document.root(), within, limits)?;
-    // bound to a name, so that its clauses on `Ok` are found
     let body = answer_layout(alloc, id, &positions, &layout)?;
     Ok(body)
 }

@@ -144,7 +144,6 @@ impl Server {
                 answer_range_formatting(alloc, id, document, params, self.limits)
             }
             EditRequest::Rename => {
-                // bound to a name, so that its clauses on `Ok` are found
                 let body = answer_rename(alloc, id, uri, document, self.known(), params)?;
                 Ok(body)
             }
@@ -259,7 +258,6 @@ impl Server {
             return Ok(Reply::Nothing);
         };
         let document = Document::new(alloc, self.encoding, text, host_of(params), self.limits)?;
-        // bound to a name, so that its clauses on `Ok` are found
         let reply = self.publish(alloc, uri, document, params)?;
         Ok(reply)
     }
@@ -281,7 +279,6 @@ impl Server {
             return Ok(Reply::Nothing);
         };
         let document = document.changed(alloc, changes.as_slice())?;
-        // bound to a name, so that its clauses on `Ok` are found
         let reply = self.publish(alloc, uri, document, params)?;
         Ok(reply)
     }
@@ -396,7 +393,6 @@ impl Service for Server {
         ensures ends { IfOk result (EndsOnlyIf (method.now ≡ codes "exit")) }
         ensures step { IfOk result (λ reply. StepsOf self.old None method.now (value_view params.now) reply self.new) }
     {
-        // bound to a name, so that its clauses on `Ok` are found
         let reply = self.handle_notification(alloc, method, params)?;
         Ok(reply)
     }

@@ -167,7 +167,6 @@ pub fn directives_at<'t>(
 {
     match owner_of(leaf) {
         Some(owner) => {
-            // bound to a name, so that its clauses on `Ok` are found
             let found = all_directives(alloc, schema, location_of(owner))?;
             Ok(found)
         }

@@ -226,7 +226,6 @@ pub fn add_variables<'t>(
     ensures unlimited { IfOk result (λ ended_at. steps ≡ None → ended_at ≡ None) }
 {
     let names = used_names(alloc, parts)?;
-    // bound to a name, so that its clauses on `Ok` are found
     let ended_at = add_operations(alloc, violations, parts, &names, graph, operations, steps)?;
     Ok(ended_at)
 }
