@@ -10,7 +10,7 @@ LISTED = "DirectiveLocations"
 RULES = "parser_rules/specs/Rules.antt"
 FUNCTION = "apollo_grammar/src/grammar/directive.rt"
 TEXT = "apollo_cst_type_system/src/location.rt"
-INTROSPECTION = "schema_members/src/standard.rt"
+INTROSPECTION = "type_system/src/standard.rt"
 PLACES = "schema_members/src/locations.rt"
 
 

@@ -20,7 +20,7 @@ DERIVATION = "crates/document_grammar/specs/Derivation.antt"
 RULES = "crates/parser_rules/specs/Rules.antt"
 LOCATIONS = "crates/apollo_grammar/src/grammar/directive.rt"
 LOCATION_TEXT = "crates/apollo_cst_type_system/src/location.rt"
-STANDARD = "crates/schema_members/src/standard.rt"
+STANDARD = "crates/type_system/src/standard.rt"
 LOCATION_PLACES = "crates/schema_members/src/locations.rt"
 SYMBOLS = "tools/generate/symbols.py"
 PLACES = "tools/generate/places.py"
@@ -39,6 +39,7 @@ WRITTEN = (
         "gqlls_program",
         "gqlls_server",
         "schema_members",
+        "type_system",
         *(path.name for path in CRATES.glob("apollo_cst_*")),
     ),
 )
@@ -366,7 +367,7 @@ def of_locations():
             STANDARD,
             f"{word}\n}}\n",
             f"{word} ELSEWHERE\n}}\n",
-            "schema_members/src/standard.rt: __DirectiveLocation has ELSEWHERE, which is not in the list",
+            "type_system/src/standard.rt: __DirectiveLocation has ELSEWHERE, which is not in the list",
         ),
     ]
 

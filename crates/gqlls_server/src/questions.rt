@@ -18,8 +18,9 @@ use editor_answers::{
 use editor_diagnostics::Positions;
 use json::Value;
 use rpc_messages::{Piece, answer, code, refusal};
-use schema_members::{Call, STANDARD, Schema, Uses, member_at, member_named};
+use schema_members::{Call, Schema, Uses, member_at, member_named};
 use std::alloc::{AllocError, Global};
+use type_system::STANDARD;
 
 /// What is asked.
 #[derive(Clone, Copy)]

@@ -19,8 +19,9 @@ use apollo_parser::{Parser, SyntaxKind, SyntaxToken};
 use editor_answers::{NameKind, Span, identifier_at, meaning_of, push_changes};
 use json::Value;
 use rpc_messages::{Piece, answer, code, refusal};
-use schema_members::{STANDARD, Schema, Uses, member_named};
+use schema_members::{Schema, Uses, member_named};
 use std::alloc::{AllocError, Global};
+use type_system::STANDARD;
 
 // The index of the document that is asked about, among all.
 const ASKED: usize = 0;
@@ -102,7 +103,6 @@ fn answer_edits<'p>(
     pieces.extend_from_slice(&[Piece::Object, Piece::Key("changes"), Piece::Object])?;
     push_all_edits(alloc, &mut pieces, occurrence, known, name)?;
     pieces.extend_from_slice(&[Piece::EndObject, Piece::EndObject])?;
-    // bound to a name, so that its clauses on `Ok` are found
     let body = answer(alloc, id, pieces.as_slice())?;
     Ok(body)
 }
@@ -134,7 +134,6 @@ fn answer_name<'a>(
         offset,
         definer: Some(definer),
     };
-    // bound to a name, so that its clauses on `Ok` are found
     let body = answer_edits(alloc, id, &occurrence, known, name)?;
     Ok(body)
 }
@@ -214,7 +213,6 @@ fn answer_at<'a>(
     match meaning_of(leaf) {
         Some(meaning) => answer_name(alloc, id, meaning.kind, asked, offset, known, name),
         None => {
-            // bound to a name, so that its clauses on `Ok` are found
             let body = answer_member(alloc, id, leaf, known, name)?;
             Ok(body)
         }
@@ -248,7 +246,6 @@ impl Asked<'_, '_> {
             return refusal(alloc, id, code::INVALID_PARAMS, "no name of GraphQL");
         };
         let known = self.documents.from(alloc, &self.first)?;
-        // bound to a name, so that its clauses on `Ok` are found
         let body = answer_at(alloc, id, &self.first, offset, known.as_slice(), name)?;
         Ok(body)
     }
@@ -276,7 +273,6 @@ pub(crate) fn answer_rename(
         documents,
         params,
     };
-    // bound to a name, so that its clauses on `Ok` are found
     let body = asked.answer_to(alloc, id)?;
     Ok(body)
 }

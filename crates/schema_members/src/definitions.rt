@@ -4,14 +4,14 @@ ghost use Rattle.apollo_tree.specs.References.{node_place};
 ghost use Rattle.schema_members.specs.Members.{located, located_in, members_in, members_of_block, name_at, name_node};
 ghost use Rattle.schema_members.specs.Members.{name_start};
 
-use crate::standard::{EACH_TYPE, QUERY_ROOT};
 use apollo_cst_core::{child_of, is_one_of};
 use apollo_tree::{SyntaxKind, SyntaxNode};
 use std::alloc::{AllocError, Global};
+use type_system::{EACH_TYPE, QUERY_ROOT};
 
 /// The roots of the trees of some documents, in which types and directives are looked for. The first that defines a
-/// name counts. Where one of them is the tree of `STANDARD`, the types, directives and meta-fields of the standard are
-/// found too.
+/// name counts. Where one of them is the tree of `STANDARD` of `type_system`, the types, directives and meta-fields of
+/// the standard are found too.
 #[derive(Clone, Copy)]
 pub struct Schema<'s, 't> {
     pub roots: &'s [SyntaxNode<'t>],

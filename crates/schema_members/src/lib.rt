@@ -11,12 +11,10 @@
 mod definitions;
 mod locations;
 mod places;
-mod standard;
 mod table;
 mod usage;
 
 pub use definitions::{Member, Schema};
 pub use locations::directives_at;
 pub use places::{Call, call_at, member_at, members_at};
-pub use standard::STANDARD;
 pub use usage::{Uses, member_named};

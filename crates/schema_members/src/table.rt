@@ -1,9 +1,9 @@
 // The definitions of some documents by their names, to look up many.
 use crate::definitions::{DIRECTIVES, MEMBERS, Member, Schema, TYPES, name_in};
-use crate::standard::{EACH_TYPE, QUERY_ROOT};
 use apollo_cst_core::is_one_of;
 use apollo_tree::{SyntaxKind, SyntaxNode};
 use std::alloc::{AllocError, Global};
+use type_system::{EACH_TYPE, QUERY_ROOT};
 
 // A definition or an extension, with its name.
 #[derive(Clone, Copy)]

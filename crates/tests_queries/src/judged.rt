@@ -1,9 +1,8 @@
 // What breaks the rules in the documents of one record.
 use apollo_parser::{DocumentRoot, Parser, SyntaxNode, SyntaxTree};
 use query_validation::{QueryViolation, message, validate};
-use schema_members::STANDARD;
 use std::alloc::{AllocError, Global};
-use type_system::Schema;
+use type_system::{STANDARD, Schema};
 use validation_names::Site;
 
 // Adds the trees of some texts, which are apart by lines `%%`.

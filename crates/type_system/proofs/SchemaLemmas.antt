@@ -1,7 +1,7 @@
 -- What all tables of a schema answer together.
 use Rattle.std.proofs.Common.{◌≡◌, ℕ, List, map, sym, ◌∙◌, ap}
 use Rattle.std.proofs.lemmas.Option.{slice_get-map}
-use Rattle.std.specs.Prelude.{codes, option_map, slice_get}
+use Rattle.std.specs.Prelude.{option_map, slice_get}
 use Rattle.validation_names.specs.Names.{AreFirstNumbers, entry_of}
 use Rattle.validation_names.specs.Sites.{Located, as_located}
 use Rattle.type_system.specs.Rows.{AreFields}
@@ -10,13 +10,14 @@ use Rattle.type_system.specs.Tables.{AreFirstFields}
 use Rattle.type_system.specs.Types.{directives_in, meta_fields, root_in, type_names, types_by, types_in}
 use Rattle.type_system.specs.declared.kinds.OperationType.{OperationType}
 use Rattle.type_system.specs.declared.schema.Schema.{Schema}
+use Rattle.type_system.specs.declared.standard.TheConstants.{EACH_TYPE, QUERY_ROOT}
 
 pub same_types : (s : Schema) (ds : List Located)
     → map as_located s.definitions.items ≡ ds
     → AreFirstNumbers s.types (type_names ds)
     → AreFields (entry_of s.types) ds s.fields.items
-    → AreFirstFields (entry_of s.types) s.each_fields (meta_fields ds (codes "__Each"))
-    → AreFirstFields (entry_of s.types) s.query_fields (meta_fields ds (codes "__Root"))
+    → AreFirstFields (entry_of s.types) s.each_fields (meta_fields ds EACH_TYPE.now)
+    → AreFirstFields (entry_of s.types) s.query_fields (meta_fields ds QUERY_ROOT.now)
     → AreFirstFields (entry_of s.types) s.directives (directives_in ds)
     → ((operation : OperationType) → root_at s operation ≡ root_in (entry_of s.types) ds operation)
     → types s ≡ types_in ds

@@ -4,7 +4,7 @@
 use Rattle.std.specs.List.{filter, find, flat_map, list_any}
 use Rattle.std.specs.Option.{option_or}
 use Rattle.std.specs.Prelude.{ℕ, List, map, Bool, false, ◌==◌, Option, Some, None, option_map, option_and_then}
-use Rattle.std.specs.Prelude.{if◌then◌else◌, slice_get, codes}
+use Rattle.std.specs.Prelude.{if◌then◌else◌, slice_get}
 use Rattle.document_grammar.specs.declared.kind.SyntaxKind.{SyntaxKind}
 use Rattle.document_grammar.specs.declared.kind.SyntaxKind.TheVariants.{ARGUMENTS_DEFINITION, FIELDS_DEFINITION}
 use Rattle.document_grammar.specs.declared.kind.SyntaxKind.TheVariants.{SCHEMA_DEFINITION}
@@ -17,6 +17,7 @@ use Rattle.type_system.specs.Definitions.{is_named, is_required, is_root, items,
 use Rattle.type_system.specs.Operations.{default_root_name}
 use Rattle.type_system.specs.declared.kinds.OperationType.{OperationType}
 use Rattle.type_system.specs.declared.kinds.TheConstants.{DIRECTIVES, SCHEMAS, TYPES, TYPE_PARTS}
+use Rattle.type_system.specs.declared.standard.TheConstants.{EACH_TYPE, QUERY_ROOT}
 
 -- 3.4: A type is known by the number of the first definition of its name, among all definitions.
 abbrev pub TypeNumbers : Type 0
@@ -139,8 +140,8 @@ types_by numbers ds = record {
   type_named = numbers;
   definition_at = slice_get ds;
   field_named = field_in numbers ds;
-  each_field = first_field numbers (meta_fields ds (codes "__Each"));
-  query_field = first_field numbers (meta_fields ds (codes "__Root"));
+  each_field = first_field numbers (meta_fields ds EACH_TYPE.now);
+  query_field = first_field numbers (meta_fields ds QUERY_ROOT.now);
   directive_named = first_field numbers (directives_in ds);
   root = root_in numbers ds;
 }

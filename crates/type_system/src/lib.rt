@@ -10,11 +10,13 @@ mod definitions;
 mod kinds;
 mod reading;
 mod schema;
+mod standard;
 mod tables;
 mod type_references;
 
 pub use definitions::{all_definitions, items, operation_type};
 pub use kinds::{COMPOSITE_TYPES, LEAF_TYPES, OperationType, TYPE_REFERENCES};
 pub use schema::{DefinitionWithArguments, Schema, TypedDefinition};
+pub use standard::{EACH_TYPE, QUERY_ROOT, STANDARD};
 pub use tables::first_by_name;
 pub use type_references::{named_in, named_type, type_reference};

@@ -19,6 +19,7 @@ ghost use Rattle.type_system.specs.declared.kinds.TheConstants.{TYPE_PARTS};
 use crate::definitions::{all_definitions, is_root, named_as, push_children, push_items};
 use crate::kinds::{DIRECTIVES, OperationType, SCHEMAS, TYPE_PARTS, TYPES};
 use crate::schema::{DefinitionWithArguments, Schema};
+use crate::standard::{EACH_TYPE, QUERY_ROOT};
 use crate::tables::{first_fields, first_numbers};
 use crate::type_references::named_type;
 use apollo_cst_core::is_one_of;
@@ -249,8 +250,8 @@ fn from_definitions<'t>(alloc: Global, definitions: Vec<Site<'t>>) -> Result<Sch
     let sites = definitions.as_slice();
     let types = first_numbers(alloc, sites, &TYPES)?;
     let fields = fields(alloc, &types, sites)?;
-    let each_fields = meta_table(alloc, &types, sites, "__Each")?;
-    let query_fields = meta_table(alloc, &types, sites, "__Root")?;
+    let each_fields = meta_table(alloc, &types, sites, EACH_TYPE)?;
+    let query_fields = meta_table(alloc, &types, sites, QUERY_ROOT)?;
     let directives = directive_table(alloc, &types, sites)?;
     let found = roots(alloc, sites)?;
     let roots = found.as_slice();

@@ -77,7 +77,7 @@ enum __DirectiveLocation {
 "#;
 
 /// The type of `STANDARD` whose fields may be selected from each type.
-pub(crate) const EACH_TYPE: &str = "__Each";
+pub const EACH_TYPE: &str = "__Each";
 
 /// The type of `STANDARD` whose fields may be selected where a query begins.
-pub(crate) const QUERY_ROOT: &str = "__Root";
+pub const QUERY_ROOT: &str = "__Root";
