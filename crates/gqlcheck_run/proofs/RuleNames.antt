@@ -9,69 +9,22 @@ use Rattle.std.proofs.lemmas.List.Folds.{list_any-append}
 use Rattle.std.proofs.lemmas.Option.{none-some}
 use Rattle.std.proofs.lemmas.Slice.Eq.{bytes_eq-Decides}
 use Rattle.std.specs.List.{Contains, find}
-use Rattle.std.specs.Prelude.{◌==◌, ◌&&◌, ◌||◌, All, bytes_eq, Option, None, Some, cond, unwrap_or}
+use Rattle.std.specs.Prelude.{◌==◌, ◌&&◌, ◌||◌, if◌then◌else◌, All, bytes_eq, Option, None, Some, cond, unwrap_or}
 use denote.Ref.{Bor}
+use Rattle.validation_rules.proofs.RuleList.{has_each}
 use Rattle.validation_rules.specs.RuleNames.{rule_name}
 use Rattle.validation_rules.specs.RuleNumbers.{rule_number}
 use Rattle.validation_rules.specs.Selection.{has_rule}
 use Rattle.validation_rules.specs.declared.selection.RuleSet.{RuleSet}
 use Rattle.validation_rules.specs.declared.violations.Rule.{Rule}
 use Rattle.validation_rules.specs.declared.violations.Rule.TheVariants as each
+use Rattle.validation_rules.specs.declared.violations.TheConstants.Rule.{ALL}
 use Rattle.command_lines.specs.Words.{texts}
 use Rattle.command_lines.specs.declared.misuse.WordsError.{WordsError}
 use Rattle.command_lines.specs.declared.misuse.WordsError.TheVariants.{Memory, Usage}
 use Rattle.gqlcheck_run.specs.Rules.{AreRules, IsNotRead, IsRuleName, IsUnknownRule, is_among}
 
 -- ---- names
-
--- all rules, in the order of their numbers
-abbrev pub every_rule : List Rule
-every_rule =
-    each.ExecutableDefinitions ∷ each.UniqueOperationNames ∷ each.LoneAnonymousOperation ∷
-    each.UniqueArgumentNames ∷ each.UniqueFragmentNames ∷ each.NoUnusedFragments ∷ each.KnownFragmentNames ∷
-    each.NoFragmentCycles ∷ each.UniqueInputFieldNames ∷ each.UniqueVariableNames ∷ each.NoUndefinedVariables ∷
-    each.NoUnusedVariables ∷ each.UniqueFieldDefinitionNames ∷ each.UniqueArgumentDefinitionNames ∷
-    each.UniqueEnumValueNames ∷ each.UniqueUnionMemberTypes ∷ each.UniqueImplementedInterfaces ∷ []
-
--- each is there at its number
-at_number : (rule : Rule) → get_or every_rule (rule_number rule) each.ExecutableDefinitions ≡ rule
-at_number each.ExecutableDefinitions = refl
-at_number each.UniqueOperationNames = refl
-at_number each.LoneAnonymousOperation = refl
-at_number each.UniqueArgumentNames = refl
-at_number each.UniqueFragmentNames = refl
-at_number each.NoUnusedFragments = refl
-at_number each.KnownFragmentNames = refl
-at_number each.NoFragmentCycles = refl
-at_number each.UniqueInputFieldNames = refl
-at_number each.UniqueVariableNames = refl
-at_number each.NoUndefinedVariables = refl
-at_number each.NoUnusedVariables = refl
-at_number each.UniqueFieldDefinitionNames = refl
-at_number each.UniqueArgumentDefinitionNames = refl
-at_number each.UniqueEnumValueNames = refl
-at_number each.UniqueUnionMemberTypes = refl
-at_number each.UniqueImplementedInterfaces = refl
-
--- and is the first with its name
-first_named : (rule : Rule) → find (λ r. bytes_eq (rule_name r) (rule_name rule)) every_rule ≡ Some rule
-first_named each.ExecutableDefinitions = refl
-first_named each.UniqueOperationNames = refl
-first_named each.LoneAnonymousOperation = refl
-first_named each.UniqueArgumentNames = refl
-first_named each.UniqueFragmentNames = refl
-first_named each.NoUnusedFragments = refl
-first_named each.KnownFragmentNames = refl
-first_named each.NoFragmentCycles = refl
-first_named each.UniqueInputFieldNames = refl
-first_named each.UniqueVariableNames = refl
-first_named each.NoUndefinedVariables = refl
-first_named each.NoUnusedVariables = refl
-first_named each.UniqueFieldDefinitionNames = refl
-first_named each.UniqueArgumentDefinitionNames = refl
-first_named each.UniqueEnumValueNames = refl
-first_named each.UniqueUnionMemberTypes = refl
-first_named each.UniqueImplementedInterfaces = refl
 
 both : (a b : Bool) → (a ≡ true → b ≡ true) → (b ≡ true → a ≡ true) → a ≡ b
 both true true f g = refl
@@ -85,12 +38,12 @@ some_same x y e = ap (λ (o : Option Rule). unwrap_or o x) e
 same_name : (rule other : Rule) → rule_name rule ≡ rule_name other → rule ≡ other
 same_name rule other e =
     some_same rule other
-    (sym (first_named rule) ∙ ap (λ (n : List ℕ). find (λ r. bytes_eq (rule_name r) n) every_rule) e
-    ∙ first_named other)
+    (sym (has_each rule).1 ∙ ap (λ (n : List ℕ). find (λ r. bytes_eq (rule_name r) n) ALL) e
+    ∙ (has_each other).1)
 
 same_number : (rule other : Rule) → rule_number rule ≡ rule_number other → rule ≡ other
 same_number rule other e =
-    sym (at_number rule) ∙ ap (λ (n : ℕ). get_or every_rule n each.ExecutableDefinitions) e ∙ at_number other
+    sym (has_each rule).0 ∙ ap (λ (n : ℕ). get_or ALL n each.ExecutableDefinitions) e ∙ (has_each other).0
 
 one_of_its_name : (rule other : Rule)
     → bytes_eq (rule_name rule) (rule_name other) ≡ (rule_number rule == rule_number other)
@@ -117,14 +70,14 @@ found_in name rule (x ∷ xs) e =
     found_if name rule x (find (λ r. bytes_eq (rule_name r) name) xs) (bytes_eq (rule_name x) name) refl
     (found_in name rule xs) e
 
-pub found_rule : (name : List ℕ) (rule : Rule) → find (λ r. bytes_eq (rule_name r) name) every_rule ≡ Some rule
+pub found_rule : (name : List ℕ) (rule : Rule) → find (λ r. bytes_eq (rule_name r) name) ALL ≡ Some rule
     → rule_name rule ≡ name
-found_rule name rule = found_in name rule every_rule
+found_rule name rule = found_in name rule ALL
 
-pub no_rule : (name : List ℕ) → find (λ r. bytes_eq (rule_name r) name) every_rule ≡ None → ¬ IsRuleName name
+pub no_rule : (name : List ℕ) → find (λ r. bytes_eq (rule_name r) name) ALL ≡ None → ¬ IsRuleName name
 no_rule name none is =
     none-some is.0
-    (sym none ∙ ap (λ (n : List ℕ). find (λ r. bytes_eq (rule_name r) n) every_rule) (sym is.1) ∙ first_named is.0)
+    (sym none ∙ ap (λ (n : List ℕ). find (λ r. bytes_eq (rule_name r) n) ALL) (sym is.1) ∙ (has_each is.0).1)
 
 or_false : (b : Bool) → (b || false) ≡ b
 or_false true = refl
@@ -138,14 +91,23 @@ among_more names name rule =
 
 -- ---- sets
 
-last : (o a s : Bool) → ((o || a) || s) ≡ (o || (a || s))
-last true a s = refl
-last false a s = refl
+pub put_in : (old here is_in : Bool) → is_in ≡ true → (old || here) ≡ (if here then is_in else old)
+put_in true true is_in e = sym e
+put_in false true is_in e = sym e
+put_in true false is_in e = refl
+put_in false false is_in e = refl
 
-last_out : (o a s : Bool) → ((o && not a) && not s) ≡ (o && not (a || s))
-last_out false a s = refl
-last_out true true s = refl
-last_out true false s = refl
+pub put_out : (old here is_in : Bool) → is_in ≡ false → (old && not here) ≡ (if here then is_in else old)
+put_out true true is_in e = sym e
+put_out false true is_in e = sym e
+put_out true false is_in e = refl
+put_out false false is_in e = refl
+
+either : (a s has old : Bool) → (if s then has else (if a then has else old)) ≡ (if a || s then has else old)
+either true true has old = refl
+either true false has old = refl
+either false true has old = refl
+either false false has old = refl
 
 module _ (old middle new : RuleSet) (rule it : Rule) (names : List (List ℕ)) (name : List ℕ) (its : rule_name it ≡ name)
   where
@@ -153,23 +115,14 @@ module _ (old middle new : RuleSet) (rule it : Rule) (names : List (List ℕ)) (
     same = ap (λ (n : List ℕ). bytes_eq (rule_name rule) n) (sym its) ∙ one_of_its_name rule it
 
     -- one name more
-    pub with_next : has_rule middle rule ≡ (has_rule old rule || is_among names rule)
-        → has_rule new rule ≡ (has_rule middle rule || rule_number rule == rule_number it)
-        → has_rule new rule ≡ (has_rule old rule || is_among (names ++ name ∷ []) rule)
-    with_next so_far adds =
-        adds ∙ ap (λ (b : Bool). b || (rule_number rule == rule_number it)) so_far
-        ∙ last (has_rule old rule) (is_among names rule) (rule_number rule == rule_number it)
-        ∙ ap (λ (b : Bool). has_rule old rule || (is_among names rule || b)) (sym same)
-        ∙ ap (λ (b : Bool). has_rule old rule || b) (sym (among_more names name rule))
-
-    pub without_next : has_rule middle rule ≡ (has_rule old rule && not (is_among names rule))
-        → has_rule new rule ≡ (has_rule middle rule && not (rule_number rule == rule_number it))
-        → has_rule new rule ≡ (has_rule old rule && not (is_among (names ++ name ∷ []) rule))
-    without_next so_far drops =
-        drops ∙ ap (λ (b : Bool). b && not (rule_number rule == rule_number it)) so_far
-        ∙ last_out (has_rule old rule) (is_among names rule) (rule_number rule == rule_number it)
-        ∙ ap (λ (b : Bool). has_rule old rule && not (is_among names rule || b)) (sym same)
-        ∙ ap (λ (b : Bool). has_rule old rule && not b) (sym (among_more names name rule))
+    pub put_next : (has : Bool) → has_rule middle rule ≡ (if is_among names rule then has else has_rule old rule)
+        → has_rule new rule ≡ (if rule_number rule == rule_number it then has else has_rule middle rule)
+        → has_rule new rule ≡ (if is_among (names ++ name ∷ []) rule then has else has_rule old rule)
+    put_next has so_far puts =
+        puts ∙ ap (λ (b : Bool). if rule_number rule == rule_number it then has else b) so_far
+        ∙ either (is_among names rule) (rule_number rule == rule_number it) has (has_rule old rule)
+        ∙ ap (λ (b : Bool). if is_among names rule || b then has else has_rule old rule) (sym same)
+        ∙ ap (λ (b : Bool). if b then has else has_rule old rule) (sym (among_more names name rule))
 
 -- ---- the names as the code has them
 
@@ -192,31 +145,39 @@ is_there words i d within =
 
 -- ---- the names of both options
 
-both_out : (a w : Bool) → ((true && not a) && not w) ≡ not (a || w)
-both_out true w = refl
-both_out false true = refl
-both_out false false = refl
+in_neither : (a w : Bool) → (if w then false else (if a then false else true)) ≡ not (a || w)
+in_neither true true = refl
+in_neither true false = refl
+in_neither false true = refl
+in_neither false false = refl
+
+in_second : (a w : Bool) → (if a then false else (if w then true else false)) ≡ (w && not a)
+in_second true true = refl
+in_second true false = refl
+in_second false true = refl
+in_second false false = refl
 
 module _ (allowed warned : List (List ℕ)) (every first judged none second told : RuleSet)
     (has_all : (rule : Rule) → has_rule every rule ≡ true)
-    (drops : (rule : Rule) → has_rule first rule ≡ (has_rule every rule && not (is_among allowed rule)))
-    (drops_too : (rule : Rule) → has_rule judged rule ≡ (has_rule first rule && not (is_among warned rule)))
+    (drops : (rule : Rule) → has_rule first rule ≡ (if is_among allowed rule then false else has_rule every rule))
+    (drops_too : (rule : Rule) → has_rule judged rule ≡ (if is_among warned rule then false else has_rule first rule))
     (has_none : (rule : Rule) → has_rule none rule ≡ false)
-    (adds : (rule : Rule) → has_rule second rule ≡ (has_rule none rule || is_among warned rule))
-    (takes : (rule : Rule) → has_rule told rule ≡ (has_rule second rule && not (is_among allowed rule))) where
+    (adds : (rule : Rule) → has_rule second rule ≡ (if is_among warned rule then true else has_rule none rule))
+    (takes : (rule : Rule) → has_rule told rule ≡ (if is_among allowed rule then false else has_rule second rule)) where
   pub are_rules : All IsRuleName allowed → All IsRuleName warned → AreRules allowed warned judged told
   are_rules known known_too = record {
     known = All-append IsRuleName allowed warned known known_too;
     judged = λ rule.
         drops_too rule
-        ∙ ap (λ (b : Bool). b && not (is_among warned rule))
-        (drops rule ∙ ap (λ (b : Bool). b && not (is_among allowed rule)) (has_all rule))
-        ∙ both_out (is_among allowed rule) (is_among warned rule)
+        ∙ ap (λ (b : Bool). if is_among warned rule then false else b)
+        (drops rule ∙ ap (λ (b : Bool). if is_among allowed rule then false else b) (has_all rule))
+        ∙ in_neither (is_among allowed rule) (is_among warned rule)
         ∙ ap not (sym (list_any-append (λ name. bytes_eq (rule_name rule) name) allowed warned));
     told = λ rule.
         takes rule
-        ∙ ap (λ (b : Bool). b && not (is_among allowed rule))
-        (adds rule ∙ ap (λ (b : Bool). b || is_among warned rule) (has_none rule));
+        ∙ ap (λ (b : Bool). if is_among allowed rule then false else b)
+        (adds rule ∙ ap (λ (b : Bool). if is_among warned rule then true else b) (has_none rule))
+        ∙ in_second (is_among allowed rule) (is_among warned rule);
   }
 
 pub unknown_allowed : (allowed warned : List (List ℕ)) (error : WordsError) → IsNotRead (IsUnknownRule allowed) error

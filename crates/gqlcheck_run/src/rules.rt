@@ -1,7 +1,8 @@
 // The rules that words name.
-ghost use Rattle.std.specs.Prelude.{◌≡◌, ◌&&◌, ◌||◌, not, All, IfErr, IfOk, map, option_map};
+ghost use Rattle.std.specs.Prelude.{◌≡◌, ◌==◌, if◌then◌else◌, All, IfErr, IfOk, map, option_map};
 ghost use Rattle.command_lines.specs.Words.{texts};
 ghost use Rattle.validation_rules.specs.RuleNames.{rule_name};
+ghost use Rattle.validation_rules.specs.RuleNumbers.{rule_number};
 ghost use Rattle.validation_rules.specs.Selection.{has_rule};
 ghost use Rattle.validation_rules.specs.declared.violations.Rule.{Rule};
 ghost use Rattle.gqlcheck_run.specs.Rules.{AreRead, IsNotRead, IsRuleName, IsUnknownRule, is_among, names_in, names_of};
@@ -51,30 +52,28 @@ fn rule_called<'w>(name: &'w str) -> Result<Rule, WordsError<'w>>
     }
 }
 
-// A set with the rules that have these names, too.
-fn with_named<'w>(rules: RuleSet, names: &[&'w str]) -> Result<RuleSet, WordsError<'w>>
-    ensures known { IfOk result (λ _. All IsRuleName (texts names.now)) }
-    ensures has { IfOk result (λ set. (rule : Rule)
-        → has_rule set rule ≡ (has_rule rules rule || is_among (texts names.now) rule)) }
-    ensures err { IfErr result (λ error. IsNotRead (IsUnknownRule (texts names.now)) error) }
+// A set with a rule in it, or without it.
+fn put(set: RuleSet, rule: Rule, is_in: bool) -> RuleSet
+    ensures { (other : Rule) → has_rule result other
+        ≡ (if rule_number other == rule_number rule then is_in else has_rule set other) }
 {
-    let mut set = rules;
-    for name in names {
-        set = set.with(rule_called(name)?);
+    if is_in {
+        set.with(rule)
+    } else {
+        set.without(rule)
     }
-    Ok(set)
 }
 
-// A set without the rules that have these names.
-fn without_named<'w>(rules: RuleSet, names: &[&'w str]) -> Result<RuleSet, WordsError<'w>>
+// A set with the rules in it that have these names, or without them.
+fn put_named<'w>(rules: RuleSet, names: &[&'w str], are_in: bool) -> Result<RuleSet, WordsError<'w>>
     ensures known { IfOk result (λ _. All IsRuleName (texts names.now)) }
     ensures has { IfOk result (λ set. (rule : Rule)
-        → has_rule set rule ≡ (has_rule rules rule && not (is_among (texts names.now) rule))) }
+        → has_rule set rule ≡ (if is_among (texts names.now) rule then are_in else has_rule rules rule)) }
     ensures err { IfErr result (λ error. IsNotRead (IsUnknownRule (texts names.now)) error) }
 {
     let mut set = rules;
     for name in names {
-        set = set.without(rule_called(name)?);
+        set = put(set, rule_called(name)?, are_in);
     }
     Ok(set)
 }
@@ -92,10 +91,10 @@ impl Rules {
         let allowed = names_of(alloc, allow)?;
         let warned = names_of(alloc, warn)?;
         let (allowed, warned) = (allowed.as_slice(), warned.as_slice());
-        let left = without_named(RuleSet::all(), allowed)?;
-        let judged = without_named(left, warned)?;
-        let named = with_named(RuleSet::none(), warned)?;
-        let told = without_named(named, allowed)?;
+        let left = put_named(RuleSet::all(), allowed, false)?;
+        let judged = put_named(left, warned, false)?;
+        let named = put_named(RuleSet::none(), warned, true)?;
+        let told = put_named(named, allowed, false)?;
         Ok(Rules { judged, told })
     }
 }

@@ -3,6 +3,7 @@ pub mod ApartLemmas
 pub mod NameLemmas
 pub mod PairLemmas
 pub mod PartsLemmas
+pub mod RuleList
 pub mod SpreadLemmas
 pub mod TextOrderLemmas
 pub mod TreeLemmas
