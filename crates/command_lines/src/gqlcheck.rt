@@ -12,7 +12,7 @@ use cost_figures::Figures;
 use std::alloc::Allocator;
 
 /// The options of the program.
-pub const OPTIONS: [Row; 18] = [
+pub const OPTIONS: [Row; 19] = [
     ("--max-depth", "", Takes::Number),
     ("--max-fields", "", Takes::Number),
     ("--max-root-fields", "", Takes::Number),
@@ -23,6 +23,7 @@ pub const OPTIONS: [Row; 18] = [
     ("--without-introspection", "", Takes::Nothing),
     ("--operation", "", Takes::Text),
     ("--figures", "", Takes::Nothing),
+    ("--schema", "", Takes::Text),
     ("--fragments", "", Takes::Text),
     ("--allow", "", Takes::Text),
     ("--warn", "", Takes::Text),

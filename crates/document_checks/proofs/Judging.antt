@@ -32,7 +32,7 @@ pub errors_each : (asked : Asked) (sources : List (List ℕ)) (ds : List Documen
     → AreParsed asked.limits sources ds rs → ¬ AllPass rs → PassEach asked sources rs
 errors_each asked sources ds rs parsed some = record {
   errors = λ any. pass_without_errors asked.limits sources rs parsed.are_reports;
-  documents = λ documents numbers have numbered.
+  documents = λ documents numbers there have numbered.
       absurd (some (documents_pass asked.limits sources documents rs have parsed.are_reports));
 }
 
@@ -64,6 +64,7 @@ module _ (asked : Asked) (sources : List (List ℕ)) (ds : List Document) (old n
       are_numbers = numbered;
       valid = (judged.sound.0 pass).0.0;
       decided = (judged.sound.0 pass).0.1;
+      typed = (judged.sound.0 pass).0.2;
       within = (judged.sound.0 pass).1;
     },
     λ s.
@@ -71,7 +72,7 @@ module _ (asked : Asked) (sources : List (List ℕ)) (ds : List Document) (old n
         let same_too = same_numbers asked.limits 0 sources s.numbers (numbers_of ds) s.are_numbers numbered in
         judged.sound.1 (
           subst (λ (ns : List ℕ). AreKept asked (map root_of ds) ns) same_too
-              (subst (λ (xs : List Place). AreKept asked xs s.numbers) same (s.valid, s.decided)),
+              (subst (λ (xs : List Place). AreKept asked xs s.numbers) same (s.valid, s.decided, s.typed)),
           subst (λ (ns : List ℕ). AreWithin asked (map root_of ds) ns) same_too
               (subst (λ (xs : List Place). AreWithin asked xs s.numbers) same s.within),
         ),
@@ -80,7 +81,7 @@ module _ (asked : Asked) (sources : List (List ℕ)) (ds : List Document) (old n
   pub judged_each : PassEach asked sources new
   judged_each = record {
     errors = λ any. absurd (none_of asked.limits sources old parsed.are_reports all any);
-    documents = λ documents numbers have those.
+    documents = λ documents numbers there have those.
         let same = same_documents asked.limits sources (map root_of ds) documents are have in
         let same_too = same_numbers asked.limits 0 sources (numbers_of ds) numbers numbered those in
         subst (λ (ns : List ℕ). PassByDocuments asked documents ns new) same_too

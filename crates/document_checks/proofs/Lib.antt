@@ -4,5 +4,6 @@ pub mod Judging
 pub mod Measuring
 pub mod NoTokens
 pub mod Passing
+pub mod SchemaLemmas
 pub mod Verdicts
 pub mod Warnings

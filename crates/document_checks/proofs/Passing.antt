@@ -1,6 +1,6 @@
 -- Which texts pass, while they are judged.
 use Rattle.std.proofs.Common.{◌≡◌, ◌≢◌, ◌<◌, ℕ, Bool, true, false, eqb, eqb-true, List, [], ◌∷◌}
-use Rattle.std.proofs.Common.{◌++◌, length, get_or, refl, sym, ap, ◌∙◌, subst, arith, inl, inr, Option, Some}
+use Rattle.std.proofs.Common.{◌++◌, length, map, take, get_or, refl, sym, ap, ◌∙◌, subst, arith, inl, inr, Option, Some}
 use Rattle.std.proofs.Common.{None}
 use Rattle.std.proofs.Math.ListN.{length-set, set}
 use Rattle.std.proofs.lemmas.Bool.{eqb-false}
@@ -11,6 +11,8 @@ use Rattle.std.proofs.lemmas.List.Elements.{All-weaker}
 use Rattle.std.specs.List.{filter}
 use Rattle.std.specs.Prelude.{◌↔◌, ◌⊎◌, All, Err, Ok, OnOk, Result, option_map, slice_index_or}
 use Rattle.apollo_tree.specs.Order.{Place}
+use Rattle.apollo_parser.proofs.OneParse.{one-parse}
+use Rattle.apollo_parser.specs.Parsed.{Parsed}
 use Rattle.validation_names.specs.Definitions.{defined}
 use Rattle.validation_names.specs.Names.{Name}
 use Rattle.validation_names.specs.Sites.{Located, as_located}
@@ -22,6 +24,7 @@ use Rattle.document_validation.specs.declared.validation.ValidationOptions.{Vali
 use Rattle.cost_figures.specs.declared.figures.Figures.{Figures}
 use Rattle.cost_limits.specs.Limits.{IsWithin}
 use Rattle.cost_limits.specs.Measures.{Measure}
+use Rattle.query_validation.specs.Breaches.{QueryBreach, breaches}
 use Rattle.document_checks.proofs.Verdicts.{one_measures}
 use Rattle.document_checks.proofs.Warnings.{founded_of, not_both}
 use Rattle.document_checks.specs.Checking.{Asked, HaveMeasures, has_limits, is_chosen, judged_documents, measuring}
@@ -29,6 +32,7 @@ use Rattle.document_checks.specs.Documents.{AllPass, AreChecked, AreClean, AreJu
 use Rattle.document_checks.specs.Documents.{AreTold, AreWarned, IsFounded, IsUnwarned}
 use Rattle.document_checks.specs.Passing.{AreKept, HasWithin, IsThere, IsWithout, PassIf, found_sites, text_number}
 use Rattle.document_checks.specs.Passing.{undecided_sites, validation_options, violation_sites}
+use Rattle.document_checks.specs.Schemas.{AreSchemaSites, AreValidBySchema, IsStandard, judged_of, types_by}
 use Rattle.document_checks.specs.Warnings.{AreQuietIf, has_warnings, warning_options}
 use Rattle.document_checks.specs.declared.report.Report.{Report}
 
@@ -192,41 +196,71 @@ some_fail numbers (s ∷ ss) (r ∷ rs) some inside each all =
 abbrev pub FindsNothing : Validation → Type 0
 FindsNothing v = (v.violations.items ≡ []) × (v.undecided ≡ None)
 
-none_found : (vs : List Violation) (u : Option Site)
-    → violation_sites vs ++ undecided_sites (option_map as_located u) ≡ [] → (vs ≡ []) × (u ≡ None)
-none_found [] None e = (refl, refl)
-none_found [] (Some s) e = absurd (let r : ⊥ = cc in r)
-none_found (v ∷ vs) u e = absurd (let r : ⊥ = cc in r)
+none_found : (vs : List Violation) (u : Option Site) (sites : List Located)
+    → (violation_sites vs ++ undecided_sites (option_map as_located u)) ++ sites ≡ []
+    → ((vs ≡ []) × (u ≡ None)) × (sites ≡ [])
+none_found [] None sites e = ((refl, refl), e)
+none_found [] (Some s) sites e = absurd (let r : ⊥ = cc in r)
+none_found (v ∷ vs) u sites e = absurd (let r : ⊥ = cc in r)
+
+-- neither does a judgement by the rules that need a schema, which found something at these places
+abbrev pub FindNothing : Validation → List Located → Type 0
+FindNothing v sites = FindsNothing v × (sites ≡ [])
 
 -- rules are broken, or that is not decided
-pub by_rules : (asked : Asked) (documents : List Place) (numbers : List ℕ) (v : Validation) (old new : List Report)
-    → IsValidation (validation_options asked numbers) documents v → ¬ FindsNothing v
-    → (AreKept asked documents numbers → FindsNothing v)
+pub by_rules : (asked : Asked) (documents : List Place) (numbers : List ℕ) (v : Validation) (sites : List Located)
+    (old new : List Report) → IsValidation (validation_options asked numbers) documents v
+    → AreSchemaSites asked.schema (judged_documents asked.judged numbers) documents numbers sites
+    → ¬ FindNothing v sites → (AreKept asked documents numbers → FindNothing v sites)
     → ((number : ℕ) → slice_index_or numbers number 0 < length old)
-    → AreJudged (IsWithout numbers (found_sites v)) old new → AreJudgedTogether asked documents numbers old new
-by_rules asked documents numbers v old new is some clean inside judged = record {
+    → AreJudged (IsWithout numbers (found_sites v ++ sites)) old new
+    → AreJudgedTogether asked documents numbers old new
+by_rules asked documents numbers v sites old new is are some clean inside judged = record {
   count = judged.count;
   founded = judged.founded;
   sound = (
-    λ all. absurd (some_fail numbers (found_sites v) new
-        (λ none. some (none_found v.violations.items v.undecided none))
+    λ all. absurd (some_fail numbers (found_sites v ++ sites) new
+        (λ none. some (none_found v.violations.items v.undecided sites none))
         (λ number. omega (arith, inside number, judged.count)) judged.each all),
     λ s. absurd (some (clean s.0)),
   );
   each = record {
-    rules = λ broken. record { validation = v; is = is; each = judged.each };
+    rules = λ broken. record { validation = v; is = is; sites = sites; are = are; each = judged.each };
     limits = λ ms keeps figures there. absurd (some (clean keeps));
     missing = λ ms keeps figures there. absurd (some (clean keeps));
     unmeasured = λ keeps none free. absurd (some (clean keeps));
   };
 }
 
+-- Nothing is found.
+pub no_sites_found : (vs : List Violation) (u : Option Site) (sites : List Located) → vs ≡ [] → u ≡ None → sites ≡ []
+    → (violation_sites vs ++ undecided_sites (option_map as_located u)) ++ sites ≡ []
+no_sites_found vs u sites none decided empty =
+    ap (λ (xs : List Violation). (violation_sites xs ++ undecided_sites (option_map as_located u)) ++ sites) none
+    ∙ ap (λ (x : Option Site). undecided_sites (option_map as_located x) ++ sites) decided ∙ empty
+
+pub none_counted : (count : ℕ) (sites : List Located) → count ≡ length sites → count ≡ 0 → sites ≡ []
+none_counted count [] is none = refl
+none_counted count (s ∷ ss) is none = absurd (omega (arith, is, none))
+
+pub counted_none : (count : ℕ) (sites : List Located) → count ≡ length sites → sites ≡ [] → count ≡ 0
+counted_none count sites is none = is ∙ ap length none
+
+-- where nothing was found, nothing is in the reports
+pub clean_after : (numbers : List ℕ) (sites : List Located) (old new : List Report) → sites ≡ []
+    → AreJudged (IsWithout numbers sites) old new → AreClean new
+clean_after numbers sites old new none judged = λ text r inside.
+    let passes = (judged.each text r inside).1
+    (subst (λ (ss : List Located). IsWithout numbers ss text) (sym none)
+    (All-nil (λ (x : Located). text_number numbers x ≢ text))) in
+    (passes, (judged.founded text r inside).nothing passes)
+
 -- no rule is broken
-pub by_limits : (asked : Asked) (documents : List Place) (numbers : List ℕ) (old new : List Report)
-    → AreKept asked documents numbers → AreMeasured asked documents numbers old new
-    → AreJudgedTogether asked documents numbers old new
-by_limits asked documents numbers old new kept measured = record {
-  count = measured.count;
+pub by_limits : (asked : Asked) (documents : List Place) (numbers : List ℕ) (old middle new : List Report)
+    → AreKept asked documents numbers → length middle ≡ length old
+    → AreMeasured asked documents numbers middle new → AreJudgedTogether asked documents numbers old new
+by_limits asked documents numbers old middle new kept as_many measured = record {
+  count = measured.count ∙ as_many;
   founded = measured.founded;
   sound = (λ all. (kept, measured.within.0 all), λ s. measured.within.1 s.1);
   each = record {
@@ -365,14 +399,44 @@ options_are asked numbers judged o is same =
       steps = asked.steps;
     }) same
 
--- The rules are kept exactly if validation finds nothing.
+-- where the first 1001 of some breaches are no breach, there is none
+none_of_first : (bs : List QueryBreach) → map (λ (b : QueryBreach). b.site) (take 1001 bs) ≡ [] → bs ≡ []
+none_of_first [] e = refl
+none_of_first (b ∷ bs) e = absurd (let r : ⊥ = cc in r)
+
+-- there is one document of the standard's definitions
+one_standard : (d d' : Place) → IsStandard d → IsStandard d' → d ≡ d'
+one_standard d d' is is' =
+    let same = one-parse is.parsed is'.parsed is.promise.by_rules is'.promise.by_rules in
+    is.root ∙ ap (λ (u : Parsed). record { whole = u.tree; index = 0 }) same ∙ sym is'.root
+
+pub valid_by_schema : (schema judged : Option ℕ) (documents : List Place) (numbers : List ℕ) (sites : List Located)
+    → AreSchemaSites schema judged documents numbers sites
+    → (sites ≡ []) ↔ AreValidBySchema schema judged documents numbers
+valid_by_schema None judged documents numbers sites are = (λ none. tt, λ valid. are)
+valid_by_schema (Some texts) judged documents numbers sites (standard, is, are) = (
+  λ none. (standard, is, none_of_first _ (sym are ∙ none)),
+  λ valid.
+      let same = one_standard standard valid.0 is valid.1 in
+      are
+      ∙ ap (λ (d : Place). map (λ (b : QueryBreach). b.site)
+      (take 1001 (breaches (types_by texts documents numbers d) (judged_of judged documents)))) same
+      ∙ ap (λ (bs : List QueryBreach). map (λ (b : QueryBreach). b.site) (take 1001 bs)) valid.2,
+)
+
+-- The rules are kept exactly if nothing is found.
 pub kept_if_clean : (asked : Asked) (documents : List Place) (numbers : List ℕ) (o : ValidationOptions) (v : Validation)
-    → o ≡ validation_options asked numbers
+    (sites : List Located) → o ≡ validation_options asked numbers
     → (0 < o.most → FindsNothing v ↔ (AreValidIn o.selection documents × AreDecided o.steps documents))
-    → FindsNothing v ↔ AreKept asked documents numbers
-kept_if_clean asked documents numbers o v is iff =
-    subst (λ (x : ValidationOptions). 0 < x.most
-    → FindsNothing v ↔ (AreValidIn x.selection documents × AreDecided x.steps documents)) is iff (omega arith)
+    → AreSchemaSites asked.schema (judged_documents asked.judged numbers) documents numbers sites
+    → FindNothing v sites ↔ AreKept asked documents numbers
+kept_if_clean asked documents numbers o v sites is iff are =
+    let typed = valid_by_schema asked.schema (judged_documents asked.judged numbers) documents numbers sites are in
+    let kept = subst (λ (x : ValidationOptions). 0 < x.most
+    → FindsNothing v ↔ (AreValidIn x.selection documents × AreDecided x.steps documents)) is iff (omega arith) in (
+      λ none. ((kept.0 none.0).0, (kept.0 none.0).1, typed.0 none.1),
+      λ keeps. (kept.1 (keeps.0, keeps.1), typed.1 keeps.2),
+    )
 
 -- what is measured
 pub measuring_is : (asked : Asked) (numbers : List ℕ) (judged : Option ℕ)
@@ -499,8 +563,10 @@ told_after asked documents numbers old middle new judged warned =
             record {
               validation = found.validation;
               is = found.is;
-              each = still (IsWithout numbers (found_sites found.validation)) numbers warned.sites middle new told
-                  found.each;
+              sites = found.sites;
+              are = found.are;
+              each = still (IsWithout numbers (found_sites found.validation ++ found.sites)) numbers warned.sites
+                  middle new told found.each;
             };
         limits = λ ms kept figures there.
             still (HasWithin numbers asked.most (filter (is_chosen asked.operation) ms)) numbers warned.sites middle

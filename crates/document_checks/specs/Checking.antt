@@ -18,6 +18,7 @@ use Rattle.cost_limits.specs.Limits.{IsWithin, exceeded_by}
 use Rattle.cost_limits.specs.Measures.{Measure, AreMeasures}
 use Rattle.cost_limits.specs.declared.introspection.Introspection.{Introspection}
 use Rattle.cost_limits.specs.declared.measures.MeasureOptions.{MeasureOptions}
+use Rattle.document_checks.specs.Schemas.{AreValidBySchema, documents_before}
 use Rattle.document_checks.specs.declared.report.Checks.{Checks}
 
 -- What texts are checked against.
@@ -31,6 +32,8 @@ pub record Asked : Type 0 where
   pub operation : Option Name
   -- How many of the texts are judged, from the first on; without a number, all are. The others are only known.
   pub judged : Option ℕ
+  -- How many of the texts, from the first on, are those of a schema. Without a number, there is no schema.
+  pub schema : Option ℕ
   -- the rules that the documents have to keep, and others, whose breaches are warnings
   pub rules : RuleSet
   pub warnings : RuleSet
@@ -44,6 +47,7 @@ as_asked checks = record {
   introspection = checks.introspection;
   operation = option_map (λ (name : Bor (List ℕ)). name.now) checks.operation;
   judged = checks.judged;
+  schema = checks.schema;
   rules = checks.rules;
   warnings = checks.warnings;
   steps = checks.steps;
@@ -82,7 +86,7 @@ HaveNumbers limits k (source ∷ sources) numbers =
 -- How many documents are judged, from the first on: those whose texts are. These are the numbers of their texts.
 abbrev pub judged_documents : Option ℕ → List ℕ → Option ℕ
 judged_documents None numbers = None
-judged_documents (Some judged) numbers = Some (length (filter (λ number. nat_lt number judged) numbers))
+judged_documents (Some judged) numbers = Some (documents_before judged numbers)
 
 -- ---- limits
 
@@ -137,8 +141,8 @@ pub record AreWithin (asked : Asked) (documents : List Place) (numbers : List �
 abbrev pub selection : Asked → List ℕ → Selection
 selection asked numbers = record { rules = asked.rules; judged = judged_documents asked.judged numbers }
 
--- The documents of some texts keep the rules together, which is decided within the steps, and their operations are
--- within the limits.
+-- The documents of some texts keep the rules together, which is decided within the steps, and those that need a schema,
+-- if there is one. And their operations are within the limits.
 pub record AreSound (asked : Asked) (sources : List (List ℕ)) : Type 0 where
   pub documents : List Place
   -- the numbers of their texts
@@ -147,6 +151,7 @@ pub record AreSound (asked : Asked) (sources : List (List ℕ)) : Type 0 where
   pub are_numbers : HaveNumbers asked.limits 0 sources numbers
   pub valid : AreValidIn (selection asked numbers) documents
   pub decided : AreDecided asked.steps documents
+  pub typed : AreValidBySchema asked.schema (judged_documents asked.judged numbers) documents numbers
   pub within : AreWithin asked documents numbers
 
 -- Some texts pass together. Where there is no text, nothing is wrong.

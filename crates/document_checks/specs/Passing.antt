@@ -12,8 +12,9 @@ use Rattle.cost_figures.specs.declared.figures.Figures.{Figures}
 use Rattle.cost_limits.specs.Limits.{IsWithin}
 use Rattle.cost_limits.specs.Measures.{Measure}
 use Rattle.document_checks.specs.Checking.{Asked, HaveDocuments, HaveMeasures, HaveNumbers, has_limits, is_chosen}
-use Rattle.document_checks.specs.Checking.{selection}
+use Rattle.document_checks.specs.Checking.{judged_documents, selection}
 use Rattle.document_checks.specs.Findings.{HasErrors}
+use Rattle.document_checks.specs.Schemas.{AreSchemaSites, AreValidBySchema}
 use Rattle.document_checks.specs.declared.report.Report.{Report}
 
 -- Each report passes exactly if this holds of the number of its text.
@@ -42,9 +43,11 @@ IsThere asked measures = asked.operation ≢ None → filter (is_chosen asked.op
 
 -- ---- validation
 
--- The documents keep the rules, and that is decided.
+-- The documents keep the rules, that is decided, and they keep the rules that need a schema, if there is one.
 abbrev pub AreKept : Asked → List Place → List ℕ → Type 0
-AreKept asked documents numbers = AreValidIn (selection asked numbers) documents × AreDecided asked.steps documents
+AreKept asked documents numbers =
+    AreValidIn (selection asked numbers) documents × AreDecided asked.steps documents
+    × AreValidBySchema asked.schema (judged_documents asked.judged numbers) documents numbers
 
 -- how validation is called: for the first 1001 violations
 abbrev pub validation_options : Asked → List ℕ → ValidationOptions
@@ -64,21 +67,22 @@ found_sites validation =
     violation_sites validation.violations.items
     ++ undecided_sites (option_map as_located validation.undecided)
 
--- The texts pass in which a validation found nothing.
-pub record PassByValidation (options : ValidationOptions) (documents : List Place) (numbers : List ℕ)
-    (reports : List Report) : Type 0 where
+-- The texts pass in which nothing is found: neither by a validation nor by the rules that need a schema.
+pub record PassByRules (asked : Asked) (documents : List Place) (numbers : List ℕ) (reports : List Report)
+    : Type 0 where
   pub validation : Validation
-  pub is : IsValidation options documents validation
-  pub each : PassIf (IsWithout numbers (found_sites validation)) reports
+  pub is : IsValidation (validation_options asked numbers) documents validation
+  pub sites : List Located
+  pub are : AreSchemaSites asked.schema (judged_documents asked.judged numbers) documents numbers sites
+  pub each : PassIf (IsWithout numbers (found_sites validation ++ sites)) reports
 
 -- ---- all texts
 
 -- Which texts pass, where none has errors. These are the documents, and the numbers of their texts.
 pub record PassByDocuments (asked : Asked) (documents : List Place) (numbers : List ℕ) (reports : List Report)
     : Type 0 where
-  -- where rules are broken, or that is not decided: each text in which validation found nothing
-  pub rules : ¬ AreKept asked documents numbers
-      → PassByValidation (validation_options asked numbers) documents numbers reports
+  -- where rules are broken, or that is not decided: each text in which nothing is found
+  pub rules : ¬ AreKept asked documents numbers → PassByRules asked documents numbers reports
   -- where none is broken: each text whose operations are within the limits, of those that are judged and wanted
   pub limits : (measures : List Measure) → AreKept asked documents numbers
       → HaveMeasures asked documents numbers measures → IsThere asked measures
@@ -97,6 +101,7 @@ pub record PassEach (asked : Asked) (sources : List (List ℕ)) (reports : List 
   -- where texts have errors: all others
   pub errors : Any (HasErrors asked.limits) sources
       → PassIf (λ text. ¬ HasErrors asked.limits (slice_index_or sources text [])) reports
-  -- where none has
-  pub documents : (documents : List Place) (numbers : List ℕ) → HaveDocuments asked.limits sources documents
-      → HaveNumbers asked.limits 0 sources numbers → PassByDocuments asked documents numbers reports
+  -- where there are texts, and none has errors
+  pub documents : (documents : List Place) (numbers : List ℕ) → 0 < length sources
+      → HaveDocuments asked.limits sources documents → HaveNumbers asked.limits 0 sources numbers
+      → PassByDocuments asked documents numbers reports

@@ -6,6 +6,7 @@ ghost use Rattle.first_errors.specs.Places.{shown_at};
 ghost use Rattle.formatter.specs.Within.{HasCommentsAlone};
 ghost use Rattle.document_checks.specs.Checking.{judged_documents, texts_of};
 ghost use Rattle.document_checks.specs.Documents.{AllPass, AreErrors, AreParsed, numbers_of, root_of, text_of};
+ghost use Rattle.document_checks.specs.Schemas.{documents_before};
 
 use crate::report::{Checks, Finding, Report};
 use apollo_parser::{BorrowedError, BorrowedSyntaxTree, DocumentRoot, Limits, Parser};
@@ -42,18 +43,24 @@ pub(crate) fn text_of(documents: &[Document<'_>], number: usize) -> usize
     }
 }
 
+/// How many documents come before a text, by its number.
+pub(crate) fn documents_before(documents: &[Document<'_>], text: usize) -> usize
+    ensures { result ≡ documents_before text (numbers_of documents.now) }
+{
+    let mut count = 0;
+    for document in documents {
+        if document.text < text {
+            count += 1;
+        }
+    }
+    count
+}
+
 /// How many documents are judged, where this number of texts is.
 pub(crate) fn judged_documents(documents: &[Document<'_>], judged: Option<usize>) -> Option<usize>
     ensures { result ≡ judged_documents judged (numbers_of documents.now) }
 {
-    let texts = judged?;
-    let mut count = 0;
-    for document in documents {
-        if document.text < texts {
-            count += 1;
-        }
-    }
-    Some(count)
+    Some(documents_before(documents, judged?))
 }
 
 // An error, in words for people.

@@ -8,6 +8,7 @@
 mod documents;
 mod operations;
 mod report;
+mod schema_rules;
 mod text_check;
 mod violations;
 

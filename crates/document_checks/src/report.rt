@@ -24,6 +24,10 @@ pub struct Checks<'a> {
     /// How many of the texts are judged, from the first on, or `None` for all. The others are only known: they have to
     /// be documents, and their fragments may be spread.
     pub judged: Option<usize>,
+    /// How many of the texts, from the first on, are those of a schema, or `None` without one. The documents that are
+    /// judged have to keep the rules that need its types. Where the schema defines a name twice, the first definition
+    /// counts.
+    pub schema: Option<usize>,
     /// The rules whose violations keep the texts from passing.
     pub rules: RuleSet,
     /// Other rules, whose violations are warnings, and keep no text from passing.

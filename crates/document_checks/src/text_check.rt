@@ -13,6 +13,7 @@ ghost use Rattle.document_checks.specs.Warnings.{WarnEach};
 use crate::documents::{Document, Parsed, all_pass, judged_documents, roots};
 use crate::operations::judge_operations;
 use crate::report::{Checks, Report};
+use crate::schema_rules::add_by_schema;
 use crate::violations::{MOST, add_validation, add_warnings};
 use apollo_tree::SyntaxNode;
 use document_validation::{RuleSet, Selection, Validation, ValidationOptions, validate_with};
@@ -33,15 +34,16 @@ fn options(rules: RuleSet, judged: Option<usize>, steps: Option<usize>) -> Valid
     }
 }
 
-// Whether a validation found nothing, and is decided.
-fn finds_nothing(validation: &Validation<'_>) -> bool
-    ensures { (result ≡ true) ↔ ((validation.now.violations.items ≡ []) × (validation.now.undecided ≡ None)) }
+// Whether a validation found nothing, and is decided, and as many breaches of other rules were found.
+fn finds_nothing(validation: &Validation<'_>, others: usize) -> bool
+    ensures { (result ≡ true)
+        ↔ ((validation.now.violations.items ≡ []) × (validation.now.undecided ≡ None) × (others ≡ 0)) }
 {
-    validation.violations.is_empty() && validation.undecided.is_none()
+    validation.violations.is_empty() && validation.undecided.is_none() && others == 0
 }
 
-// Judges documents without errors, whose roots are given too: by the rules, and if they keep them, by the limits of
-// their operations. `judged` is how many of them are judged.
+// Judges documents without errors, whose roots are given too: by the rules, also by those that need a schema, and if
+// they keep them, by the limits of their operations. `judged` is how many of them are judged.
 fn judge_documents(
     alloc: Global,
     roots: &[SyntaxNode<'_>],
@@ -53,17 +55,19 @@ fn judge_documents(
     requires inside { AreInside documents.now (length reports.old) }
     requires passing { AreClean reports.old }
     requires judged { judged ≡ judged_documents checks.now.judged (numbers_of documents.now) }
+    requires roots { map node_place roots.now ≡ map root_of documents.now }
     ensures { OnOk result
         (AreJudgedTogether (as_asked checks.now) (map node_place roots.now) (numbers_of documents.now)
         reports.old reports.new) }
 {
     let options = options(checks.rules, judged, checks.steps);
     let validation = validate_with(alloc, roots, &options)?;
-    if finds_nothing(&validation) {
+    add_validation(alloc, &validation, documents, checks.findings, reports)?;
+    let by_schema = add_by_schema(alloc, roots, documents, judged, checks, reports)?;
+    if finds_nothing(&validation, by_schema) {
         judge_operations(alloc, roots, documents, judged, checks, reports)?;
         return Ok(());
     }
-    add_validation(alloc, &validation, documents, checks.findings, reports)?;
     Ok(())
 }
 
@@ -123,7 +127,8 @@ fn judge(
 /// Checks texts together, and gives a report for each. All of them pass exactly if four things hold:
 ///
 /// - Each is a document within the parser's limits, or has no definition.
-/// - The documents keep the chosen rules together, in the texts that are judged.
+/// - The documents keep the chosen rules together, in the texts that are judged. If there is a schema, they keep the
+///   rules that need its types, too.
 /// - That is decided within the steps that validation may take.
 /// - Each operation of the texts that are judged is within the limits, or the one that is named, which has to be there.
 ///   If no operation is named and no figure is limited, they need no figures.

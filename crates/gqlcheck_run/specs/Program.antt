@@ -24,10 +24,11 @@ use Rattle.named_files.specs.Handling.{State, streams}
 use Rattle.gqlcheck_run.specs.Framing.{Closes, opening}
 use Rattle.gqlcheck_run.specs.Inputs.{Input, bytes_in, default_steps, no_texts}
 use Rattle.gqlcheck_run.specs.Judging.{JudgesTexts}
-use Rattle.gqlcheck_run.specs.Reading.{Reading, ReadsKnown, ReadsTexts}
+use Rattle.gqlcheck_run.specs.Reading.{Reading, ReadsIfGiven, ReadsTexts}
 use Rattle.gqlcheck_run.specs.Rules.{AreRules, IsUnknownRule, names_of}
 use Rattle.gqlcheck_run.specs.declared.command.TheConstants.{PROGRAM, USAGE, HELP, VERSION}
 use Rattle.gqlcheck_run.specs.declared.job.Printing.{Printing}
+use Rattle.gqlcheck_run.specs.declared.program.Paths as declared_paths
 
 abbrev pub information_text : Information → List ℕ
 information_text Help = HELP.now
@@ -52,16 +53,27 @@ asked_by given rules warnings = record {
   introspection = introspection_of given;
   operation = operation_of given;
   judged = None;
+  schema = None;
   rules = rules;
   warnings = warnings;
   steps = number (codes "--max-steps") given;
 }
 
--- The same for texts, of which as many as this are judged. The others are known only. If no number of steps is given,
--- it is by the bytes of all texts.
-abbrev pub asked_of : Asked → ℕ → List Input → Asked
-asked_of asked judged inputs =
-    record asked { judged = Some judged; steps = Some (unwrap_or asked.steps (default_steps (bytes_in inputs))) }
+-- How many texts are those of the schema, if a path of one is given: as many as were read. Where one of its files was
+-- not read, nothing is judged by it.
+abbrev pub schema_texts : Option (List ℕ) → ℕ → ℕ → Option ℕ
+schema_texts None status texts = None
+schema_texts (Some path) zero texts = Some texts
+schema_texts (Some path) (suc n) texts = None
+
+-- The same for texts, of which some are those of a schema, and as many as this are judged. The others are known only.
+-- If no number of steps is given, it is by the bytes of all texts.
+abbrev pub asked_of : Asked → Option ℕ → ℕ → List Input → Asked
+asked_of asked schema judged inputs = record asked {
+  schema = schema;
+  judged = Some judged;
+  steps = Some (unwrap_or asked.steps (default_steps (bytes_in inputs)));
+}
 
 -- Why there is nothing to carry out is said, with status 2.
 abbrev pub Refuses : WordsError → ℕ → Account → Account → Type 0
@@ -73,39 +85,53 @@ Refuses Memory status old new = (status ≡ 2) × IsSaid (no_memory PROGRAM.now)
 abbrev pub printing_of : Given → Printing
 printing_of given = record { figures = is_set (codes "--figures") given; format = format_of given }
 
--- the paths whose texts are judged, and one whose texts are known, if one is given
+-- the paths whose texts are judged, one whose texts are known, and one of a schema, if they are given
 pub record Paths : Type 0 where
   pub judged : List (List ℕ)
   pub known : Option (List ℕ)
+  pub schema : Option (List ℕ)
 
 -- the same as the code has them
-abbrev pub as_paths : List (Bor (List ℕ)) → Option (Bor (List ℕ)) → Paths
-as_paths judged known = record { judged = texts judged; known = option_map (λ path. path.now) known }
+abbrev pub as_paths : declared_paths.Paths → Paths
+as_paths paths = record {
+  judged = texts paths.judged.now;
+  known = option_map (λ (path : Bor (List ℕ)). path.now) paths.known;
+  schema = option_map (λ (path : Bor (List ℕ)). path.now) paths.schema;
+}
 
 abbrev pub paths_of : Given → Paths
-paths_of given = record { judged = given.files; known = text (codes "--fragments") given }
+paths_of given = record {
+  judged = given.files;
+  known = text (codes "--fragments") given;
+  schema = text (codes "--schema") given;
+}
 
 -- the files, as a trait tells what three of its calls do
 module _ {S : Type 0} (lists : S → List ℕ → Listing → S → Type 0) (omits : S → List ℕ → Result Bool Error → S → Type 0)
     (reads : S → List ℕ → Result (List ℕ) Error → S → Type 0) where
-  -- The texts that are judged are read, and then those that are known. Those that were read are judged together. The
-  -- status is the greatest of all.
+  -- The texts of the schema are read, then those that are judged, and then those that are known. Those that were read
+  -- are judged together, the schema's too. The status is the greatest of all.
   pub record ChecksTexts (asked : Asked) (printing : Printing) (paths : Paths) (status : ℕ)
       (old new : State S) : Type 0 where
+    pub schema : Reading S
+    pub defined : ℕ
+    pub reads_schema : ReadsIfGiven lists omits reads paths.schema defined
+        (record { files = old.files; complaints = old.complaints; texts = no_texts }) schema
     pub first : Reading S
     pub read : ℕ
-    pub reads_all : ReadsTexts lists omits reads paths.judged read old.input new.input
-        (record { files = old.files; complaints = old.complaints; texts = no_texts }) first
+    pub reads_all : ReadsTexts lists omits reads paths.judged read old.input new.input schema first
     pub all : Reading S
     pub added : ℕ
-    pub reads_known : ReadsKnown lists omits reads paths.known added first all
+    pub reads_known : ReadsIfGiven lists omits reads paths.known added first all
     pub files : new.files ≡ all.files
     pub found : ℕ
-    pub judges : JudgesTexts (asked_of asked (length first.texts.inputs) all.texts.inputs) printing all.texts.inputs
-        found
+    pub judges : JudgesTexts
+        (asked_of asked (schema_texts paths.schema defined (length schema.texts.inputs)) (length first.texts.inputs)
+        all.texts.inputs)
+        printing all.texts.inputs found
         (record { output = old.output; complaints = all.complaints })
         (record { output = new.output; complaints = new.complaints })
-    pub greatest : status ≡ max (max read added) found
+    pub greatest : status ≡ max (max (max defined read) added) found
 
   -- That is done, and what comes after the texts is printed.
   pub record ChecksAndCloses (asked : Asked) (printing : Printing) (paths : Paths) (status : ℕ)

@@ -121,6 +121,6 @@ module _ {S : Type 0} (lists : S → List ℕ → Listing → S → Type 0) (omi
       InTurn ReadsPath (path ∷ paths) status old new × (input' ≡ input)
 
   -- The files that a path names are read, if there is one.
-  abbrev pub ReadsKnown : Option (List ℕ) → ℕ → Reading S → Reading S → Type 0
-  ReadsKnown None status old new = (status ≡ 0) × (new ≡ old)
-  ReadsKnown (Some path) status old new = ReadsPath path status old new
+  abbrev pub ReadsIfGiven : Option (List ℕ) → ℕ → Reading S → Reading S → Type 0
+  ReadsIfGiven None status old new = (status ≡ 0) × (new ≡ old)
+  ReadsIfGiven (Some path) status old new = ReadsPath path status old new

@@ -16,15 +16,16 @@ Checks GraphQL documents before they run: that each is a document, that all of
 them together keep the rules that need no schema, and that their operations are
 within limits. So an operation may spread a fragment of another FILE, and two
 FILEs must not define one name. Where a FILE is no document, only errors of that
-sort are found. Of a schema it checks only that no definition has two fields,
-arguments, values, members or interfaces of one name. Without FILE, or where
-FILE is -, it reads standard input. A FILE that is a folder means the files
-below it that end in .graphql, .graphqls or .gql, but for hidden names,
-node_modules and symbolic links. What a .gitignore, a .prettierignore or a
-.gqlfmtignore in its folder or above it leaves out is passed over, up to the top
-of the repository. A path that is named twice is read once. It prints what it
-finds and changes no file. Files without definitions pass, unless an operation
-is named.
+sort are found. With --schema it also checks fields, arguments, named types and
+directives by the types of a schema. Of the schema itself it checks only that no
+definition has two fields, arguments, values, members or interfaces of one name.
+Without FILE, or where FILE is -, it reads standard input. A FILE that is a
+folder means the files below it that end in .graphql, .graphqls or .gql, but for
+hidden names, node_modules and symbolic links. What a .gitignore, a
+.prettierignore or a .gqlfmtignore in its folder or above it leaves out is
+passed over, up to the top of the repository. A path that is named twice is read
+once. It prints what it finds and changes no file. Files without definitions
+pass, unless an operation is named.
 
   --max-depth N       fields in one another
   --max-fields N      fields, with each fragment counted where it is spread
@@ -39,6 +40,8 @@ is named.
                       nothing in it
   --operation NAME    limits and figures of this operation alone
   --figures           print each operation's figures, and the greatest of each
+  --schema PATH       a file or folder that defines the types by which operations
+                      and fragments are judged
   --fragments PATH    a file or folder whose fragments are known and not judged
   --allow RULES       do not judge these rules: names as messages have them in
                       brackets, joined by commas

@@ -1,15 +1,16 @@
 // A run of the program.
-ghost use Rattle.std.specs.Prelude.{◌≡◌, map};
+ghost use Rattle.std.specs.Prelude.{◌≡◌, map, option_map};
 ghost use Rattle.document_checks.specs.Checking.{as_asked};
 ghost use Rattle.command_lines.specs.Words.{texts};
 ghost use Rattle.command_lines.specs.Reading.{as_given};
 ghost use Rattle.gqlcheck_run.specs.Inputs.{as_input, as_texts};
 ghost use Rattle.gqlcheck_run.specs.Reading.{ReadsTexts};
 ghost use Rattle.gqlcheck_run.specs.Program.{ChecksAll, ChecksIfRules, ChecksTexts, Refuses, Runs, as_paths, asked_by};
-ghost use Rattle.gqlcheck_run.specs.Program.{asked_of, information_text, introspection_of, printing_of};
+ghost use Rattle.gqlcheck_run.specs.Program.{asked_of, information_text, introspection_of, paths_of, printing_of};
+ghost use Rattle.gqlcheck_run.specs.Program.{schema_texts};
 
 use crate::command::{HELP, PROGRAM, USAGE, VERSION};
-use crate::folders::{read_known, read_paths};
+use crate::folders::{read_if_given, read_paths};
 use crate::framing::{close, opening};
 use crate::inputs::{Input, Texts, bytes_in, read_input};
 use crate::job::{Job, Printing};
@@ -33,6 +34,27 @@ fn most_findings(format: Format) -> usize {
     }
 }
 
+// The paths of a run.
+#[derive(Clone, Copy)]
+struct Paths<'p> {
+    // those whose texts are judged
+    judged: &'p [&'p str],
+    // one whose texts are known, if one is given
+    known: Option<&'p str>,
+    // one of a schema, if one is given
+    schema: Option<&'p str>,
+}
+
+fn paths_of<'p, A: Allocator>(plan: &'p Plan<'_, A>) -> Paths<'p>
+    ensures { as_paths result ≡ paths_of (as_given plan.now) }
+{
+    Paths {
+        judged: plan.files.as_slice(),
+        known: plan.text("--fragments"),
+        schema: plan.text("--schema"),
+    }
+}
+
 fn information_text(page: Information) -> &'static str
     ensures { result.now ≡ information_text page }
 {
@@ -50,6 +72,17 @@ fn introspection_of<A: Allocator>(plan: &Plan<'_, A>) -> Introspection
         Introspection::LeftOut
     } else {
         Introspection::Counted
+    }
+}
+
+// How many texts are those of the schema, by its path and the status of its reading.
+fn schema_texts(path: Option<&str>, status: u8, texts: usize) -> Option<usize>
+    ensures { result ≡ schema_texts (option_map (λ p. p.now) path.entry) status texts }
+{
+    if path.is_some() && status == 0 {
+        Some(texts)
+    } else {
+        None
     }
 }
 
@@ -89,6 +122,7 @@ impl<'c, 'w, A: Allocator + Copy, C: DocumentChecker> Job<'c, 'w, A, C> {
                 operation: plan.operation(),
                 findings: most_findings(plan.format()),
                 judged: None,
+                schema: None,
                 rules: rules.judged,
                 warnings: rules.told,
                 steps: plan.number("--max-steps"),
@@ -100,10 +134,15 @@ impl<'c, 'w, A: Allocator + Copy, C: DocumentChecker> Job<'c, 'w, A, C> {
         }
     }
 
-    // The same for texts, of which as many as this are judged.
-    fn for_texts(&self, judged: usize, inputs: &[Input<A>]) -> Job<'c, 'w, A, C>
+    // The same for texts, of which some are those of a schema, and as many as this are judged.
+    fn for_texts(
+        &self,
+        schema: Option<usize>,
+        judged: usize,
+        inputs: &[Input<A>],
+    ) -> Job<'c, 'w, A, C>
         ensures asked { as_asked result.checks
-            ≡ asked_of (as_asked self.now.checks) judged (map as_input inputs.now) }
+            ≡ asked_of (as_asked self.now.checks) schema judged (map as_input inputs.now) }
         ensures printing { result.printing ≡ self.now.printing }
     {
         let steps = match self.checks.steps {
@@ -114,6 +153,7 @@ impl<'c, 'w, A: Allocator + Copy, C: DocumentChecker> Job<'c, 'w, A, C> {
             alloc: self.alloc,
             checker: self.checker,
             checks: Checks {
+                schema,
                 judged: Some(judged),
                 steps: Some(steps),
                 ..self.checks
@@ -122,8 +162,7 @@ impl<'c, 'w, A: Allocator + Copy, C: DocumentChecker> Job<'c, 'w, A, C> {
         }
     }
 
-    // Reads the files that these paths name, or standard input where there are none, checks them together, and gives
-    // the status.
+    // Reads the files that these paths name, checks them together, and gives the status.
     fn check_texts<R: Source, W: Sink, E: Sink, F: Files>(
         &self,
         reader: &mut R,
@@ -131,11 +170,10 @@ impl<'c, 'w, A: Allocator + Copy, C: DocumentChecker> Job<'c, 'w, A, C> {
         complaints: &mut E,
         files: &mut F,
         tally: &mut Tally,
-        paths: &[&str],
-        known: Option<&str>,
+        paths: Paths<'_>,
     ) -> u8
         ensures checks { ChecksTexts F.lists F.omits F.reads (as_asked self.now.checks) self.now.printing
-            (as_paths paths.now known.entry) result
+            (as_paths paths.entry) result
             (record {
               input = R.account reader.old;
               output = W.account writer.old;
@@ -150,13 +188,16 @@ impl<'c, 'w, A: Allocator + Copy, C: DocumentChecker> Job<'c, 'w, A, C> {
             }) }
         ensures quiet { result ≡ 0 → tally.new.errors ≡ tally.old.errors }
     {
-        let mut kept = Texts::new(self.alloc);
-        let read = read_texts(self.alloc, reader, complaints, files, &mut kept, paths);
+        let alloc = self.alloc;
+        let mut kept = Texts::new(alloc);
+        let defined = read_if_given(alloc, files, complaints, &mut kept, paths.schema);
+        let schema = schema_texts(paths.schema, defined, kept.inputs.len());
+        let read = read_texts(alloc, reader, complaints, files, &mut kept, paths.judged);
         let judged = kept.inputs.len();
-        let added = read_known(self.alloc, files, complaints, &mut kept, known);
-        let job = self.for_texts(judged, kept.inputs.as_slice());
+        let added = read_if_given(alloc, files, complaints, &mut kept, paths.known);
+        let job = self.for_texts(schema, judged, kept.inputs.as_slice());
         let found = job.check_inputs(writer, complaints, tally, kept.inputs.as_slice());
-        read.max(added).max(found)
+        defined.max(read).max(added).max(found)
     }
 
     // Does that between what comes before the texts and what comes after them, and gives the status of the run.
@@ -166,11 +207,10 @@ impl<'c, 'w, A: Allocator + Copy, C: DocumentChecker> Job<'c, 'w, A, C> {
         writer: &mut W,
         complaints: &mut E,
         files: &mut F,
-        paths: &[&str],
-        known: Option<&str>,
+        paths: Paths<'_>,
     ) -> u8
         ensures { ChecksAll F.lists F.omits F.reads (as_asked self.now.checks) self.now.printing
-            (as_paths paths.now known.entry) result
+            (as_paths paths.entry) result
             (record {
               input = R.account reader.old;
               output = W.account writer.old;
@@ -189,7 +229,7 @@ impl<'c, 'w, A: Allocator + Copy, C: DocumentChecker> Job<'c, 'w, A, C> {
             return opened;
         }
         let mut tally = Tally::NONE;
-        let status = self.check_texts(reader, writer, complaints, files, &mut tally, paths, known);
+        let status = self.check_texts(reader, writer, complaints, files, &mut tally, paths);
         close(
             self.alloc,
             self.printing,
@@ -239,9 +279,7 @@ fn check_by<A: Allocator + Copy, C: DocumentChecker, R: Source, W: Sink, E: Sink
     match Rules::of(alloc, plan.text("--allow"), plan.text("--warn")) {
         Ok(rules) => {
             let job = Job::of(alloc, checker, plan, rules);
-            let known = plan.text("--fragments");
-            let paths = plan.files.as_slice();
-            job.check_all(reader, writer, complaints, files, paths, known)
+            job.check_all(reader, writer, complaints, files, paths_of(plan))
         }
         Err(error) => refuse(alloc, complaints, error),
     }
@@ -249,10 +287,11 @@ fn check_by<A: Allocator + Copy, C: DocumentChecker, R: Source, W: Sink, E: Sink
 
 /// Carries out the request in the words after the program's name, and gives the status: 0 when all texts are read and
 /// pass together, 1 when they do not, 2 when something could not be read or written, memory was refused, or the program
-/// is not called so. Texts that are not read do not keep the others from being judged. Those of `--fragments` are known
-/// and not judged. Nothing is said on standard error but with status 2, and a text in which nothing is found prints
-/// nothing but its figures, if they are wanted. A SARIF log is one object for all texts: it is begun before the first
-/// and ended after the last. No file is changed.
+/// is not called so. Texts that are not read do not keep the others from being judged. Those of `--schema` are judged,
+/// too, and all that are judged by the types that they define, unless one of them was not read. Those of `--fragments`
+/// are known and not judged. Nothing is said on standard error but with status 2, and a text in which nothing is found
+/// prints nothing but its figures, if they are wanted. A SARIF log is one object for all texts: it is begun before the
+/// first and ended after the last. No file is changed.
 pub fn run<A: Allocator + Copy, C: DocumentChecker, R: Source, W: Sink, E: Sink, F: Files>(
     alloc: A,
     checker: &C,

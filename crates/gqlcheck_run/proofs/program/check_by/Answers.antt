@@ -16,11 +16,8 @@ returns-in-Ok g c =
       rw (c.text.ensures, c.text-2.ensures) at c.in-Ok.ensures,
       by_plan g.F.Files.lists g.F.Files.omits g.F.Files.reads (as_asked job.checks)
           (asked_by given c.in-Ok.rules.judged c.in-Ok.rules.told) job.printing (printing_of given)
-          (as_paths c.as_slice-paths.result.now c.text-known.result) (paths_of given) c.check_all.result _ _
-          c.of-job.ensures.asked c.of-job.ensures.printing
-          (ap₂ (λ (js : List (List ℕ)) (k : Option (List ℕ)). record { judged = js; known = k })
-          (ap texts c.as_slice-paths.ensures.value) c.text-known.ensures)
-          c.check_all.ensures,
+          (as_paths c.paths_of.result) (paths_of given) c.check_all.result _ _
+          c.of-job.ensures.asked c.of-job.ensures.printing c.paths_of.ensures c.check_all.ensures,
     ))
 
 pub returns-in-Err : goal.returns-in-Err

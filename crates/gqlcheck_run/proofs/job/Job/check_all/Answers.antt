@@ -17,7 +17,7 @@ returns-then-opened-ne0 g c = record {
   files = refl;
   continues =
       stopped g.F.Files.lists g.F.Files.omits g.F.Files.reads (as_asked c.args.self.now.checks) c.args.self.now.printing
-      (as_paths c.args.paths.now c.args.known) c.print-opened.result _
+      (as_paths c.args.paths) c.print-opened.result _
       c.if-opened-ne0.true;
 }
 
@@ -34,7 +34,7 @@ returns g c = record {
   files = refl;
   continues =
       went_on g.F.Files.lists g.F.Files.omits g.F.Files.reads (as_asked c.args.self.now.checks) c.args.self.now.printing
-      (as_paths c.args.paths.now c.args.known) c.print-opened.result
+      (as_paths c.args.paths) c.print-opened.result
       c.close.result _ _ c.if-opened-ne0.false (record {
         checked = record {
           input = g.R.Source.account c.check_texts-status.new.reader;
