@@ -6,8 +6,8 @@ use Rattle.std.proofs.lemmas.Slice.Eq.{bytes_eq-Decides}
 use Rattle.std.specs.List.{find}
 use Rattle.std.specs.Option.{option_or}
 use Rattle.std.specs.Prelude.{is_some, option_map}
-use Rattle.validation_names.specs.Mentions.{name_of}
 use Rattle.validation_names.specs.Names.{Entries, Enters, Name, entry_of}
+use Rattle.validation_names.specs.OwnNames.{own_name}
 use Rattle.validation_names.specs.Sites.{Located}
 use Rattle.type_system.specs.Definitions.{is_named}
 use Rattle.type_system.specs.Tables.{one_if}
@@ -58,7 +58,7 @@ module _ {V W : Type 0} (view : V → W) where
 
 -- The name of a definition decides which entry is new.
 pub under_name : {W : Type 0} (d : Located) (n : Name) (before after : Name → Option W) (w : W)
-    → name_of d.place ≡ Some n → ((q : Name) → after q ≡ option_or (before q) (one_if (bytes_eq n q) w))
+    → own_name d.place ≡ Some n → ((q : Name) → after q ≡ option_or (before q) (one_if (bytes_eq n q) w))
     → (q : Name) → after q ≡ option_or (before q) (one_if (is_named q d) w)
 under_name d n before after w named is q = rw named (is q)
 

@@ -10,6 +10,7 @@ use Rattle.apollo_tree.specs.Order.{Place, text_at}
 use Rattle.apollo_cst_core.specs.Kinds.{is_of, is_of_one}
 use Rattle.validation_names.specs.Mentions.{name_of}
 use Rattle.validation_names.specs.Names.{Name, has_name}
+use Rattle.validation_names.specs.OwnNames.{own_name}
 use Rattle.validation_names.specs.Sites.{Located, located, nodes}
 use Rattle.type_system.specs.Operations.{word_of}
 use Rattle.type_system.specs.declared.kinds.OperationType.{OperationType}
@@ -21,11 +22,15 @@ abbrev pub named_as : List SyntaxKind → Located → Option Name
 named_as kinds d = if is_of_one kinds d.place then name_of d.place else None
 
 abbrev pub is_named : Name → Located → Bool
-is_named name d = has_name name (name_of d.place)
+is_named name d = has_name name (own_name d.place)
 
 -- What is in the blocks of a kind in a definition. For example, the fields of a type are in its FIELDS_DEFINITION.
 abbrev pub items : SyntaxKind → Located → List Located
 items block d = map (located d.document) (flat_map child_nodes (filter (is_of block) (child_nodes d.place)))
+
+-- what is in a node
+abbrev pub children : Located → List Located
+children d = map (located d.document) (child_nodes d.place)
 
 -- ---- 2.11: types that definitions refer to
 abbrev pub type_reference : Place → Option Place

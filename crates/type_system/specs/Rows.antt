@@ -1,17 +1,17 @@
 -- Rows of items: for each definition of a type, what its definitions and extensions have in blocks of a kind.
 use Rattle.std.specs.Prelude.{◌≡◌, ℕ, ◌<◌, List, [], ◌++◌, length, map, Option, Some, if◌then◌else◌, slice_get, Bool}
-use Rattle.std.specs.Prelude.{slice_index_or, option_and_then}
+use Rattle.std.specs.Prelude.{slice_index_or, option_and_then, option_map}
 use Rattle.std.specs.declared.alloc.Global.{Global}
 use Rattle.std.specs.declared.vec.Vec.{Vec}
 use Rattle.document_grammar.specs.declared.kind.SyntaxKind.{SyntaxKind}
-use Rattle.validation_names.specs.Names.{Entries, Name}
+use Rattle.validation_names.specs.Names.{Name}
 use Rattle.validation_names.specs.Sites.{Located, as_located}
 use Rattle.validation_names.specs.declared.sites.Site.{Site}
 use Rattle.type_system.specs.Definitions.{items}
-use Rattle.type_system.specs.Schemas.{entered}
-use Rattle.type_system.specs.Tables.{AreFirstFields}
-use Rattle.type_system.specs.Types.{TypeNumbers, WithArguments, field_in, is_part_of}
-use Rattle.type_system.specs.declared.schema.DefinitionWithArguments.{DefinitionWithArguments}
+use Rattle.type_system.specs.Schemas.{as_with_arguments, entered, entered_site}
+use Rattle.type_system.specs.Tables.{AreFirst, AreFirstFields}
+use Rattle.type_system.specs.Types.{TypeNumbers, field_in, input_in, is_part_of, value_in, with_those}
+use Rattle.type_system.specs.declared.schema.TypeParts.{TypeParts}
 
 abbrev pub Rows : Type 0
 Rows = List (Vec Site Global)
@@ -39,18 +39,26 @@ pub record AddsItems (numbers : TypeNumbers) (block : SyntaxKind) (d : Located) 
   pub each : (number : ℕ) → number < length old
       → row_at new number ≡ row_at old number ++ items_if (is_part_of numbers number d) block d
 
-abbrev pub Tables : Type 0
-Tables = List (Entries DefinitionWithArguments)
+-- What a type has: its fields, its values, and what it is given as an input object.
+pub record AreOf
+    (numbers : TypeNumbers) (d : Located) (fs vs is : List Located) (parts : TypeParts) : Type 0 where
+  pub fields : AreFirstFields numbers parts.fields fs
+  pub values : AreFirst parts.values vs
+  pub input : as_with_arguments parts.input ≡ with_those numbers d is
 
--- Each table has the fields of the row with its number.
-pub record AreFieldRows (numbers : TypeNumbers) (rows : Rows) (tables : Tables) : Type 0 where
-  pub as_many : length tables ≡ length rows
-  pub each : (number : ℕ) (table : Entries DefinitionWithArguments) → slice_get tables number ≡ Some table
-      → AreFirstFields numbers table (row_at rows number)
+-- Each type has what the rows with its number have.
+pub record AreOfRows
+    (numbers : TypeNumbers) (ds : List Located) (fields values inputs : Rows) (parts : List TypeParts) (count : ℕ)
+    : Type 0 where
+  pub as_many : length parts ≡ count
+  pub each : (number : ℕ) (d : Located) (p : TypeParts) → slice_get ds number ≡ Some d → slice_get parts number ≡ Some p
+      → AreOf numbers d (row_at fields number) (row_at values number) (row_at inputs number) p
 
-abbrev pub field_at : Tables → ℕ → Name → Option WithArguments
-field_at tables number name = option_and_then (λ table. entered table name) (slice_get tables number)
-
--- The tables have the fields of the types with their numbers.
-abbrev pub AreFields : TypeNumbers → List Located → Tables → Type 0
-AreFields numbers ds tables = (number : ℕ) (name : Name) → field_at tables number name ≡ field_in numbers ds number name
+-- They have what the definitions and extensions of the types have.
+pub record AreParts (numbers : TypeNumbers) (ds : List Located) (parts : List TypeParts) : Type 0 where
+  pub fields : (number : ℕ) (name : Name)
+      → option_and_then (λ p. entered p.fields name) (slice_get parts number) ≡ field_in numbers ds number name
+  pub values : (number : ℕ) (name : Name)
+      → option_and_then (λ p. entered_site p.values name) (slice_get parts number) ≡ value_in numbers ds number name
+  pub inputs : (number : ℕ)
+      → option_map (λ p. as_with_arguments p.input) (slice_get parts number) ≡ input_in numbers ds number

@@ -1,7 +1,8 @@
 -- What the tables of a schema answer.
 use Rattle.std.specs.Prelude.{ℕ, map, Option, option_map, option_and_then, slice_get}
 use Rattle.validation_names.specs.Names.{Entries, Name, entry_of}
-use Rattle.validation_names.specs.Sites.{as_located}
+use Rattle.validation_names.specs.Sites.{Located, as_located}
+use Rattle.validation_names.specs.declared.sites.Site.{Site}
 use Rattle.type_system.specs.Types.{Typed, Types, WithArguments}
 use Rattle.type_system.specs.declared.kinds.OperationType.{OperationType}
 use Rattle.type_system.specs.declared.kinds.OperationType.TheVariants.{Query, Mutation, Subscription}
@@ -20,6 +21,9 @@ as_with_arguments d = record {
 }
 
 -- what is entered under a name
+abbrev pub entered_site : Entries Site → Name → Option Located
+entered_site entries name = option_map as_located (entry_of entries name)
+
 abbrev pub entered : Entries DefinitionWithArguments → Name → Option WithArguments
 entered entries name = option_map as_with_arguments (entry_of entries name)
 
@@ -32,7 +36,9 @@ abbrev pub types : Schema → Types
 types s = record {
   type_named = entry_of s.types;
   definition_at = λ number. option_map as_located (slice_get s.definitions.items number);
-  field_named = λ number name. option_and_then (λ fields. entered fields name) (slice_get s.fields.items number);
+  field_named = λ number name. option_and_then (λ p. entered p.fields name) (slice_get s.parts.items number);
+  value_named = λ number name. option_and_then (λ p. entered_site p.values name) (slice_get s.parts.items number);
+  input_at = λ number. option_map (λ p. as_with_arguments p.input) (slice_get s.parts.items number);
   each_field = entered s.each_fields;
   query_field = entered s.query_fields;
   directive_named = entered s.directives;

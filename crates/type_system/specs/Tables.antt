@@ -2,10 +2,10 @@
 use Rattle.std.specs.Option.{option_or}
 use Rattle.std.specs.Prelude.{◌≡◌, List, Bool, Option, Some, None, option_map, if◌then◌else◌}
 use Rattle.validation_names.specs.Names.{Entries, Name, entry_of}
-use Rattle.validation_names.specs.Sites.{Located, as_located}
+use Rattle.validation_names.specs.Sites.{Located}
 use Rattle.validation_names.specs.declared.sites.Site.{Site}
 use Rattle.type_system.specs.Definitions.{is_named}
-use Rattle.type_system.specs.Schemas.{as_typed, entered}
+use Rattle.type_system.specs.Schemas.{as_typed, entered, entered_site}
 use Rattle.type_system.specs.Types.{TypeNumbers, Typed, first_field, first_named, typed, with_arguments}
 use Rattle.type_system.specs.declared.schema.DefinitionWithArguments.{DefinitionWithArguments}
 use Rattle.type_system.specs.declared.schema.TypedDefinition.{TypedDefinition}
@@ -37,9 +37,6 @@ abbrev pub AreFirstFields : TypeNumbers → Entries DefinitionWithArguments → 
 AreFirstFields numbers entries ds = (q : Name) → entered entries q ≡ first_field numbers ds q
 
 -- the same of definitions as they are
-abbrev pub entered_site : Entries Site → Name → Option Located
-entered_site entries name = option_map as_located (entry_of entries name)
-
 abbrev pub EntersSite : Entries Site → Entries Site → Located → Type 0
 EntersSite old new d = (q : Name) → entered_site new q ≡ option_or (entered_site old q) (one_if (is_named q d) d)
 

@@ -6,14 +6,14 @@ use Rattle.std.specs.Option.{option_or}
 use Rattle.std.specs.Prelude.{ℕ, List, map, Bool, false, ◌==◌, Option, Some, None, option_map, option_and_then}
 use Rattle.std.specs.Prelude.{if◌then◌else◌, slice_get}
 use Rattle.document_grammar.specs.declared.kind.SyntaxKind.{SyntaxKind}
-use Rattle.document_grammar.specs.declared.kind.SyntaxKind.TheVariants.{ARGUMENTS_DEFINITION, FIELDS_DEFINITION}
+use Rattle.document_grammar.specs.declared.kind.SyntaxKind.TheVariants.{ARGUMENTS_DEFINITION, ENUM_VALUES_DEFINITION}
+use Rattle.document_grammar.specs.declared.kind.SyntaxKind.TheVariants.{FIELDS_DEFINITION, INPUT_FIELDS_DEFINITION}
 use Rattle.document_grammar.specs.declared.kind.SyntaxKind.TheVariants.{SCHEMA_DEFINITION}
-use Rattle.apollo_tree.specs.Children.{child_nodes}
 use Rattle.apollo_tree.specs.Order.{Place}
 use Rattle.apollo_cst_core.specs.Kinds.{is_of, is_of_one}
 use Rattle.validation_names.specs.Names.{Name, first_number, has_name}
-use Rattle.validation_names.specs.Sites.{Located, all_definitions, located}
-use Rattle.type_system.specs.Definitions.{is_named, is_required, is_root, items, named_as, named_type}
+use Rattle.validation_names.specs.Sites.{Located, all_definitions}
+use Rattle.type_system.specs.Definitions.{children, is_named, is_required, is_root, items, named_as, named_type}
 use Rattle.type_system.specs.Operations.{default_root_name}
 use Rattle.type_system.specs.declared.kinds.OperationType.{OperationType}
 use Rattle.type_system.specs.declared.kinds.TheConstants.{DIRECTIVES, SCHEMAS, TYPES, TYPE_PARTS}
@@ -37,7 +37,8 @@ pub record Typed : Type 0 where
 abbrev pub typed : TypeNumbers → Located → Typed
 typed numbers d = record { site = d; type = option_and_then numbers (named_type d.place) }
 
--- a definition with arguments: of a field, which has a type too, or of a directive
+-- a definition with arguments: of a field, which has a type too, or of a directive. Those of an input object are its
+-- fields.
 pub record WithArguments : Type 0 where
   pub definition : Typed
   -- the first argument with a name
@@ -49,16 +50,16 @@ pub record WithArguments : Type 0 where
 abbrev pub first_named : List Located → Name → Option Located
 first_named ds name = find (is_named name) ds
 
--- 3.6.1 and 3.13
-abbrev pub argument_in : TypeNumbers → Located → Name → Option Typed
-argument_in numbers d name = option_map (typed numbers) (first_named (items ARGUMENTS_DEFINITION d) name)
-
-abbrev pub with_arguments : TypeNumbers → Located → WithArguments
-with_arguments numbers d = record {
+abbrev pub with_those : TypeNumbers → Located → List Located → WithArguments
+with_those numbers d arguments = record {
   definition = typed numbers d;
-  argument_named = argument_in numbers d;
-  required = filter is_required (items ARGUMENTS_DEFINITION d);
+  argument_named = λ name. option_map (typed numbers) (first_named arguments name);
+  required = filter is_required arguments;
 }
+
+-- 3.6.1 and 3.13
+abbrev pub with_arguments : TypeNumbers → Located → WithArguments
+with_arguments numbers d = with_those numbers d (items ARGUMENTS_DEFINITION d)
 
 -- ---- 3.6 and 3.7: fields of types, and 3.6.3 and 3.7.1: those that extensions add
 -- the type that a definition or an extension is about
@@ -83,6 +84,16 @@ abbrev pub field_in : TypeNumbers → List Located → ℕ → Name → Option W
 field_in numbers ds number name =
     option_and_then (λ _. first_field numbers (items_of numbers FIELDS_DEFINITION ds number) name) (slice_get ds number)
 
+-- 3.9 and 3.9.1: the values of an enum
+abbrev pub value_in : TypeNumbers → List Located → ℕ → Name → Option Located
+value_in numbers ds number name =
+    option_and_then (λ _. first_named (items_of numbers ENUM_VALUES_DEFINITION ds number) name) (slice_get ds number)
+
+-- 3.10 and 3.10.1: An input object is given its fields, as a field is given its arguments.
+abbrev pub input_in : TypeNumbers → List Located → ℕ → Option WithArguments
+input_in numbers ds number =
+    option_map (λ d. with_those numbers d (items_of numbers INPUT_FIELDS_DEFINITION ds number)) (slice_get ds number)
+
 -- ---- 4.1 and 4.2: fields that need no definition
 -- The standard gives them no type to be in. Here they are in extensions of types that are not defined.
 abbrev pub is_named_as : List SyntaxKind → Name → Located → Bool
@@ -97,9 +108,6 @@ directives_in ds = filter (λ (d : Located). is_of_one DIRECTIVES d.place) ds
 
 -- ---- 3.3.1: root types: those that the definition of a schema and its extensions give; without a definition also
 -- those with the default names
-abbrev pub children : Located → List Located
-children d = map (located d.document) (child_nodes d.place)
-
 abbrev pub roots_in : List Located → List Located
 roots_in ds = flat_map children (filter (λ (d : Located). is_of_one SCHEMAS d.place) ds)
 
@@ -126,6 +134,9 @@ pub record Types : Type 0 where
   pub definition_at : ℕ → Option Located
   -- a field of the type with a number
   pub field_named : ℕ → Name → Option WithArguments
+  -- a value of the enum with a number, and what is given to the input object with a number
+  pub value_named : ℕ → Name → Option Located
+  pub input_at : ℕ → Option WithArguments
   -- 4.1: a field of each type from which fields are selected: `__typename`
   pub each_field : Name → Option WithArguments
   -- 4.2: a field of the root of queries: `__schema` or `__type`
@@ -140,6 +151,8 @@ types_by numbers ds = record {
   type_named = numbers;
   definition_at = slice_get ds;
   field_named = field_in numbers ds;
+  value_named = value_in numbers ds;
+  input_at = input_in numbers ds;
   each_field = first_field numbers (meta_fields ds EACH_TYPE.now);
   query_field = first_field numbers (meta_fields ds QUERY_ROOT.now);
   directive_named = first_field numbers (directives_in ds);

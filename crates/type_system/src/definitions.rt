@@ -9,7 +9,7 @@ use crate::kinds::OperationType;
 use apollo_cst_core::{child_of, is_one_of};
 use apollo_tree::{SyntaxKind, SyntaxNode};
 use std::alloc::{AllocError, Global};
-use validation_names::{Site, name};
+use validation_names::{Site, name, own_name};
 
 // Adds the child nodes of a node.
 pub(crate) fn push_children<'t>(
@@ -85,7 +85,7 @@ pub(crate) fn named_as<'t>(site: &Site<'t>, kinds: &[SyntaxKind]) -> Option<&'t 
 pub(crate) fn is_named(site: &Site<'_>, wanted: &str) -> bool
     ensures { result ≡ is_named wanted.now (as_located site.now) }
 {
-    match name(&site.node) {
+    match own_name(&site.node) {
         Some(other) => other == wanted,
         None => false,
     }

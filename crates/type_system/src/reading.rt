@@ -9,7 +9,7 @@ ghost use Rattle.apollo_tree.specs.References.{node_place};
 ghost use Rattle.validation_names.specs.Names.{entry_of};
 ghost use Rattle.validation_names.specs.Sites.{Located, as_located};
 ghost use Rattle.type_system.specs.Definitions.{is_root, named_type};
-ghost use Rattle.type_system.specs.Rows.{AddsItems, AreFieldRows, AreFields, AreRows, nothing};
+ghost use Rattle.type_system.specs.Rows.{AddsItems, AreOf, AreOfRows, AreParts, AreRows, nothing};
 ghost use Rattle.type_system.specs.Tables.{AreFirstFields};
 ghost use Rattle.type_system.specs.Schemas.{types};
 ghost use Rattle.type_system.specs.Types.{directives_in, given_root, has_schema, is_named_as, items_of, meta_fields};
@@ -18,9 +18,9 @@ ghost use Rattle.type_system.specs.declared.kinds.TheConstants.{TYPE_PARTS};
 
 use crate::definitions::{all_definitions, is_root, named_as, push_children, push_items};
 use crate::kinds::{DIRECTIVES, OperationType, SCHEMAS, TYPE_PARTS, TYPES};
-use crate::schema::{DefinitionWithArguments, Schema};
+use crate::schema::{DefinitionWithArguments, Schema, TypeParts};
 use crate::standard::{EACH_TYPE, QUERY_ROOT};
-use crate::tables::{first_fields, first_numbers};
+use crate::tables::{first_by_name, first_fields, first_numbers, with_those};
 use crate::type_references::named_type;
 use apollo_cst_core::is_one_of;
 use apollo_tree::{SyntaxKind, SyntaxNode};
@@ -83,20 +83,59 @@ fn rows<'t>(
     Ok(rows)
 }
 
-// The tables of the rows.
-fn field_tables<'t>(
+// What a type has.
+fn parts_of<'t>(
     alloc: Global,
     types: &BTreeMap<&'t str, usize>,
-    rows: &[Vec<Site<'t>>],
-) -> Result<Vec<BTreeMap<&'t str, DefinitionWithArguments<'t>>>, AllocError>
-    ensures { IfOk result (λ tables. AreFieldRows (entry_of types.now) rows.now tables.items) }
+    site: &Site<'t>,
+    fields: &[Site<'t>],
+    values: &[Site<'t>],
+    inputs: &[Site<'t>],
+) -> Result<TypeParts<'t>, AllocError>
+    ensures { IfOk result (λ parts.
+        AreOf (entry_of types.now) (as_located site.now) (map as_located fields.now) (map as_located values.now)
+        (map as_located inputs.now) parts) }
 {
-    let mut tables = Vec::new(alloc);
-    for row in rows {
-        let table = first_fields(alloc, types, row.as_slice())?;
-        tables.push(table)?;
+    let fields = first_fields(alloc, types, fields)?;
+    let values = first_by_name(alloc, values)?;
+    let input = with_those(alloc, types, site, inputs)?;
+    Ok(TypeParts {
+        fields,
+        values,
+        input,
+    })
+}
+
+// For each definition what the type with its number has, by the rows of the fields, the values and the input fields.
+fn parts_of_rows<'t>(
+    alloc: Global,
+    types: &BTreeMap<&'t str, usize>,
+    definitions: &[Site<'t>],
+    fields: &[Vec<Site<'t>>],
+    values: &[Vec<Site<'t>>],
+    inputs: &[Vec<Site<'t>>],
+) -> Result<Vec<TypeParts<'t>>, AllocError>
+    requires fields { length fields.now ≡ length definitions.now }
+    requires values { length values.now ≡ length definitions.now }
+    requires inputs { length inputs.now ≡ length definitions.now }
+    ensures { IfOk result (λ parts.
+        AreOfRows (entry_of types.now) (map as_located definitions.now) fields.now values.now inputs.now parts.items
+        (length definitions.now)) }
+{
+    let mut parts = Vec::new(alloc);
+    for (number, site) in definitions.iter().enumerate() {
+        let (fields, values, inputs) = (&fields[number], &values[number], &inputs[number]);
+        let own = parts_of(
+            alloc,
+            types,
+            site,
+            fields.as_slice(),
+            values.as_slice(),
+            inputs.as_slice(),
+        )?;
+        parts.push(own)?;
     }
-    Ok(tables)
+    Ok(parts)
 }
 
 // Whether a definition or an extension is about a name.
@@ -201,17 +240,29 @@ fn root(
     types.get(operation.default_root_name()).copied()
 }
 
-// The tables of the fields of all types.
-fn fields<'t>(
+// For each definition what the type with its number has.
+fn parts<'t>(
     alloc: Global,
     types: &BTreeMap<&'t str, usize>,
     definitions: &[Site<'t>],
-) -> Result<Vec<BTreeMap<&'t str, DefinitionWithArguments<'t>>>, AllocError>
-    ensures { IfOk result (λ tables. AreFields (entry_of types.now) (map as_located definitions.now) tables.items) }
+) -> Result<Vec<TypeParts<'t>>, AllocError>
+    ensures { IfOk result (λ parts. AreParts (entry_of types.now) (map as_located definitions.now) parts.items) }
 {
-    let rows = rows(alloc, types, definitions, SyntaxKind::FIELDS_DEFINITION)?;
-    let tables = field_tables(alloc, types, &rows)?;
-    Ok(tables)
+    let fields = rows(alloc, types, definitions, SyntaxKind::FIELDS_DEFINITION)?;
+    let values = rows(
+        alloc,
+        types,
+        definitions,
+        SyntaxKind::ENUM_VALUES_DEFINITION,
+    )?;
+    let inputs = rows(
+        alloc,
+        types,
+        definitions,
+        SyntaxKind::INPUT_FIELDS_DEFINITION,
+    )?;
+    let parts = parts_of_rows(alloc, types, definitions, &fields, &values, &inputs)?;
+    Ok(parts)
 }
 
 // The table of the fields in the extensions of a name.
@@ -249,7 +300,7 @@ fn from_definitions<'t>(alloc: Global, definitions: Vec<Site<'t>>) -> Result<Sch
 {
     let sites = definitions.as_slice();
     let types = first_numbers(alloc, sites, &TYPES)?;
-    let fields = fields(alloc, &types, sites)?;
+    let parts = parts(alloc, &types, sites)?;
     let each_fields = meta_table(alloc, &types, sites, EACH_TYPE)?;
     let query_fields = meta_table(alloc, &types, sites, QUERY_ROOT)?;
     let directives = directive_table(alloc, &types, sites)?;
@@ -262,7 +313,7 @@ fn from_definitions<'t>(alloc: Global, definitions: Vec<Site<'t>>) -> Result<Sch
     Ok(Schema {
         definitions,
         types,
-        fields,
+        parts,
         each_fields,
         query_fields,
         directives,

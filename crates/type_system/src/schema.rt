@@ -14,7 +14,8 @@ pub struct TypedDefinition<'t> {
     pub type_number: Option<usize>,
 }
 
-/// A definition with arguments: of a field, which has a type too, or of a directive.
+/// A definition with arguments: of a field, which has a type too, or of a directive. Those of an input object are its
+/// fields.
 #[derive(Drop)]
 pub struct DefinitionWithArguments<'t> {
     pub definition: TypedDefinition<'t>,
@@ -42,14 +43,22 @@ impl<'t> DefinitionWithArguments<'t> {
     }
 }
 
+// What a type has by its definitions and extensions: its fields, its values, and what it is given as an input object.
+#[derive(Drop)]
+pub(crate) struct TypeParts<'t> {
+    pub fields: BTreeMap<&'t str, DefinitionWithArguments<'t>>,
+    pub values: BTreeMap<&'t str, Site<'t>>,
+    pub input: DefinitionWithArguments<'t>,
+}
+
 /// What documents define together. A type has the number of the first definition of its name, among all definitions of
 /// all documents.
 #[derive(Drop)]
 pub struct Schema<'t> {
     pub(crate) definitions: Vec<Site<'t>>,
     pub(crate) types: BTreeMap<&'t str, usize>,
-    // The fields of the type with a number.
-    pub(crate) fields: Vec<BTreeMap<&'t str, DefinitionWithArguments<'t>>>,
+    // For each definition what the type with its number has.
+    pub(crate) parts: Vec<TypeParts<'t>>,
     pub(crate) each_fields: BTreeMap<&'t str, DefinitionWithArguments<'t>>,
     pub(crate) query_fields: BTreeMap<&'t str, DefinitionWithArguments<'t>>,
     pub(crate) directives: BTreeMap<&'t str, DefinitionWithArguments<'t>>,
@@ -81,7 +90,21 @@ impl<'t> Schema<'t> {
     pub fn field_named(&self, number: usize, name: &str) -> Option<&DefinitionWithArguments<'t>>
         ensures { option_map (λ f. as_with_arguments f.now) result ≡ (types self.now).field_named number name.now }
     {
-        self.fields.get(number)?.get(name)
+        self.parts.get(number)?.fields.get(name)
+    }
+
+    /// The value with a name of the enum with a number.
+    pub fn value_named(&self, number: usize, name: &str) -> Option<Site<'t>>
+        ensures { option_map as_located result ≡ (types self.now).value_named number name.now }
+    {
+        self.parts.get(number)?.values.get(name).copied()
+    }
+
+    /// What is given to the input object with a number: its fields are here in the place of arguments.
+    pub fn input_at(&self, number: usize) -> Option<&DefinitionWithArguments<'t>>
+        ensures { option_map (λ d. as_with_arguments d.now) result ≡ (types self.now).input_at number }
+    {
+        Some(&self.parts.get(number)?.input)
     }
 
     /// The field with a name that each type has from which fields are selected: `__typename` (section 4.1).

@@ -7,7 +7,7 @@ ghost use Rattle.type_system.specs.Definitions.{is_required, named_as};
 ghost use Rattle.type_system.specs.Schemas.{as_typed, as_with_arguments};
 ghost use Rattle.type_system.specs.Tables.{AreFirst, AreFirstFields, AreFirstTyped, EntersField, EntersSite};
 ghost use Rattle.type_system.specs.Tables.{EntersTyped};
-ghost use Rattle.type_system.specs.Types.{typed, with_arguments};
+ghost use Rattle.type_system.specs.Types.{typed, with_arguments, with_those};
 
 use crate::definitions::{items, named_as};
 use crate::schema::{DefinitionWithArguments, TypedDefinition};
@@ -15,7 +15,7 @@ use crate::type_references::{is_required, named_type};
 use apollo_tree::SyntaxKind;
 use std::alloc::{AllocError, Global};
 use std::collections::BTreeMap;
-use validation_names::{Site, enter, is_entered, name};
+use validation_names::{Site, enter, is_entered, own_name};
 
 /// For each name, the number of the first definition that defines it, of those of some kinds.
 pub(crate) fn first_numbers<'t>(
@@ -57,7 +57,7 @@ fn enter_typed<'t>(
 ) -> Result<(), AllocError>
     ensures { OnOk result (EntersTyped (entry_of types.now) entries.old entries.new (as_located site.now)) }
 {
-    if let Some(name) = name(&site.node) {
+    if let Some(name) = own_name(&site.node) {
         enter(entries, name, typed(types, site))?;
     }
     Ok(())
@@ -92,6 +92,25 @@ fn required<'t>(alloc: Global, sites: &[Site<'t>]) -> Result<Vec<Site<'t>>, Allo
     Ok(found)
 }
 
+// A definition with these arguments.
+pub(crate) fn with_those<'t>(
+    alloc: Global,
+    types: &BTreeMap<&'t str, usize>,
+    site: &Site<'t>,
+    sites: &[Site<'t>],
+) -> Result<DefinitionWithArguments<'t>, AllocError>
+    ensures { IfOk result (λ d.
+        as_with_arguments d ≡ with_those (entry_of types.now) (as_located site.now) (map as_located sites.now)) }
+{
+    let arguments = first_typed(alloc, types, sites)?;
+    let required = required(alloc, sites)?;
+    Ok(DefinitionWithArguments {
+        definition: typed(types, site),
+        arguments,
+        required,
+    })
+}
+
 // A definition with its arguments.
 fn with_arguments<'t>(
     alloc: Global,
@@ -101,13 +120,8 @@ fn with_arguments<'t>(
     ensures { IfOk result (λ d. as_with_arguments d ≡ with_arguments (entry_of types.now) (as_located site.now)) }
 {
     let sites = items(alloc, site, SyntaxKind::ARGUMENTS_DEFINITION)?;
-    let arguments = first_typed(alloc, types, &sites)?;
-    let required = required(alloc, &sites)?;
-    Ok(DefinitionWithArguments {
-        definition: typed(types, site),
-        arguments,
-        required,
-    })
+    let definition = with_those(alloc, types, site, &sites)?;
+    Ok(definition)
 }
 
 // Enters a field or a directive, if it has a name, and none is entered under it.
@@ -119,7 +133,7 @@ fn enter_field<'t>(
 ) -> Result<(), AllocError>
     ensures { OnOk result (EntersField (entry_of types.now) entries.old entries.new (as_located site.now)) }
 {
-    let Some(name) = name(&site.node) else {
+    let Some(name) = own_name(&site.node) else {
         return Ok(());
     };
     if is_entered(entries, name) {
@@ -153,7 +167,7 @@ fn enter_site<'t>(
 ) -> Result<(), AllocError>
     ensures { OnOk result (EntersSite entries.old entries.new (as_located site.now)) }
 {
-    if let Some(name) = name(&site.node) {
+    if let Some(name) = own_name(&site.node) {
         enter(entries, name, *site)?;
     }
     Ok(())

@@ -13,7 +13,7 @@ returns c =
     let schema : Schema = record {
       definitions = c.args.definitions;
       types = c.in_ok-types.types;
-      fields = c.in_ok-fields.fields;
+      parts = c.in_ok-parts.parts;
       each_fields = c.in_ok-each_fields.each_fields;
       query_fields = c.in_ok-query_fields.query_fields;
       directives = c.in_ok-directives.directives;
@@ -23,7 +23,7 @@ returns c =
     } in
     let ds = map as_located c.args.definitions.items in
     let all = c.as_slice-sites.ensures.value in
-    same_types schema ds refl (rw all at c.in_ok-types.ensures) (rw all at c.in_ok-fields.ensures)
+    same_types schema ds refl (rw all at c.in_ok-types.ensures) (rw all at c.in_ok-parts.ensures)
     (rw all at c.in_ok-each_fields.ensures) (rw all at c.in_ok-query_fields.ensures)
     (rw all at c.in_ok-directives.ensures)
     (λ operation. elim operation as (λ o. root_at schema o ≡ root_in (entry_of schema.types) ds o) [

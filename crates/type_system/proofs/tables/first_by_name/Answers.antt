@@ -3,7 +3,7 @@ use Rattle.validation_names.specs.Sites.{as_located}
 use Rattle.type_system.proofs.Picked.{mapped_more}
 use Rattle.type_system.proofs.TableLemmas.{first_site_more}
 use Rattle.type_system.proofs.tables.first_by_name.Goals as goal
-use Rattle.type_system.specs.Tables.{entered_site}
+use Rattle.type_system.specs.Schemas.{entered_site}
 
 pub loop-site-preserved : goal.loop-site-preserved
 loop-site-preserved c =
