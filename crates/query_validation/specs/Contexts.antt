@@ -6,31 +6,45 @@ use Rattle.std.specs.Prelude.{if◌then◌else◌}
 use denote.Ref.{Bor}
 use Rattle.document_grammar.specs.declared.kind.SyntaxKind.{SyntaxKind}
 use Rattle.document_grammar.specs.declared.kind.SyntaxKind.TheVariants.{DIRECTIVE, FIELD, FRAGMENT_DEFINITION}
-use Rattle.document_grammar.specs.declared.kind.SyntaxKind.TheVariants.{INLINE_FRAGMENT, OPERATION_DEFINITION}
-use Rattle.document_grammar.specs.declared.kind.SyntaxKind.TheVariants.{TYPE_CONDITION}
+use Rattle.document_grammar.specs.declared.kind.SyntaxKind.TheVariants.{INLINE_FRAGMENT, INPUT_OBJECT_TYPE_DEFINITION}
+use Rattle.document_grammar.specs.declared.kind.SyntaxKind.TheVariants.{LIST_VALUE, OBJECT_VALUE}
+use Rattle.document_grammar.specs.declared.kind.SyntaxKind.TheVariants.{OPERATION_DEFINITION}
+use Rattle.document_grammar.specs.declared.kind.SyntaxKind.TheVariants.{TYPE_CONDITION, VARIABLE_DEFINITION}
 use Rattle.apollo_tree.specs.Above.{at_or_above}
 use Rattle.apollo_tree.specs.Children.{child_nodes}
 use Rattle.apollo_tree.specs.Order.{Place, parent_place}
+use Rattle.apollo_tree.specs.References.{node_place}
 use Rattle.apollo_cst_core.specs.Kinds.{is_of, is_of_one}
 use Rattle.validation_names.specs.Mentions.{name_of}
 use Rattle.validation_names.specs.Names.{Name}
-use Rattle.validation_names.specs.Sites.{Located}
-use Rattle.type_system.specs.Definitions.{named_type, operation_type}
+use Rattle.validation_names.specs.Sites.{Located, as_located}
+use Rattle.type_system.specs.Definitions.{item_type, named_in, named_type, operation_type, type_reference}
 use Rattle.type_system.specs.Schemas.{as_with_arguments}
-use Rattle.type_system.specs.Types.{Types, WithArguments, has_number}
+use Rattle.type_system.specs.Types.{Typed, Types, WithArguments, has_number}
 use Rattle.type_system.specs.declared.kinds.OperationType.TheVariants.{Query}
 use Rattle.type_system.specs.declared.kinds.TheConstants.{COMPOSITE_TYPES, LEAF_TYPES}
 use Rattle.type_system.specs.declared.schema.DefinitionWithArguments.{DefinitionWithArguments}
 use Rattle.query_validation.specs.declared.contexts.Context as declared
+use Rattle.query_validation.specs.declared.contexts.TheConstants.{WITH_VALUES}
+use Rattle.query_validation.specs.declared.contexts.Wanted as declared_wanted
+
+-- The type that a value is to have: the reference to it, the number of the named type in it, and the definition of the
+-- argument or the input field. A variable's default value has none in the schema.
+pub record Wanted : Type 0 where
+  pub reference : Place
+  pub type : Option ℕ
+  pub definition : Option Located
 
 pub record Context : Type 0 where
   -- the number of the composite type from which fields are selected, if it is known
   pub parent : Option ℕ
-  -- the definition of the field or the directive that has the arguments, if it is known
+  -- what arguments are given to, if it is known: a field, a directive, or an input object with its fields
   pub definition : Option WithArguments
+  -- the type that a value is to have, if it is known
+  pub wanted : Option Wanted
 
 abbrev pub nothing : Context
-nothing = record { parent = None; definition = None }
+nothing = record { parent = None; definition = None; wanted = None }
 
 -- the first definition of a type, if it is known
 abbrev pub type_definition : Types → Option ℕ → Option Located
@@ -82,15 +96,64 @@ inline T around None = around.parent
 inline T around (Some name) = composite T (T.type_named name)
 
 abbrev pub selects_from : Option ℕ → Context
-selects_from number = record { parent = number; definition = None }
+selects_from number = record { parent = number; definition = None; wanted = None }
+
+-- ---- values
+
+-- an argument of a definition, or a field of an input object
+abbrev pub argument_of : Option WithArguments → Option Name → Option Typed
+argument_of None name = None
+argument_of (Some d) name = option_and_then d.argument_named name
+
+-- its type
+abbrev pub wanted_by : Typed → Option Wanted
+wanted_by d = option_map
+    (λ reference. record { reference = reference; type = d.type; definition = Some d.site })
+    (type_reference d.site.place)
+
+abbrev pub wanted_in : Context → Place → Option Wanted
+wanted_in around p = option_and_then wanted_by (argument_of around.definition (name_of p))
+
+-- 2.10 and 5.6.1: the default value of a variable has the variable's type
+abbrev pub wanted_of_variable : Types → Place → Option Wanted
+wanted_of_variable T p = option_map
+    (λ reference. record { reference = reference; type = type_named_in T (named_in reference); definition = None })
+    (type_reference p)
+
+-- 3.11: what is in a list has the type of its items
+abbrev pub wanted_item : Wanted → Option Wanted
+wanted_item w = option_map
+    (λ item. record { reference = item; type = w.type; definition = w.definition })
+    (item_type w.reference)
+
+-- 3.10: what an input object is given
+abbrev pub is_input_object : Types → Option ℕ → Bool
+is_input_object T number = is_defined_as (INPUT_OBJECT_TYPE_DEFINITION ∷ []) (type_definition T number)
+
+abbrev pub input_of : Types → Wanted → Option WithArguments
+input_of T w = if is_input_object T w.type then option_and_then T.input_at w.type else None
+
+-- the context in a value, an argument, or the definition of a variable, by the context around it
+abbrev pub gives : Context → Option WithArguments → Option Wanted → Context
+gives around definition wanted = record { parent = around.parent; definition = definition; wanted = wanted }
+
+abbrev pub step_in_value : Types → Context → Place → Context
+step_in_value T around p =
+    if is_of OBJECT_VALUE p
+    then gives around (option_and_then (input_of T) around.wanted) None
+    else (if is_of LIST_VALUE p
+    then gives around None (option_and_then wanted_item around.wanted)
+    else (if is_of VARIABLE_DEFINITION p
+    then gives around None (wanted_of_variable T p)
+    else gives around around.definition (wanted_in around p)))
 
 -- The context inside a node, by the context around it.
-abbrev pub step : Types → Context → Place → Context
-step T around p =
+abbrev pub step_in_selection : Types → Context → Place → Context
+step_in_selection T around p =
     if is_of FIELD p
-    then record { parent = composite T (type_of (field_at T around p)); definition = field_at T around p }
+    then record { parent = composite T (type_of (field_at T around p)); definition = field_at T around p; wanted = None }
     else (if is_of DIRECTIVE p
-    then record { parent = around.parent; definition = directive_at T p }
+    then record { parent = around.parent; definition = directive_at T p; wanted = None }
     else (if is_of INLINE_FRAGMENT p
     then selects_from (inline T around (condition p))
     else (if is_of FRAGMENT_DEFINITION p
@@ -98,6 +161,9 @@ step T around p =
     else (if is_of OPERATION_DEFINITION p
     then selects_from (composite T (T.root (operation_type p)))
     else around))))
+
+abbrev pub step : Types → Context → Place → Context
+step T around p = if is_of_one WITH_VALUES p then step_in_value T around p else step_in_selection T around p
 
 -- the same of the first of some places, each of which is a child of the next
 abbrev pub inside : Types → List Place → Context
@@ -115,5 +181,16 @@ around T p = inside_parent T (parent_place p)
 abbrev pub as_definition : Option (Bor DefinitionWithArguments) → Option WithArguments
 as_definition d = option_map (λ (x : Bor DefinitionWithArguments). as_with_arguments x.now) d
 
+abbrev pub as_wanted : declared_wanted.Wanted → Wanted
+as_wanted w = record {
+  reference = node_place w.reference;
+  type = w.type_number;
+  definition = option_map as_located w.definition;
+}
+
 abbrev pub as_context : declared.Context → Context
-as_context c = record { parent = c.parent; definition = as_definition c.definition }
+as_context c = record {
+  parent = c.parent;
+  definition = as_definition c.definition;
+  wanted = option_map as_wanted c.wanted;
+}

@@ -1,31 +1,55 @@
 // What holds at a node of an operation or a fragment, by the nodes above it.
-ghost use Rattle.std.specs.Prelude.{◌≡◌, IfOk, map, option_map};
+ghost use Rattle.std.specs.Prelude.{◌≡◌, IfOk, map, option_and_then, option_map};
 ghost use Rattle.apollo_tree.specs.Above.{at_or_above};
 ghost use Rattle.apollo_tree.specs.References.{node_place};
 ghost use Rattle.validation_names.specs.Sites.{as_located};
-ghost use Rattle.type_system.specs.Schemas.{as_with_arguments, types};
-ghost use Rattle.query_validation.specs.Contexts.{around, as_context, composite, condition, directive_at, field_at};
-ghost use Rattle.query_validation.specs.Contexts.{field_of};
-ghost use Rattle.query_validation.specs.Contexts.{inline, inside, is_composite, is_leaf, step, type_definition};
-ghost use Rattle.query_validation.specs.Contexts.{type_named_in, type_of};
+ghost use Rattle.type_system.specs.Schemas.{as_typed, as_with_arguments, types};
+ghost use Rattle.query_validation.specs.Contexts.{argument_of, around, as_context, as_definition, as_wanted};
+ghost use Rattle.query_validation.specs.Contexts.{composite, condition, directive_at, field_at, field_of, inline};
+ghost use Rattle.query_validation.specs.Contexts.{input_of, inside, is_composite, is_input_object, is_leaf, step};
+ghost use Rattle.query_validation.specs.Contexts.{step_in_selection, step_in_value, type_definition};
+ghost use Rattle.query_validation.specs.Contexts.{type_named_in, type_of, wanted_by, wanted_in, wanted_item};
+ghost use Rattle.query_validation.specs.Contexts.{wanted_of_variable};
 
 use apollo_cst_core::{child_of, is_one_of};
 use apollo_tree::{SyntaxKind, SyntaxNode};
 use std::alloc::{AllocError, Global};
 use type_system::{
-    COMPOSITE_TYPES, DefinitionWithArguments, LEAF_TYPES, OperationType, Schema, named_type,
-    operation_type,
+    COMPOSITE_TYPES, DefinitionWithArguments, LEAF_TYPES, OperationType, Schema, TypedDefinition,
+    item_type, named_in, named_type, operation_type, type_reference,
 };
 use validation_names::{Site, name};
+
+/// The type that a value is to have.
+#[derive(Clone, Copy)]
+pub struct Wanted<'s, 't> {
+    /// The reference to it, in the schema or in the definition of a variable.
+    pub reference: SyntaxNode<'s>,
+    /// The number of the named type in it, if it is known.
+    pub type_number: Option<usize>,
+    /// The definition of the argument or the input field. A variable's default value has none.
+    pub definition: Option<Site<'t>>,
+}
 
 /// What holds at a place in an operation or a fragment.
 #[derive(Clone, Copy)]
 pub struct Context<'s, 't> {
     /// The number of the composite type from which fields are selected, if it is known.
     pub parent: Option<usize>,
-    /// The definition of the field or the directive that has the arguments, if it is known.
+    /// What arguments are given to, if it is known: a field, a directive, or an input object with its fields.
     pub definition: Option<&'s DefinitionWithArguments<'t>>,
+    /// The type that a value is to have, if it is known.
+    pub wanted: Option<Wanted<'s, 't>>,
 }
+
+// The nodes that decide which type a value is to have.
+const WITH_VALUES: [SyntaxKind; 5] = [
+    SyntaxKind::VARIABLE_DEFINITION,
+    SyntaxKind::ARGUMENT,
+    SyntaxKind::LIST_VALUE,
+    SyntaxKind::OBJECT_VALUE,
+    SyntaxKind::OBJECT_FIELD,
+];
 
 // The first definition of a type.
 pub(crate) fn type_definition<'t>(schema: &Schema<'t>, number: Option<usize>) -> Option<Site<'t>>
@@ -144,24 +168,158 @@ fn inline<'t>(
     }
 }
 
-/// The context inside a node, by the context around it.
-pub(crate) fn step<'s, 't>(
+// An argument of a definition, or a field of an input object.
+fn argument_of<'t>(
+    definition: Option<&DefinitionWithArguments<'t>>,
+    name: Option<&str>,
+) -> Option<TypedDefinition<'t>>
+    ensures { option_map as_typed result
+        ≡ argument_of (as_definition definition.entry) (option_map (λ n. n.now) name.entry) }
+{
+    definition?.argument(name?)
+}
+
+// The type of an argument or an input field.
+fn wanted_by<'s, 't: 's>(definition: &TypedDefinition<'t>) -> Option<Wanted<'s, 't>>
+    ensures { option_map as_wanted result ≡ wanted_by (as_typed definition.now) }
+{
+    let reference = type_reference(&definition.site.node)?;
+    Some(Wanted {
+        reference,
+        type_number: definition.type_number,
+        definition: Some(definition.site),
+    })
+}
+
+// The type of an argument or an input field that is given.
+fn wanted_in<'s, 't: 's>(around: &Context<'s, 't>, node: &SyntaxNode<'_>) -> Option<Wanted<'s, 't>>
+    ensures { option_map as_wanted result ≡ wanted_in (as_context around.now) (node_place node.now) }
+{
+    let argument = argument_of(around.definition, name(node))?;
+    wanted_by(&argument)
+}
+
+// The type of a variable.
+fn wanted_of_variable<'s, 't>(
+    schema: &'s Schema<'t>,
+    node: &SyntaxNode<'s>,
+) -> Option<Wanted<'s, 't>>
+    ensures { option_map as_wanted result ≡ wanted_of_variable (types schema.now) (node_place node.now) }
+{
+    let reference = type_reference(node)?;
+    Some(Wanted {
+        reference,
+        type_number: type_named_in(schema, named_in(&reference)),
+        definition: None,
+    })
+}
+
+// The type of the items, where a list is wanted.
+fn wanted_item<'s, 't>(wanted: &Wanted<'s, 't>) -> Option<Wanted<'s, 't>>
+    ensures { option_map as_wanted result ≡ wanted_item (as_wanted wanted.now) }
+{
+    let reference = item_type(&wanted.reference)?;
+    Some(Wanted {
+        reference,
+        type_number: wanted.type_number,
+        definition: wanted.definition,
+    })
+}
+
+pub(crate) fn is_input_object(schema: &Schema<'_>, number: Option<usize>) -> bool
+    ensures { result ≡ is_input_object (types schema.now) number }
+{
+    match type_definition(schema, number) {
+        Some(site) => is_one_of(
+            site.node.kind(),
+            &[SyntaxKind::INPUT_OBJECT_TYPE_DEFINITION],
+        ),
+        None => false,
+    }
+}
+
+// What an input object is given, where one is wanted.
+fn input_of<'s, 't>(
+    schema: &'s Schema<'t>,
+    wanted: &Wanted<'_, 't>,
+) -> Option<&'s DefinitionWithArguments<'t>>
+    ensures { as_definition result ≡ input_of (types schema.now) (as_wanted wanted.now) }
+{
+    if is_input_object(schema, wanted.type_number) {
+        return schema.input_at(wanted.type_number?);
+    }
+    None
+}
+
+fn input_if_wanted<'s, 't>(
+    schema: &'s Schema<'t>,
+    wanted: Option<Wanted<'_, 't>>,
+) -> Option<&'s DefinitionWithArguments<'t>>
+    ensures { as_definition result
+        ≡ option_and_then (input_of (types schema.now)) (option_map as_wanted wanted.entry) }
+{
+    input_of(schema, &wanted?)
+}
+
+fn item_if_wanted<'s, 't>(wanted: Option<Wanted<'s, 't>>) -> Option<Wanted<'s, 't>>
+    ensures { option_map as_wanted result ≡ option_and_then wanted_item (option_map as_wanted wanted.entry) }
+{
+    wanted_item(&wanted?)
+}
+
+// The context in a value, an argument, or the definition of a variable.
+fn step_in_value<'s, 't>(
+    schema: &'s Schema<'t>,
+    around: &Context<'s, 't>,
+    node: &SyntaxNode<'s>,
+) -> Context<'s, 't>
+    ensures { as_context result ≡ step_in_value (types schema.now) (as_context around.now) (node_place node.now) }
+{
+    let kind = node.kind();
+    let (definition, wanted) = if kind.is(SyntaxKind::OBJECT_VALUE) {
+        (input_if_wanted(schema, around.wanted), None)
+    } else if kind.is(SyntaxKind::LIST_VALUE) {
+        (None, item_if_wanted(around.wanted))
+    } else if kind.is(SyntaxKind::VARIABLE_DEFINITION) {
+        (None, wanted_of_variable(schema, node))
+    } else {
+        (around.definition, wanted_in(around, node))
+    };
+    Context {
+        parent: around.parent,
+        definition,
+        wanted,
+    }
+}
+
+// The context in what selects fields, and in a directive.
+fn step_in_selection<'s, 't>(
     schema: &'s Schema<'t>,
     around: &Context<'s, 't>,
     node: &SyntaxNode<'_>,
 ) -> Context<'s, 't>
-    ensures { as_context result ≡ step (types schema.now) (as_context around.now) (node_place node.now) }
+    ensures { as_context result
+        ≡ step_in_selection (types schema.now) (as_context around.now) (node_place node.now) }
 {
     let kind = node.kind();
+    let wanted = None;
     if kind.is(SyntaxKind::FIELD) {
         let definition = field_at(schema, around, node);
         let parent = composite(schema, type_of(definition));
-        return Context { parent, definition };
+        return Context {
+            parent,
+            definition,
+            wanted,
+        };
     }
     if kind.is(SyntaxKind::DIRECTIVE) {
         let definition = directive_at(schema, node);
         let parent = around.parent;
-        return Context { parent, definition };
+        return Context {
+            parent,
+            definition,
+            wanted,
+        };
     }
     let parent = if kind.is(SyntaxKind::INLINE_FRAGMENT) {
         inline(schema, around, condition(node))
@@ -175,7 +333,22 @@ pub(crate) fn step<'s, 't>(
     Context {
         parent,
         definition: None,
+        wanted,
     }
+}
+
+/// The context inside a node, by the context around it.
+pub(crate) fn step<'s, 't>(
+    schema: &'s Schema<'t>,
+    around: &Context<'s, 't>,
+    node: &SyntaxNode<'s>,
+) -> Context<'s, 't>
+    ensures { as_context result ≡ step (types schema.now) (as_context around.now) (node_place node.now) }
+{
+    if is_one_of(node.kind(), &WITH_VALUES) {
+        return step_in_value(schema, around, node);
+    }
+    step_in_selection(schema, around, node)
 }
 
 // The nodes from a node up to the root.
@@ -190,12 +363,13 @@ fn ancestors<'t>(alloc: Global, node: &SyntaxNode<'t>) -> Result<Vec<SyntaxNode<
 }
 
 // What holds in the first of some nodes, each of which is a child of the next.
-fn inside<'s, 't>(schema: &'s Schema<'t>, chain: &[SyntaxNode<'_>]) -> Context<'s, 't>
+fn inside<'s, 't>(schema: &'s Schema<'t>, chain: &[SyntaxNode<'s>]) -> Context<'s, 't>
     ensures { as_context result ≡ inside (types schema.now) (map node_place chain.now) }
 {
     let mut context = Context {
         parent: None,
         definition: None,
+        wanted: None,
     };
     let mut left = chain.len();
     while left > 0 {
@@ -209,7 +383,7 @@ fn inside<'s, 't>(schema: &'s Schema<'t>, chain: &[SyntaxNode<'_>]) -> Context<'
 pub(crate) fn inside_of<'s, 't>(
     alloc: Global,
     schema: &'s Schema<'t>,
-    node: &SyntaxNode<'_>,
+    node: &SyntaxNode<'s>,
 ) -> Result<Context<'s, 't>, AllocError>
     ensures { IfOk result (λ context.
         as_context context ≡ inside (types schema.now) (at_or_above (node_place node.now))) }
@@ -222,7 +396,7 @@ pub(crate) fn inside_of<'s, 't>(
 pub(crate) fn around_of<'s, 't>(
     alloc: Global,
     schema: &'s Schema<'t>,
-    node: &SyntaxNode<'_>,
+    node: &SyntaxNode<'s>,
 ) -> Result<Context<'s, 't>, AllocError>
     ensures { IfOk result (λ context. as_context context ≡ around (types schema.now) (node_place node.now)) }
 {
@@ -231,6 +405,7 @@ pub(crate) fn around_of<'s, 't>(
         None => Ok(Context {
             parent: None,
             definition: None,
+            wanted: None,
         }),
     }
 }

@@ -55,9 +55,9 @@ fn judge_node<'d, 't>(
 }
 
 // Adds what a definition breaks, until the list has as many as are wanted.
-fn judge_definition<'d, 't>(
+fn judge_definition<'s, 'd: 's, 't>(
     alloc: Global,
-    schema: &Schema<'t>,
+    schema: &'s Schema<'t>,
     definition: &Site<'d>,
     most: usize,
     found: &mut Vec<QueryViolation<'d, 't>>,
@@ -66,7 +66,7 @@ fn judge_definition<'d, 't>(
         (map as_breach found.old.items) (map as_breach found.new.items)) }
 {
     let document = definition.document;
-    let mut stack: Vec<Level<'_, 't>> = Vec::new(alloc);
+    let mut stack: Vec<Level<'s, 't>> = Vec::new(alloc);
     for node in definition.node.descendants() {
         if most <= found.len() {
             return Ok(());
@@ -106,7 +106,7 @@ pub fn validate<'d, 't>(
     let mut found = Vec::new(alloc);
     for definition in &definitions {
         if is_one_of(definition.node.kind(), &EXECUTABLES) {
-            judge_definition(alloc, schema, definition, most, &mut found)?;
+            judge_definition(alloc, &*schema, definition, most, &mut found)?;
         }
     }
     found.truncate(most);

@@ -12,7 +12,7 @@ mod parts;
 mod rules;
 mod stack;
 
-pub use contexts::Context;
+pub use contexts::{Context, Wanted};
 pub use judging::{QueryViolation, validate};
 pub use messages::message;
 pub use rules::{QUERY_RULES, QueryRule};

@@ -33,7 +33,7 @@ fn inside_parent<'s, 't>(
     alloc: Global,
     schema: &'s Schema<'t>,
     stack: &mut Vec<Level<'s, 't>>,
-    parent: &SyntaxNode<'_>,
+    parent: &SyntaxNode<'s>,
 ) -> Result<Context<'s, 't>, AllocError>
     requires { All (IsLevel (types schema.now) (node_place parent.now).whole) stack.old.items }
     ensures levels { All (IsLevel (types schema.now) (node_place parent.now).whole) stack.new.items }
@@ -54,8 +54,8 @@ fn around<'s, 't>(
     alloc: Global,
     schema: &'s Schema<'t>,
     stack: &mut Vec<Level<'s, 't>>,
-    node: &SyntaxNode<'_>,
-    parent: Option<SyntaxNode<'_>>,
+    node: &SyntaxNode<'s>,
+    parent: Option<SyntaxNode<'s>>,
 ) -> Result<Context<'s, 't>, AllocError>
     requires levels { All (IsLevel (types schema.now) (node_place node.now).whole) stack.old.items }
     requires parent { option_map node_place parent ≡ parent_place (node_place node.now) }
@@ -68,6 +68,7 @@ fn around<'s, 't>(
         None => Ok(Context {
             parent: None,
             definition: None,
+            wanted: None,
         }),
     }
 }
@@ -77,7 +78,7 @@ pub(crate) fn contexts_of<'s, 't>(
     alloc: Global,
     schema: &'s Schema<'t>,
     stack: &mut Vec<Level<'s, 't>>,
-    node: &SyntaxNode<'_>,
+    node: &SyntaxNode<'s>,
 ) -> Result<Contexts<'s, 't>, AllocError>
     requires { All (IsLevel (types schema.now) (node_place node.now).whole) stack.old.items }
     ensures levels { All (IsLevel (types schema.now) (node_place node.now).whole) stack.new.items }

@@ -3,7 +3,7 @@ use Rattle.std.specs.List.{filter, find, flat_map}
 use Rattle.std.specs.Prelude.{List, [], ◌∷◌, map, Bool, false, not, ◌&&◌, Option, Some, None, is_some, option_map}
 use Rattle.std.specs.Prelude.{option_and_then, if◌then◌else◌, bytes_eq, codes}
 use Rattle.document_grammar.specs.declared.kind.SyntaxKind.{SyntaxKind}
-use Rattle.document_grammar.specs.declared.kind.SyntaxKind.TheVariants.{DEFAULT_VALUE, NAMED_TYPE, NON_NULL_TYPE}
+use Rattle.document_grammar.specs.declared.kind.SyntaxKind.TheVariants.{DEFAULT_VALUE, LIST_TYPE, NAMED_TYPE, NON_NULL_TYPE}
 use Rattle.document_grammar.specs.declared.kind.SyntaxKind.TheVariants.{OPERATION_TYPE, ROOT_OPERATION_TYPE_DEFINITION}
 use Rattle.apollo_tree.specs.Children.{child_nodes}
 use Rattle.apollo_tree.specs.Order.{Place, text_at}
@@ -46,6 +46,16 @@ named_type p = option_and_then named_in (type_reference p)
 abbrev pub is_non_null : Option Place → Bool
 is_non_null None = false
 is_non_null (Some reference) = is_of NON_NULL_TYPE reference
+
+-- the type without its `!`; and in a list, whether it has one or not, the type of its items
+abbrev pub nullable : Place → Option Place
+nullable reference = if is_of NON_NULL_TYPE reference then type_reference reference else Some reference
+
+abbrev pub item_in : Place → Option Place
+item_in reference = if is_of LIST_TYPE reference then type_reference reference else None
+
+abbrev pub item_type : Place → Option Place
+item_type reference = option_and_then item_in (nullable reference)
 
 abbrev pub has_default : Place → Bool
 has_default p = is_some (find (is_of_one (DEFAULT_VALUE ∷ [])) (child_nodes p))

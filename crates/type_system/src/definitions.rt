@@ -3,7 +3,7 @@ ghost use Rattle.std.specs.Prelude.{◌≡◌, ◌++◌, IfOk, OnOk, map, option
 ghost use Rattle.apollo_tree.specs.Children.{child_nodes};
 ghost use Rattle.apollo_tree.specs.References.{node_place};
 ghost use Rattle.validation_names.specs.Sites.{all_definitions, as_located, located};
-ghost use Rattle.type_system.specs.Definitions.{is_named, is_root, items, named_as, operation_type, operation_word};
+ghost use Rattle.type_system.specs.Definitions.{children, is_named, is_root, items, named_as, operation_type, operation_word};
 
 use crate::kinds::OperationType;
 use apollo_cst_core::{child_of, is_one_of};
@@ -37,6 +37,15 @@ pub fn all_definitions<'t>(
     for (number, document) in documents.iter().enumerate() {
         push_children(&mut found, number, document)?;
     }
+    Ok(found)
+}
+
+/// The child nodes of a node. It fails only where memory is refused.
+pub fn children<'t>(alloc: Global, parent: &Site<'t>) -> Result<Vec<Site<'t>>, AllocError>
+    ensures { IfOk result (λ found. map as_located found.items ≡ children (as_located parent.now)) }
+{
+    let mut found = Vec::new(alloc);
+    push_children(&mut found, parent.document, &parent.node)?;
     Ok(found)
 }
 

@@ -14,9 +14,9 @@ mod standard;
 mod tables;
 mod type_references;
 
-pub use definitions::{all_definitions, items, operation_type};
+pub use definitions::{all_definitions, children, items, operation_type};
 pub use kinds::{COMPOSITE_TYPES, LEAF_TYPES, OperationType, TYPE_REFERENCES};
 pub use schema::{DefinitionWithArguments, Schema, TypedDefinition};
 pub use standard::{EACH_TYPE, QUERY_ROOT, STANDARD};
 pub use tables::first_by_name;
-pub use type_references::{named_in, named_type, type_reference};
+pub use type_references::{item_type, named_in, named_type, type_reference};

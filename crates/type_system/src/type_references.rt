@@ -5,8 +5,8 @@ ghost use Rattle.document_grammar.specs.declared.kind.SyntaxKind.TheVariants.{NA
 ghost use Rattle.apollo_cst_core.specs.Kinds.{is_of};
 ghost use Rattle.apollo_tree.specs.References.{node_place};
 ghost use Rattle.validation_names.specs.Sites.{as_located, nodes};
-ghost use Rattle.type_system.specs.Definitions.{has_default, is_non_null, is_required, named_in, named_type};
-ghost use Rattle.type_system.specs.Definitions.{type_reference};
+ghost use Rattle.type_system.specs.Definitions.{has_default, is_non_null, is_required, item_type, named_in};
+ghost use Rattle.type_system.specs.Definitions.{named_type, nullable, type_reference};
 
 use crate::kinds::TYPE_REFERENCES;
 use apollo_cst_core::child_of;
@@ -47,6 +47,27 @@ pub fn named_type<'t>(node: &SyntaxNode<'t>) -> Option<&'t str>
 {
     let reference = type_reference(node)?;
     named_in(&reference)
+}
+
+// A type without its `!`.
+fn nullable<'t>(reference: &SyntaxNode<'t>) -> Option<SyntaxNode<'t>>
+    ensures { option_map node_place result ≡ nullable (node_place reference.now) }
+{
+    if reference.kind().is(SyntaxKind::NON_NULL_TYPE) {
+        return type_reference(reference);
+    }
+    Some(*reference)
+}
+
+/// The type of the items of a list, whether the list has a `!` or not: `Dog!` for `[Dog!]!`. Other types have none.
+pub fn item_type<'t>(reference: &SyntaxNode<'t>) -> Option<SyntaxNode<'t>>
+    ensures { option_map node_place result ≡ item_type (node_place reference.now) }
+{
+    let list = nullable(reference)?;
+    if list.kind().is(SyntaxKind::LIST_TYPE) {
+        return type_reference(&list);
+    }
+    None
 }
 
 // Whether the type of a definition is non-null.

@@ -16,3 +16,11 @@ returns-in-Some-clause-levels c =
     let is : Some parent ≡ parent_place node = ap (option_map node_place) (sym c.in-Some.is) ∙ c.requires.parent in
     subst (λ (w : Forest). All (IsLevel (types c.args.schema.now) w) c.inside_parent.new.stack.items)
     (parent_whole node parent is) c.inside_parent.ensures.levels
+
+pub inside_parent-requires : goal.inside_parent-requires
+inside_parent-requires c =
+    let node = node_place c.args.node.now in
+    let parent = node_place c.in-Some.parent in
+    let is : Some parent ≡ parent_place node = ap (option_map node_place) (sym c.in-Some.is) ∙ c.requires.parent in
+    subst (λ (w : Forest). All (IsLevel (types c.args.schema.now) w) c.args.stack.now.items)
+    (sym (parent_whole node parent is)) c.requires.levels
