@@ -1,19 +1,16 @@
 -- The places at which operations and fragments break rules, by the types of a schema.
 use Rattle.std.specs.List.{filter, flat_map}
 use Rattle.std.specs.Prelude.{◌≡◌, List, [], ◌∷◌, map, Bool, Option, Some, None, option_map}
-use Rattle.document_grammar.specs.declared.kind.SyntaxKind.TheVariants.{ARGUMENTS}
 use Rattle.apollo_tree.specs.Order.{Place}
 use Rattle.apollo_cst_core.specs.Kinds.{is_of_one}
 use Rattle.validation_names.specs.Sites.{Located, all_definitions, as_located, located, nodes}
 use Rattle.validation_names.specs.declared.sites.Site.{Site}
-use Rattle.type_system.specs.Definitions.{items}
 use Rattle.type_system.specs.Types.{Types}
 use Rattle.query_validation.specs.Contexts.{Context, around, step}
-use Rattle.query_validation.specs.Rules.{Abouts, broken_by, is_lacking}
+use Rattle.query_validation.specs.Rules.{Abouts, broken_by, given, is_lacking}
 use Rattle.query_validation.specs.declared.judging.QueryViolation.{QueryViolation}
 use Rattle.query_validation.specs.declared.judging.TheConstants.{EXECUTABLES}
 use Rattle.query_validation.specs.declared.rules.QueryRule.{QueryRule}
-use Rattle.query_validation.specs.declared.rules.QueryRule.TheVariants.{ProvidedRequiredArguments}
 use Rattle.query_validation.specs.declared.rules.TheConstants.{QUERY_RULES}
 
 -- what breaks which rule, and the definition in the schema that it is about, if there is one
@@ -65,7 +62,7 @@ abbrev pub as_abouts : Option (Option Site) → Abouts
 as_abouts None = []
 as_abouts (Some definition) = option_map as_located definition ∷ []
 
--- the arguments that are lacking, of those that have to be given
-abbrev pub lacking_breaches : Located → List Located → List QueryBreach
-lacking_breaches site required =
-    breaches_about ProvidedRequiredArguments site (map Some (filter (is_lacking (items ARGUMENTS site)) required))
+-- what is lacking, of what has to be given
+abbrev pub lacking_breaches : QueryRule → Located → List Located → List QueryBreach
+lacking_breaches rule site required =
+    breaches_about rule site (map Some (filter (is_lacking (given site)) required))

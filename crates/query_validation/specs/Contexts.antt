@@ -5,10 +5,11 @@ use Rattle.std.specs.Prelude.{ℕ, List, [], ◌∷◌, Bool, false, Option, Som
 use Rattle.std.specs.Prelude.{if◌then◌else◌}
 use denote.Ref.{Bor}
 use Rattle.document_grammar.specs.declared.kind.SyntaxKind.{SyntaxKind}
-use Rattle.document_grammar.specs.declared.kind.SyntaxKind.TheVariants.{DIRECTIVE, FIELD, FRAGMENT_DEFINITION}
+use Rattle.document_grammar.specs.declared.kind.SyntaxKind.TheVariants.{DIRECTIVE, ENUM_TYPE_DEFINITION, FIELD}
+use Rattle.document_grammar.specs.declared.kind.SyntaxKind.TheVariants.{FRAGMENT_DEFINITION}
 use Rattle.document_grammar.specs.declared.kind.SyntaxKind.TheVariants.{INLINE_FRAGMENT, INPUT_OBJECT_TYPE_DEFINITION}
 use Rattle.document_grammar.specs.declared.kind.SyntaxKind.TheVariants.{LIST_VALUE, OBJECT_VALUE}
-use Rattle.document_grammar.specs.declared.kind.SyntaxKind.TheVariants.{OPERATION_DEFINITION}
+use Rattle.document_grammar.specs.declared.kind.SyntaxKind.TheVariants.{OPERATION_DEFINITION, SCALAR_TYPE_DEFINITION}
 use Rattle.document_grammar.specs.declared.kind.SyntaxKind.TheVariants.{TYPE_CONDITION, VARIABLE_DEFINITION}
 use Rattle.apollo_tree.specs.Above.{at_or_above}
 use Rattle.apollo_tree.specs.Children.{child_nodes}
@@ -60,6 +61,19 @@ is_composite T number = is_defined_as COMPOSITE_TYPES (type_definition T number)
 
 abbrev pub is_leaf : Types → Option ℕ → Bool
 is_leaf T number = is_defined_as LEAF_TYPES (type_definition T number)
+
+abbrev pub is_scalar : Types → Option ℕ → Bool
+is_scalar T number = is_defined_as (SCALAR_TYPE_DEFINITION ∷ []) (type_definition T number)
+
+abbrev pub is_enum : Types → Option ℕ → Bool
+is_enum T number = is_defined_as (ENUM_TYPE_DEFINITION ∷ []) (type_definition T number)
+
+abbrev pub is_input_object : Types → Option ℕ → Bool
+is_input_object T number = is_defined_as (INPUT_OBJECT_TYPE_DEFINITION ∷ []) (type_definition T number)
+
+-- the name of a type
+abbrev pub type_name : Types → Option ℕ → Option Name
+type_name T number = option_and_then (λ (d : Located). name_of d.place) (type_definition T number)
 
 abbrev pub composite : Types → Option ℕ → Option ℕ
 composite T number = if is_composite T number then number else None
@@ -127,9 +141,6 @@ wanted_item w = option_map
     (item_type w.reference)
 
 -- 3.10: what an input object is given
-abbrev pub is_input_object : Types → Option ℕ → Bool
-is_input_object T number = is_defined_as (INPUT_OBJECT_TYPE_DEFINITION ∷ []) (type_definition T number)
-
 abbrev pub input_of : Types → Wanted → Option WithArguments
 input_of T w = if is_input_object T w.type then option_and_then T.input_at w.type else None
 

@@ -126,6 +126,7 @@ wording T rule.FieldsOnCorrectType p d = unknown_field (name_at p) (defined_name
 wording T rule.ScalarLeafs p d = wrong_leaf p (type_of_definition d)
 wording T rule.KnownArgumentNames p d = unknown_argument T p
 wording T rule.ProvidedRequiredArguments p d = missing_argument p (defined_name d) (type_of_definition d)
+wording T rule.ValuesOfCorrectType p d = name_at p
 wording T rule.KnownTypeNames p d = codes "Unknown type \"" ++ name_at p ++ codes "\"."
 wording T rule.FragmentsOnCompositeTypes p d = wrong_condition (name_of_owner p) (name_at p)
 wording T rule.KnownDirectives p d = codes "Unknown directive \"@" ++ name_at p ++ codes "\"."

@@ -1,12 +1,13 @@
 // What holds at a node of an operation or a fragment, by the nodes above it.
-ghost use Rattle.std.specs.Prelude.{◌≡◌, IfOk, map, option_and_then, option_map};
+ghost use Rattle.std.specs.Prelude.{◌≡◌, ◌∷◌, [], IfOk, map, option_and_then, option_map};
 ghost use Rattle.apollo_tree.specs.Above.{at_or_above};
 ghost use Rattle.apollo_tree.specs.References.{node_place};
 ghost use Rattle.validation_names.specs.Sites.{as_located};
 ghost use Rattle.type_system.specs.Schemas.{as_typed, as_with_arguments, types};
 ghost use Rattle.query_validation.specs.Contexts.{argument_of, around, as_context, as_definition, as_wanted};
 ghost use Rattle.query_validation.specs.Contexts.{composite, condition, directive_at, field_at, field_of, inline};
-ghost use Rattle.query_validation.specs.Contexts.{input_of, inside, is_composite, is_input_object, is_leaf, step};
+ghost use Rattle.query_validation.specs.Contexts.{input_of, inside, is_composite, is_defined_as, is_enum};
+ghost use Rattle.query_validation.specs.Contexts.{is_input_object, is_leaf, is_scalar, step, type_name};
 ghost use Rattle.query_validation.specs.Contexts.{step_in_selection, step_in_value, type_definition};
 ghost use Rattle.query_validation.specs.Contexts.{type_named_in, type_of, wanted_by, wanted_in, wanted_item};
 ghost use Rattle.query_validation.specs.Contexts.{wanted_of_variable};
@@ -74,6 +75,41 @@ pub(crate) fn is_leaf(schema: &Schema<'_>, number: Option<usize>) -> bool
         Some(site) => is_one_of(site.node.kind(), &LEAF_TYPES),
         None => false,
     }
+}
+
+fn is_defined_as(schema: &Schema<'_>, number: Option<usize>, kind: SyntaxKind) -> bool
+    ensures { result ≡ is_defined_as (kind ∷ []) (type_definition (types schema.now) number) }
+{
+    match type_definition(schema, number) {
+        Some(site) => site.node.kind().is(kind),
+        None => false,
+    }
+}
+
+pub(crate) fn is_scalar(schema: &Schema<'_>, number: Option<usize>) -> bool
+    ensures { result ≡ is_scalar (types schema.now) number }
+{
+    is_defined_as(schema, number, SyntaxKind::SCALAR_TYPE_DEFINITION)
+}
+
+pub(crate) fn is_enum(schema: &Schema<'_>, number: Option<usize>) -> bool
+    ensures { result ≡ is_enum (types schema.now) number }
+{
+    is_defined_as(schema, number, SyntaxKind::ENUM_TYPE_DEFINITION)
+}
+
+pub(crate) fn is_input_object(schema: &Schema<'_>, number: Option<usize>) -> bool
+    ensures { result ≡ is_input_object (types schema.now) number }
+{
+    is_defined_as(schema, number, SyntaxKind::INPUT_OBJECT_TYPE_DEFINITION)
+}
+
+// The name of a type.
+pub(crate) fn type_name<'t>(schema: &Schema<'t>, number: Option<usize>) -> Option<&'t str>
+    ensures { option_map (λ n. n.now) result ≡ type_name (types schema.now) number }
+{
+    let definition = type_definition(schema, number)?;
+    name(&definition.node)
 }
 
 // The type, if it is composite.
@@ -224,18 +260,6 @@ fn wanted_item<'s, 't>(wanted: &Wanted<'s, 't>) -> Option<Wanted<'s, 't>>
         type_number: wanted.type_number,
         definition: wanted.definition,
     })
-}
-
-pub(crate) fn is_input_object(schema: &Schema<'_>, number: Option<usize>) -> bool
-    ensures { result ≡ is_input_object (types schema.now) number }
-{
-    match type_definition(schema, number) {
-        Some(site) => is_one_of(
-            site.node.kind(),
-            &[SyntaxKind::INPUT_OBJECT_TYPE_DEFINITION],
-        ),
-        None => false,
-    }
 }
 
 // What an input object is given, where one is wanted.

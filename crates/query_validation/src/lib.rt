@@ -11,6 +11,7 @@ mod messages;
 mod parts;
 mod rules;
 mod stack;
+mod values;
 
 pub use contexts::{Context, Wanted};
 pub use judging::{QueryViolation, validate};

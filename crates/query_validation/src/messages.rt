@@ -328,6 +328,7 @@ pub fn message(
         QueryRule::ScalarLeafs => wrong_leaf(alloc, node, definition),
         QueryRule::KnownArgumentNames => unknown_argument(alloc, schema, node),
         QueryRule::ProvidedRequiredArguments => missing_argument(alloc, node, definition),
+        QueryRule::ValuesOfCorrectType => format!(in alloc; "{name}"),
         QueryRule::KnownTypeNames => format!(in alloc; "Unknown type \"{name}\"."),
         QueryRule::FragmentsOnCompositeTypes => {
             wrong_condition(alloc, name_in(owner(node)), name)

@@ -1,17 +1,15 @@
 // Parts of nodes that rules need.
-ghost use Rattle.std.specs.Prelude.{◌≡◌, IfOk, option_map};
+ghost use Rattle.std.specs.Prelude.{◌≡◌, IfOk, map, option_map};
 ghost use Rattle.apollo_tree.specs.References.{node_place};
 ghost use Rattle.validation_names.specs.Sites.{as_located};
-ghost use Rattle.type_system.specs.Definitions.{items};
 ghost use Rattle.type_system.specs.Tables.{AreFirst};
-ghost use Rattle.document_grammar.specs.declared.kind.SyntaxKind.TheVariants.{ARGUMENTS};
-ghost use Rattle.query_validation.specs.Rules.{has_selections, is_condition, is_variable};
+ghost use Rattle.query_validation.specs.Rules.{given, has_selections, is_condition, is_variable};
 
 use apollo_cst_core::child_of;
 use apollo_tree::{SyntaxKind, SyntaxNode};
 use std::alloc::{AllocError, Global};
 use std::collections::BTreeMap;
-use type_system::{first_by_name, items};
+use type_system::{children, first_by_name, items};
 use validation_names::Site;
 
 pub(crate) fn has_selections(node: &SyntaxNode<'_>) -> bool
@@ -40,14 +38,24 @@ pub(crate) fn is_variable(node: Option<SyntaxNode<'_>>) -> bool
     }
 }
 
-// The arguments that a field or a directive is given, by their names.
-pub(crate) fn given_arguments<'t>(
+// What a field or a directive is given, or an input object.
+fn given<'t>(alloc: Global, site: &Site<'t>) -> Result<Vec<Site<'t>>, AllocError>
+    ensures { IfOk result (λ found. map as_located found.items ≡ given (as_located site.now)) }
+{
+    if site.node.kind().is(SyntaxKind::OBJECT_VALUE) {
+        return children(alloc, site);
+    }
+    items(alloc, site, SyntaxKind::ARGUMENTS)
+}
+
+// The same by names.
+pub(crate) fn given_by_name<'t>(
     alloc: Global,
     site: &Site<'t>,
 ) -> Result<BTreeMap<&'t str, Site<'t>>, AllocError>
-    ensures { IfOk result (λ given. AreFirst given (items ARGUMENTS (as_located site.now))) }
+    ensures { IfOk result (λ entries. AreFirst entries (given (as_located site.now))) }
 {
-    let found = items(alloc, site, SyntaxKind::ARGUMENTS)?;
-    let given = first_by_name(alloc, &found)?;
-    Ok(given)
+    let found = given(alloc, site)?;
+    let entries = first_by_name(alloc, &found)?;
+    Ok(entries)
 }

@@ -5,19 +5,18 @@ ghost use Rattle.apollo_tree.specs.References.{node_place};
 ghost use Rattle.validation_names.specs.Sites.{as_located};
 ghost use Rattle.type_system.specs.Schemas.{as_with_arguments, types};
 ghost use Rattle.type_system.specs.Tables.{AreFirst};
-ghost use Rattle.type_system.specs.Definitions.{items};
-ghost use Rattle.document_grammar.specs.declared.kind.SyntaxKind.TheVariants.{ARGUMENTS};
 ghost use Rattle.query_validation.specs.Breaches.{as_abouts, as_breach, breaches_about, breaches_of, lacking_breaches};
 ghost use Rattle.query_validation.specs.Contexts.{as_context, as_definition};
-ghost use Rattle.query_validation.specs.Rules.{is_lacking, is_not_composite, is_unknown_type, lacks_argument};
-ghost use Rattle.query_validation.specs.Rules.{missing_arguments, site_of, unknown_arguments, unknown_directives};
+ghost use Rattle.query_validation.specs.Rules.{given, is_lacking, is_not_composite, is_unknown_type, lacks_argument};
+ghost use Rattle.query_validation.specs.Rules.{missing, missing_arguments, site_of, unknown_arguments, unknown_directives};
 ghost use Rattle.query_validation.specs.Rules.{unknown_fields, unknown_types, wrong_conditions, wrong_leaves};
 ghost use Rattle.query_validation.specs.Rules.{wrong_variables};
 ghost use Rattle.query_validation.specs.declared.rules.QueryRule.TheVariants.{ProvidedRequiredArguments};
 
 use crate::contexts::{Context, is_composite, is_leaf, type_definition, type_named_in, type_of};
 use crate::judging::QueryViolation;
-use crate::parts::{given_arguments, has_selections, is_condition, is_variable};
+use crate::parts::{given_by_name, has_selections, is_condition, is_variable};
+use crate::values::add_wrong_values;
 use apollo_cst_core::is_one_of;
 use apollo_tree::{SyntaxKind, SyntaxNode};
 use std::alloc::{AllocError, Global};
@@ -37,6 +36,8 @@ pub enum QueryRule {
     KnownArgumentNames,
     /// 5.4.2.1
     ProvidedRequiredArguments,
+    /// 5.6.1, 5.6.2 and 5.6.4
+    ValuesOfCorrectType,
     /// 5.5.1.2, and 5.8.2 for the types of variables
     KnownTypeNames,
     /// 5.5.1.3
@@ -48,16 +49,20 @@ pub enum QueryRule {
 }
 
 /// All of them, in the order in which a node is judged by them.
-pub const QUERY_RULES: [QueryRule; 8] = [
+pub const QUERY_RULES: [QueryRule; 9] = [
     QueryRule::FieldsOnCorrectType,
     QueryRule::ScalarLeafs,
     QueryRule::KnownArgumentNames,
     QueryRule::ProvidedRequiredArguments,
+    QueryRule::ValuesOfCorrectType,
     QueryRule::KnownTypeNames,
     QueryRule::FragmentsOnCompositeTypes,
     QueryRule::KnownDirectives,
     QueryRule::VariablesAreInputTypes,
 ];
+
+// What has arguments, in an operation or a fragment.
+const WITH_ARGUMENTS: [SyntaxKind; 2] = [SyntaxKind::FIELD, SyntaxKind::DIRECTIVE];
 
 impl QueryRule {
     ghost use Rattle.std.specs.Prelude.{◌≡◌};
@@ -72,6 +77,7 @@ impl QueryRule {
             QueryRule::ScalarLeafs => "ScalarLeafs",
             QueryRule::KnownArgumentNames => "KnownArgumentNames",
             QueryRule::ProvidedRequiredArguments => "ProvidedRequiredArguments",
+            QueryRule::ValuesOfCorrectType => "ValuesOfCorrectType",
             QueryRule::KnownTypeNames => "KnownTypeNames",
             QueryRule::FragmentsOnCompositeTypes => "FragmentsOnCompositeTypes",
             QueryRule::KnownDirectives => "KnownDirectives",
@@ -81,7 +87,7 @@ impl QueryRule {
 }
 
 // Where a definition is.
-fn site_of<'t>(definition: Option<&DefinitionWithArguments<'t>>) -> Option<Site<'t>>
+pub(crate) fn site_of<'t>(definition: Option<&DefinitionWithArguments<'t>>) -> Option<Site<'t>>
     ensures { option_map as_located result ≡ site_of (as_definition definition.entry) }
 {
     Some(definition?.definition.site)
@@ -128,7 +134,10 @@ fn wrong_leaf<'t>(
     None
 }
 
-fn lacks_argument(definition: Option<&DefinitionWithArguments<'_>>, name: Option<&str>) -> bool
+pub(crate) fn lacks_argument(
+    definition: Option<&DefinitionWithArguments<'_>>,
+    name: Option<&str>,
+) -> bool
     ensures { result ≡ lacks_argument (as_definition definition.entry) (option_map (λ n. n.now) name.entry) }
 {
     let Some(definition) = definition else {
@@ -212,19 +221,23 @@ fn wrong_variable<'t>(schema: &Schema<'t>, node: &SyntaxNode<'_>) -> Option<Opti
     None
 }
 
-// Whether an argument that has to be given is lacking.
-fn is_lacking<'d>(given: &BTreeMap<&'d str, Site<'d>>, site: &Site<'d>, required: &Site<'_>) -> bool
-    requires { AreFirst given.now (items ARGUMENTS (as_located site.now)) }
-    ensures { result ≡ is_lacking (items ARGUMENTS (as_located site.now)) (as_located required.now) }
+// Whether something that has to be given is lacking.
+fn is_lacking<'d>(
+    entries: &BTreeMap<&'d str, Site<'d>>,
+    site: &Site<'d>,
+    required: &Site<'_>,
+) -> bool
+    requires { AreFirst entries.now (given (as_located site.now)) }
+    ensures { result ≡ is_lacking (given (as_located site.now)) (as_located required.now) }
 {
     match name(&required.node) {
-        Some(name) => !given.contains_key(name),
+        Some(name) => !entries.contains_key(name),
         None => true,
     }
 }
 
 // Adds a breach of a rule, if there is one.
-fn add<'d, 't>(
+pub(crate) fn add<'d, 't>(
     found: &mut Vec<QueryViolation<'d, 't>>,
     rule: QueryRule,
     site: &Site<'d>,
@@ -244,28 +257,54 @@ fn add<'d, 't>(
     Ok(())
 }
 
-// Adds each argument that is lacking.
+// Adds what is lacking.
 fn add_lacking<'d, 't>(
     found: &mut Vec<QueryViolation<'d, 't>>,
+    rule: QueryRule,
     site: &Site<'d>,
-    given: &BTreeMap<&'d str, Site<'d>>,
+    entries: &BTreeMap<&'d str, Site<'d>>,
     required: &[Site<'t>],
 ) -> Result<(), AllocError>
-    requires { AreFirst given.now (items ARGUMENTS (as_located site.now)) }
+    requires { AreFirst entries.now (given (as_located site.now)) }
     ensures { OnOk result (map as_breach found.new.items
-        ≡ map as_breach found.old.items ++ lacking_breaches (as_located site.now) (map as_located required.now)) }
+        ≡ map as_breach found.old.items
+        ++ lacking_breaches rule (as_located site.now) (map as_located required.now)) }
 {
     for required in required {
-        if is_lacking(given, site, required) {
-            let (rule, definition) = (QueryRule::ProvidedRequiredArguments, Some(*required));
+        if is_lacking(entries, site, required) {
+            let definition = Some(*required);
             add(found, rule, site, Some(definition))?;
         }
     }
     Ok(())
 }
 
+// Adds what a field, a directive or an input object lacks.
+pub(crate) fn add_missing<'d, 't>(
+    alloc: Global,
+    found: &mut Vec<QueryViolation<'d, 't>>,
+    rule: QueryRule,
+    inside: &Context<'_, 't>,
+    site: &Site<'d>,
+) -> Result<(), AllocError>
+    ensures { OnOk result (map as_breach found.new.items
+        ≡ map as_breach found.old.items
+        ++ breaches_about rule (as_located site.now) (missing (as_context inside.now) (as_located site.now))) }
+{
+    let Some(definition) = inside.definition else {
+        return Ok(());
+    };
+    let required = definition.required();
+    // most definitions have none, and then there is nothing to look up
+    if required.is_empty() {
+        return Ok(());
+    }
+    let entries = given_by_name(alloc, site)?;
+    add_lacking(found, rule, site, &entries, required)
+}
+
 // Adds each argument that a field or a directive lacks.
-fn add_missing<'d, 't>(
+fn add_missing_arguments<'d, 't>(
     alloc: Global,
     found: &mut Vec<QueryViolation<'d, 't>>,
     inside: &Context<'_, 't>,
@@ -276,20 +315,16 @@ fn add_missing<'d, 't>(
         ++ breaches_about ProvidedRequiredArguments (as_located site.now)
         (missing_arguments (as_context inside.now) (as_located site.now))) }
 {
-    let kind = site.node.kind();
-    if !(kind.is(SyntaxKind::FIELD) || kind.is(SyntaxKind::DIRECTIVE)) {
+    if !is_one_of(site.node.kind(), &WITH_ARGUMENTS) {
         return Ok(());
     }
-    let Some(definition) = inside.definition else {
-        return Ok(());
-    };
-    let required = definition.required();
-    // most definitions have none, and then there is nothing to look up
-    if required.is_empty() {
-        return Ok(());
-    }
-    let given = given_arguments(alloc, site)?;
-    add_lacking(found, site, &given, required)
+    add_missing(
+        alloc,
+        found,
+        QueryRule::ProvidedRequiredArguments,
+        inside,
+        site,
+    )
 }
 
 /// Adds what a node breaks of a rule, by the contexts around it and inside it.
@@ -312,7 +347,12 @@ pub(crate) fn judge_rule<'d, 't>(
         QueryRule::FieldsOnCorrectType => unknown_field(schema, around, inside, node),
         QueryRule::ScalarLeafs => wrong_leaf(schema, around, inside, node),
         QueryRule::KnownArgumentNames => unknown_argument(around, node),
-        QueryRule::ProvidedRequiredArguments => return add_missing(alloc, found, inside, site),
+        QueryRule::ProvidedRequiredArguments => {
+            return add_missing_arguments(alloc, found, inside, site);
+        }
+        QueryRule::ValuesOfCorrectType => {
+            return add_wrong_values(alloc, schema, around, inside, site, found);
+        }
         QueryRule::KnownTypeNames => unknown_type(schema, node),
         QueryRule::FragmentsOnCompositeTypes => wrong_condition(schema, node),
         QueryRule::KnownDirectives => unknown_directive(inside, node),

@@ -7,4 +7,4 @@ abbrev pub invariant-loop-required : goal.invariant-loop-required
 invariant-loop-required l =
     map as_breach l.found.items
     ≡ map as_breach l.fn.found.items
-    ++ lacking_breaches (as_located l.site) (map as_located (take l.required-index l.fn.required))
+    ++ lacking_breaches l.fn.rule (as_located l.site) (map as_located (take l.required-index l.fn.required))
