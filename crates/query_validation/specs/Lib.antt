@@ -5,3 +5,5 @@ pub mod Messages
 pub mod RuleNames
 pub mod Rules
 pub mod Stack
+pub mod Texts
+pub mod ValueMessages

@@ -1,58 +1,18 @@
 -- The message of a breach, in the words of graphql-js 16.
-use Rattle.std.specs.List.{flat_map}
-use Rattle.std.specs.Prelude.{ℕ, List, [], ◌∷◌, ◌++◌, codes, Option, Some, None, option_map, option_and_then}
-use Rattle.std.specs.Prelude.{if◌then◌else◌}
+use Rattle.std.specs.Prelude.{[], ◌++◌, codes, Option, Some, None, option_and_then, if◌then◌else◌}
 use Rattle.document_grammar.specs.declared.kind.SyntaxKind.TheVariants.{DIRECTIVE, FIELD}
-use Rattle.apollo_tree.specs.Below.{at_or_below}
-use Rattle.apollo_tree.specs.Order.{Place, parent_place, text_at}
-use Rattle.apollo_cst_core.specs.Kinds.{is_of, is_of_one}
+use Rattle.apollo_tree.specs.Order.{Place}
+use Rattle.apollo_cst_core.specs.Kinds.{is_of}
 use Rattle.validation_names.specs.Names.{Name}
-use Rattle.validation_names.specs.OwnNames.{name_at, or_nothing, own_name}
+use Rattle.validation_names.specs.OwnNames.{name_at, own_name}
 use Rattle.validation_names.specs.Sites.{Located}
-use Rattle.type_system.specs.Definitions.{named_in, type_reference}
 use Rattle.type_system.specs.Types.{Types}
 use Rattle.query_validation.specs.Breaches.{QueryBreach}
-use Rattle.query_validation.specs.Contexts.{around, type_definition}
-use Rattle.query_validation.specs.declared.messages.TheConstants.{TYPE_TOKENS}
+use Rattle.query_validation.specs.Texts.{Text, defined_name, name_of_parent, owner, parent_type, type_of_definition}
+use Rattle.query_validation.specs.Texts.{type_text}
+use Rattle.query_validation.specs.ValueMessages.{wrong_value}
 use Rattle.query_validation.specs.declared.rules.QueryRule.{QueryRule}
 use Rattle.query_validation.specs.declared.rules.QueryRule.TheVariants as rule
-
-abbrev pub Text : Type 0
-Text = List ℕ
-
--- ---- names
-
--- the name of a definition, if there is one
-abbrev pub defined_name : Option Located → Name
-defined_name d = or_nothing (option_and_then (λ (s : Located). own_name s.place) d)
-
--- the parent of a node, and the node that is two above it: for example the field with an argument
-abbrev pub name_of_parent : Place → Name
-name_of_parent p = or_nothing (option_and_then own_name (parent_place p))
-
-abbrev pub owner : Place → Option Place
-owner p = option_and_then parent_place (parent_place p)
-
--- the name of the type from which a field is selected
-abbrev pub parent_type : Types → Place → Name
-parent_type T field = defined_name (type_definition T (around T field).parent)
-
--- ---- types
-
--- 2.11: A reference to a type, without spaces: `[Dog!]!`.
-abbrev pub type_token : Place → Text
-type_token p = if is_of_one TYPE_TOKENS p then text_at p else []
-
-abbrev pub type_text : Place → Text
-type_text reference = flat_map type_token (at_or_below reference)
-
-abbrev pub text_of_reference : Option Place → Text
-text_of_reference None = []
-text_of_reference (Some reference) = type_text reference
-
--- the type of a definition
-abbrev pub type_of_definition : Option Located → Text
-type_of_definition d = text_of_reference (option_and_then (λ (s : Located). type_reference s.place) d)
 
 -- ---- rules
 
@@ -126,7 +86,7 @@ wording T rule.FieldsOnCorrectType p d = unknown_field (name_at p) (defined_name
 wording T rule.ScalarLeafs p d = wrong_leaf p (type_of_definition d)
 wording T rule.KnownArgumentNames p d = unknown_argument T p
 wording T rule.ProvidedRequiredArguments p d = missing_argument p (defined_name d) (type_of_definition d)
-wording T rule.ValuesOfCorrectType p d = name_at p
+wording T rule.ValuesOfCorrectType p d = wrong_value T p d
 wording T rule.KnownTypeNames p d = codes "Unknown type \"" ++ name_at p ++ codes "\"."
 wording T rule.FragmentsOnCompositeTypes p d = wrong_condition (name_of_owner p) (name_at p)
 wording T rule.KnownDirectives p d = codes "Unknown directive \"@" ++ name_at p ++ codes "\"."

@@ -11,6 +11,8 @@ mod messages;
 mod parts;
 mod rules;
 mod stack;
+mod texts;
+mod value_messages;
 mod values;
 
 pub use contexts::{Context, Wanted};

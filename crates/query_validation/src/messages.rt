@@ -1,135 +1,25 @@
 // The messages of violations, in the words of graphql-js 16.
-ghost use Rattle.std.specs.Prelude.{◌≡◌, ◌++◌, IfOk, OnOk, option_and_then, option_map, string_bytes};
+ghost use Rattle.std.specs.Prelude.{◌≡◌, IfOk, option_map, string_bytes};
 ghost use Rattle.apollo_tree.specs.References.{node_place};
-ghost use Rattle.apollo_tree.specs.Yields.{element_place};
-ghost use Rattle.validation_names.specs.OwnNames.{own_name};
-ghost use Rattle.validation_names.specs.Sites.{Located, as_located};
-ghost use Rattle.type_system.specs.Definitions.{type_reference};
+ghost use Rattle.validation_names.specs.Sites.{as_located};
 ghost use Rattle.type_system.specs.Schemas.{types};
 ghost use Rattle.query_validation.specs.Breaches.{as_breach};
-ghost use Rattle.query_validation.specs.Messages.{argument_in, defined_name, given_to, has_no_fields, lacking_in};
-ghost use Rattle.query_validation.specs.Messages.{lacks_selections, not_an_input};
-ghost use Rattle.query_validation.specs.Messages.{message_of, missing_argument, name_of_owner, name_of_parent, owner};
-ghost use Rattle.query_validation.specs.Messages.{parent_type, text_of_reference, type_of_definition, type_text};
-ghost use Rattle.query_validation.specs.Messages.{type_token, unknown_argument, unknown_field, with_arguments};
-ghost use Rattle.query_validation.specs.Messages.{wrong_condition, wrong_leaf, wrong_variable};
+ghost use Rattle.query_validation.specs.Messages.{argument_in, given_to, has_no_fields, lacking_in, lacks_selections};
+ghost use Rattle.query_validation.specs.Messages.{message_of, missing_argument, name_of_owner, not_an_input};
+ghost use Rattle.query_validation.specs.Messages.{unknown_argument, unknown_field, with_arguments, wrong_condition};
+ghost use Rattle.query_validation.specs.Messages.{wrong_leaf, wrong_variable};
+ghost use Rattle.query_validation.specs.Texts.{defined_name, type_of_definition};
 
-use crate::contexts::{around_of, type_definition};
 use crate::judging::QueryViolation;
 use crate::rules::QueryRule;
-use apollo_cst_core::is_one_of;
-use apollo_tree::{SyntaxElement, SyntaxKind, SyntaxNode};
+use crate::texts::{
+    defined_name, name_in, name_of_parent, owner, parent_type, type_of_definition, type_text,
+};
+use crate::value_messages::wrong_value;
+use apollo_tree::{SyntaxKind, SyntaxNode};
 use std::alloc::{AllocError, Global};
-use type_system::{Schema, type_reference};
-use validation_names::{Site, name_at, or_nothing, own_name, with_names};
-
-// The tokens of a reference to a type (section 2.11).
-const TYPE_TOKENS: [SyntaxKind; 4] = [
-    SyntaxKind::L_BRACK,
-    SyntaxKind::R_BRACK,
-    SyntaxKind::BANG,
-    SyntaxKind::IDENT,
-];
-
-// The text of a token of a type.
-fn type_token<'t>(element: &SyntaxElement<'t>) -> &'t str
-    ensures { result.now ≡ type_token (element_place element.now) }
-{
-    if !is_one_of(element.kind(), &TYPE_TOKENS) {
-        return "";
-    }
-    match element {
-        SyntaxElement::Node(node) => node.text(),
-        SyntaxElement::Token(token) => token.text(),
-    }
-}
-
-// Writes a reference to a type, without spaces.
-fn push_type(text: &mut String, reference: &SyntaxNode<'_>) -> Result<(), AllocError>
-    ensures { OnOk result (string_bytes text.new ≡ string_bytes text.old ++ type_text (node_place reference.now)) }
-{
-    for element in reference.descendants_with_tokens() {
-        text.push_str(type_token(&element))?;
-    }
-    Ok(())
-}
-
-fn type_text(alloc: Global, reference: &SyntaxNode<'_>) -> Result<String, AllocError>
-    ensures { IfOk result (λ text. string_bytes text ≡ type_text (node_place reference.now)) }
-{
-    let mut text = String::new(alloc);
-    push_type(&mut text, reference)?;
-    Ok(text)
-}
-
-fn text_of_reference(alloc: Global, reference: Option<SyntaxNode<'_>>) -> Result<String, AllocError>
-    ensures { IfOk result (λ text.
-        string_bytes text ≡ text_of_reference (option_map node_place reference.entry)) }
-{
-    match reference {
-        Some(reference) => type_text(alloc, &reference),
-        None => Ok(String::new(alloc)),
-    }
-}
-
-// The reference to a type in a definition.
-fn reference_in<'t>(definition: Option<Site<'t>>) -> Option<SyntaxNode<'t>>
-    ensures { option_map node_place result
-        ≡ option_and_then (λ (s : Located). type_reference s.place) (option_map as_located definition.entry) }
-{
-    type_reference(&definition?.node)
-}
-
-fn type_of_definition(alloc: Global, definition: Option<Site<'_>>) -> Result<String, AllocError>
-    ensures { IfOk result (λ text.
-        string_bytes text ≡ type_of_definition (option_map as_located definition.entry)) }
-{
-    text_of_reference(alloc, reference_in(definition))
-}
-
-fn name_in<'t>(node: Option<SyntaxNode<'t>>) -> Option<&'t str>
-    ensures { option_map (λ n. n.now) result ≡ option_and_then own_name (option_map node_place node.entry) }
-{
-    own_name(&node?)
-}
-
-fn name_of_definition<'t>(definition: Option<Site<'t>>) -> Option<&'t str>
-    ensures { option_map (λ n. n.now) result
-        ≡ option_and_then (λ (s : Located). own_name s.place) (option_map as_located definition.entry) }
-{
-    own_name(&definition?.node)
-}
-
-fn defined_name<'t>(definition: Option<Site<'t>>) -> &'t str
-    ensures { result.now ≡ defined_name (option_map as_located definition.entry) }
-{
-    or_nothing(name_of_definition(definition))
-}
-
-fn name_of_parent<'t>(node: &SyntaxNode<'t>) -> &'t str
-    ensures { result.now ≡ name_of_parent (node_place node.now) }
-{
-    or_nothing(name_in(node.parent()))
-}
-
-// The node that is two above another: for example the field with an argument.
-fn owner<'t>(node: &SyntaxNode<'t>) -> Option<SyntaxNode<'t>>
-    ensures { option_map node_place result ≡ owner (node_place node.now) }
-{
-    node.parent()?.parent()
-}
-
-// The name of the type from which a field is selected.
-fn parent_type<'t>(
-    alloc: Global,
-    schema: &Schema<'t>,
-    field: &SyntaxNode<'_>,
-) -> Result<&'t str, AllocError>
-    ensures { IfOk result (λ name. name.now ≡ parent_type (types schema.now) (node_place field.now)) }
-{
-    let around = around_of(alloc, schema, field)?;
-    Ok(defined_name(type_definition(schema, around.parent)))
-}
+use type_system::Schema;
+use validation_names::{Site, name_at, with_names};
 
 fn unknown_field(alloc: Global, name: &str, of: &str) -> Result<String, AllocError>
     ensures { IfOk result (λ text. string_bytes text ≡ unknown_field name.now of.now) }
@@ -328,7 +218,7 @@ pub fn message(
         QueryRule::ScalarLeafs => wrong_leaf(alloc, node, definition),
         QueryRule::KnownArgumentNames => unknown_argument(alloc, schema, node),
         QueryRule::ProvidedRequiredArguments => missing_argument(alloc, node, definition),
-        QueryRule::ValuesOfCorrectType => format!(in alloc; "{name}"),
+        QueryRule::ValuesOfCorrectType => wrong_value(alloc, schema, node, definition),
         QueryRule::KnownTypeNames => format!(in alloc; "Unknown type \"{name}\"."),
         QueryRule::FragmentsOnCompositeTypes => {
             wrong_condition(alloc, name_in(owner(node)), name)

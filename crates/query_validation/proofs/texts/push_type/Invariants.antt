@@ -3,8 +3,8 @@ use Rattle.std.specs.List.{flat_map}
 use Rattle.std.specs.Prelude.{string_bytes}
 use Rattle.apollo_tree.specs.References.{node_place}
 use Rattle.apollo_tree.specs.Yields.{rest_descendants}
-use Rattle.query_validation.proofs.messages.push_type.Given as goal
-use Rattle.query_validation.specs.Messages.{type_text, type_token}
+use Rattle.query_validation.proofs.texts.push_type.Given as goal
+use Rattle.query_validation.specs.Texts.{type_text, type_token}
 
 abbrev pub invariant-loop-element : goal.invariant-loop-element
 invariant-loop-element l =
