@@ -1,15 +1,16 @@
 -- The messages about values (section 5.6), in the words of graphql-js 16. A value is as it stands in the text.
 use Rattle.std.specs.Prelude.{[], ◌++◌, ◌&&◌, ◌||◌, codes, bytes_eq, Option, Some, None, if◌then◌else◌}
-use Rattle.document_grammar.specs.declared.kind.SyntaxKind.TheVariants.{ENUM_VALUE, INT_VALUE, NULL_VALUE, OBJECT_FIELD}
-use Rattle.document_grammar.specs.declared.kind.SyntaxKind.TheVariants.{OBJECT_VALUE}
+use Rattle.document_grammar.specs.declared.kind.SyntaxKind.TheVariants.{ENUM_VALUE, INT_VALUE, LIST_VALUE, NULL_VALUE}
+use Rattle.document_grammar.specs.declared.kind.SyntaxKind.TheVariants.{OBJECT_FIELD, OBJECT_VALUE}
 use Rattle.apollo_tree.specs.Order.{Place, text_at}
 use Rattle.apollo_cst_core.specs.Kinds.{is_of}
 use Rattle.validation_names.specs.Names.{Name}
 use Rattle.validation_names.specs.OwnNames.{name_at, or_nothing}
 use Rattle.validation_names.specs.Sites.{Located}
+use Rattle.type_system.specs.Definitions.{nullable}
 use Rattle.type_system.specs.Types.{Types}
 use Rattle.query_validation.specs.Contexts.{Wanted, around, is_enum, is_input_object, type_name}
-use Rattle.query_validation.specs.Texts.{Text, defined_name, type_of_definition, type_text}
+use Rattle.query_validation.specs.Texts.{Text, defined_name, text_of_reference, type_of_definition, type_text}
 
 -- the name of the type that is wanted
 abbrev pub wanted_name : Types → Wanted → Name
@@ -47,11 +48,15 @@ not_taken of p =
 abbrev pub not_of_scalar : Name → Place → Text
 not_of_scalar of p = of ++ codes " cannot represent " ++ not_taken of p ++ codes ": " ++ text_at p
 
--- 5.6.1
+-- 5.6.1: at a list, graphql-js says the type without its `!`
+abbrev pub expected_type : Wanted → Place → Text
+expected_type w p =
+    if is_of LIST_VALUE p then text_of_reference (nullable w.reference) else type_text w.reference
+
 abbrev pub is_not_expected : Types → Wanted → Place → Text
 is_not_expected T w p =
     if is_of NULL_VALUE p || is_input_object T w.type
-    then not_expected (type_text w.reference) (text_at p)
+    then not_expected (expected_type w p) (text_at p)
     else (if is_enum T w.type then not_of_enum (wanted_name T w) p else not_of_scalar (wanted_name T w) p)
 
 -- 5.6.2: the name, and the input object's

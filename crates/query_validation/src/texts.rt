@@ -55,7 +55,10 @@ pub(crate) fn type_text(alloc: Global, reference: &SyntaxNode<'_>) -> Result<Str
     Ok(text)
 }
 
-fn text_of_reference(alloc: Global, reference: Option<SyntaxNode<'_>>) -> Result<String, AllocError>
+pub(crate) fn text_of_reference(
+    alloc: Global,
+    reference: Option<SyntaxNode<'_>>,
+) -> Result<String, AllocError>
     ensures { IfOk result (λ text.
         string_bytes text ≡ text_of_reference (option_map node_place reference.entry)) }
 {

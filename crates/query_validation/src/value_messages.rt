@@ -4,17 +4,17 @@ ghost use Rattle.apollo_tree.specs.References.{node_place};
 ghost use Rattle.validation_names.specs.Sites.{as_located};
 ghost use Rattle.type_system.specs.Schemas.{types};
 ghost use Rattle.query_validation.specs.Contexts.{as_wanted};
-ghost use Rattle.query_validation.specs.Texts.{type_text};
-ghost use Rattle.query_validation.specs.ValueMessages.{is_not_expected, missing_field, no_enum_value, no_integer};
-ghost use Rattle.query_validation.specs.ValueMessages.{no_such_field, no_such_value, not_expected, not_of_enum};
+ghost use Rattle.query_validation.specs.ValueMessages.{expected_type, is_not_expected, missing_field};
+ghost use Rattle.query_validation.specs.ValueMessages.{no_enum_value, no_integer, no_such_field, no_such_value};
+ghost use Rattle.query_validation.specs.ValueMessages.{not_expected, not_of_enum};
 ghost use Rattle.query_validation.specs.ValueMessages.{not_of_scalar, not_taken, wanted_name, wrong_literal};
 ghost use Rattle.query_validation.specs.ValueMessages.{wrong_value};
 
 use crate::contexts::{Wanted, around_of, is_enum, is_input_object, type_name};
-use crate::texts::{defined_name, type_of_definition, type_text};
+use crate::texts::{defined_name, text_of_reference, type_of_definition, type_text};
 use apollo_tree::{SyntaxKind, SyntaxNode};
 use std::alloc::{AllocError, Global};
-use type_system::Schema;
+use type_system::{Schema, nullable};
 use validation_names::{Site, name_at, or_nothing, with_names};
 
 // The name of the type that is wanted.
@@ -103,6 +103,20 @@ fn not_of_scalar(alloc: Global, of: &str, node: &SyntaxNode<'_>) -> Result<Strin
     Ok(text)
 }
 
+// The type that a message says; graphql-js says it without its `!` at a list.
+fn expected_type(
+    alloc: Global,
+    wanted: &Wanted<'_, '_>,
+    node: &SyntaxNode<'_>,
+) -> Result<String, AllocError>
+    ensures { IfOk result (λ text. string_bytes text ≡ expected_type (as_wanted wanted.now) (node_place node.now)) }
+{
+    if node.kind().is(SyntaxKind::LIST_VALUE) {
+        return text_of_reference(alloc, nullable(&wanted.reference));
+    }
+    type_text(alloc, &wanted.reference)
+}
+
 fn is_not_expected(
     alloc: Global,
     schema: &Schema<'_>,
@@ -113,7 +127,7 @@ fn is_not_expected(
         ≡ is_not_expected (types schema.now) (as_wanted wanted.now) (node_place node.now)) }
 {
     if node.kind().is(SyntaxKind::NULL_VALUE) || is_input_object(schema, wanted.type_number) {
-        let of = type_text(alloc, &wanted.reference)?;
+        let of = expected_type(alloc, wanted, node)?;
         return not_expected(alloc, of.as_str(), node.text());
     }
     let of = wanted_name(schema, wanted);

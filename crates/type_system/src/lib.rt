@@ -19,4 +19,4 @@ pub use kinds::{COMPOSITE_TYPES, LEAF_TYPES, OperationType, TYPE_REFERENCES};
 pub use schema::{DefinitionWithArguments, Schema, TypedDefinition};
 pub use standard::{EACH_TYPE, QUERY_ROOT, STANDARD};
 pub use tables::first_by_name;
-pub use type_references::{item_type, named_in, named_type, type_reference};
+pub use type_references::{item_type, named_in, named_type, nullable, type_reference};

@@ -49,8 +49,8 @@ pub fn named_type<'t>(node: &SyntaxNode<'t>) -> Option<&'t str>
     named_in(&reference)
 }
 
-// A type without its `!`.
-fn nullable<'t>(reference: &SyntaxNode<'t>) -> Option<SyntaxNode<'t>>
+/// A type without its `!`: `[Dog!]` for `[Dog!]!`.
+pub fn nullable<'t>(reference: &SyntaxNode<'t>) -> Option<SyntaxNode<'t>>
     ensures { option_map node_place result ≡ nullable (node_place reference.now) }
 {
     if reference.kind().is(SyntaxKind::NON_NULL_TYPE) {
