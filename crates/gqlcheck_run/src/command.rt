@@ -16,9 +16,10 @@ Checks GraphQL documents before they run: that each is a document, that all of
 them together keep the rules that need no schema, and that their operations are
 within limits. So an operation may spread a fragment of another FILE, and two
 FILEs must not define one name. Where a FILE is no document, only errors of that
-sort are found. With --schema it also checks fields, arguments, named types and
-directives by the types of a schema. Of the schema itself it checks only that no
-definition has two fields, arguments, values, members or interfaces of one name.
+sort are found. With --schema it also checks fields, arguments, values, named
+types and directives by the types of a schema. Of the schema itself it checks
+only that no definition has two fields, arguments, values, members or interfaces
+of one name.
 Without FILE, or where FILE is -, it reads standard input. A FILE that is a
 folder means the files below it that end in .graphql, .graphqls or .gql, but for
 hidden names, node_modules and symbolic links. What a .gitignore, a

@@ -62,7 +62,7 @@ abbrev pub as_abouts : Option (Option Site) → Abouts
 as_abouts None = []
 as_abouts (Some definition) = option_map as_located definition ∷ []
 
--- what is lacking, of what has to be given
+-- what is lacking, of some that have to be given
 abbrev pub lacking_breaches : QueryRule → Located → List Located → List QueryBreach
 lacking_breaches rule site required =
     breaches_about rule site (map Some (filter (is_lacking (given site)) required))

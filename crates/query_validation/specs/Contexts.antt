@@ -9,7 +9,7 @@ use Rattle.document_grammar.specs.declared.kind.SyntaxKind.TheVariants.{DIRECTIV
 use Rattle.document_grammar.specs.declared.kind.SyntaxKind.TheVariants.{FRAGMENT_DEFINITION}
 use Rattle.document_grammar.specs.declared.kind.SyntaxKind.TheVariants.{INLINE_FRAGMENT, INPUT_OBJECT_TYPE_DEFINITION}
 use Rattle.document_grammar.specs.declared.kind.SyntaxKind.TheVariants.{LIST_VALUE, OBJECT_VALUE}
-use Rattle.document_grammar.specs.declared.kind.SyntaxKind.TheVariants.{OPERATION_DEFINITION, SCALAR_TYPE_DEFINITION}
+use Rattle.document_grammar.specs.declared.kind.SyntaxKind.TheVariants.{OPERATION_DEFINITION}
 use Rattle.document_grammar.specs.declared.kind.SyntaxKind.TheVariants.{TYPE_CONDITION, VARIABLE_DEFINITION}
 use Rattle.apollo_tree.specs.Above.{at_or_above}
 use Rattle.apollo_tree.specs.Children.{child_nodes}
@@ -23,7 +23,7 @@ use Rattle.type_system.specs.Definitions.{item_type, named_in, named_type, opera
 use Rattle.type_system.specs.Schemas.{as_with_arguments}
 use Rattle.type_system.specs.Types.{Typed, Types, WithArguments, has_number}
 use Rattle.type_system.specs.declared.kinds.OperationType.TheVariants.{Query}
-use Rattle.type_system.specs.declared.kinds.TheConstants.{COMPOSITE_TYPES, LEAF_TYPES}
+use Rattle.type_system.specs.declared.kinds.TheConstants.{COMPOSITE_TYPES, INPUT_TYPES, LEAF_TYPES}
 use Rattle.type_system.specs.declared.schema.DefinitionWithArguments.{DefinitionWithArguments}
 use Rattle.query_validation.specs.declared.contexts.Context as declared
 use Rattle.query_validation.specs.declared.contexts.TheConstants.{WITH_VALUES}
@@ -62,8 +62,9 @@ is_composite T number = is_defined_as COMPOSITE_TYPES (type_definition T number)
 abbrev pub is_leaf : Types → Option ℕ → Bool
 is_leaf T number = is_defined_as LEAF_TYPES (type_definition T number)
 
-abbrev pub is_scalar : Types → Option ℕ → Bool
-is_scalar T number = is_defined_as (SCALAR_TYPE_DEFINITION ∷ []) (type_definition T number)
+-- 3.4.2: a scalar, an enum or an input object
+abbrev pub is_input : Types → Option ℕ → Bool
+is_input T number = is_defined_as INPUT_TYPES (type_definition T number)
 
 abbrev pub is_enum : Types → Option ℕ → Bool
 is_enum T number = is_defined_as (ENUM_TYPE_DEFINITION ∷ []) (type_definition T number)
@@ -119,20 +120,28 @@ abbrev pub argument_of : Option WithArguments → Option Name → Option Typed
 argument_of None name = None
 argument_of (Some d) name = option_and_then d.argument_named name
 
--- its type
+-- a type, if it is an input type
+abbrev pub input_only : Types → Wanted → Option Wanted
+input_only T w = if is_input T w.type then Some w else None
+
+-- the type of an argument or an input field that is given
 abbrev pub wanted_by : Typed → Option Wanted
 wanted_by d = option_map
     (λ reference. record { reference = reference; type = d.type; definition = Some d.site })
     (type_reference d.site.place)
 
-abbrev pub wanted_in : Context → Place → Option Wanted
-wanted_in around p = option_and_then wanted_by (argument_of around.definition (name_of p))
+abbrev pub wanted_in : Types → Context → Place → Option Wanted
+wanted_in T around p = option_and_then (input_only T)
+    (option_and_then wanted_by (argument_of around.definition (name_of p)))
 
 -- 2.10 and 5.6.1: the default value of a variable has the variable's type
-abbrev pub wanted_of_variable : Types → Place → Option Wanted
-wanted_of_variable T p = option_map
+abbrev pub type_of_variable : Types → Place → Option Wanted
+type_of_variable T p = option_map
     (λ reference. record { reference = reference; type = type_named_in T (named_in reference); definition = None })
     (type_reference p)
+
+abbrev pub wanted_of_variable : Types → Place → Option Wanted
+wanted_of_variable T p = option_and_then (input_only T) (type_of_variable T p)
 
 -- 3.11: what is in a list has the type of its items
 abbrev pub wanted_item : Wanted → Option Wanted
@@ -156,13 +165,16 @@ step_in_value T around p =
     then gives around None (option_and_then wanted_item around.wanted)
     else (if is_of VARIABLE_DEFINITION p
     then gives around None (wanted_of_variable T p)
-    else gives around around.definition (wanted_in around p)))
+    else gives around around.definition (wanted_in T around p)))
 
--- The context inside a node, by the context around it.
+-- ---- fields and directives
+abbrev pub in_field : Types → Option WithArguments → Context
+in_field T definition = record { parent = composite T (type_of definition); definition = definition; wanted = None }
+
 abbrev pub step_in_selection : Types → Context → Place → Context
 step_in_selection T around p =
     if is_of FIELD p
-    then record { parent = composite T (type_of (field_at T around p)); definition = field_at T around p; wanted = None }
+    then in_field T (field_at T around p)
     else (if is_of DIRECTIVE p
     then record { parent = around.parent; definition = directive_at T p; wanted = None }
     else (if is_of INLINE_FRAGMENT p
@@ -173,6 +185,7 @@ step_in_selection T around p =
     then selects_from (composite T (T.root (operation_type p)))
     else around))))
 
+-- The context inside a node, by the context around it.
 abbrev pub step : Types → Context → Place → Context
 step T around p = if is_of_one WITH_VALUES p then step_in_value T around p else step_in_selection T around p
 

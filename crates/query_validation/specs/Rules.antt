@@ -2,7 +2,7 @@
 -- rule says is broken is judged only where the types are known: below an unknown field, nothing is.
 use Rattle.std.specs.Int.Signed.{lt_z}
 use Rattle.std.specs.List.{filter, find}
-use Rattle.std.specs.Prelude.{ℕ, List, [], ◌∷◌, map, Bool, false, not, ◌&&◌, ◌||◌, Option, Some, None, is_some}
+use Rattle.std.specs.Prelude.{ℕ, List, [], ◌∷◌, map, Bool, false, not, ◌&&◌, Option, Some, None, is_some}
 use Rattle.std.specs.Prelude.{is_none, if◌then◌else◌, option_map, option_and_then, bytes_eq, codes, pos, negsuc, true}
 use Rattle.lexical_grammar.specs.Values.{IntOf}
 use Rattle.document_grammar.specs.declared.kind.SyntaxKind.TheVariants.{ARGUMENT, ARGUMENTS, BOOLEAN_VALUE, DIRECTIVE}
@@ -21,11 +21,11 @@ use Rattle.type_system.specs.Definitions.{children, item_type, items, named_in}
 use Rattle.type_system.specs.Types.{Types, WithArguments, first_named}
 use Rattle.type_system.specs.declared.kinds.TheConstants.{TYPE_REFERENCES}
 use Rattle.query_validation.specs.Contexts.{Context, Wanted, is_composite, is_enum, is_input_object, is_leaf}
-use Rattle.query_validation.specs.Contexts.{is_scalar, type_definition, type_name, type_named_in, type_of}
+use Rattle.query_validation.specs.Contexts.{type_definition, type_name, type_named_in, type_of}
 use Rattle.query_validation.specs.declared.rules.QueryRule.{QueryRule}
+use Rattle.query_validation.specs.declared.rules.QueryRule.TheVariants as rule
 use Rattle.query_validation.specs.declared.rules.TheConstants.{WITH_ARGUMENTS}
 use Rattle.query_validation.specs.declared.values.TheConstants.{FLOAT_LITERALS, ID_LITERALS, LITERALS}
-use Rattle.query_validation.specs.declared.rules.QueryRule.TheVariants as rule
 
 -- What a node breaks of a rule: for each breach the definition in the schema that it is about, if there is one.
 abbrev pub Abouts : Type 0
@@ -66,8 +66,8 @@ abbrev pub unknown_arguments : Context → Place → Abouts
 unknown_arguments around p =
     once (is_of ARGUMENT p && lacks_argument around.definition (name_of p)) (site_of around.definition)
 
--- Required arguments, and required fields of an input object: each that has to be given is given. A breach is about what
--- is lacking.
+-- Each required argument is given, and each required field of an input object. A breach is about the one that is
+-- lacking.
 abbrev pub is_lacking : List Located → Located → Bool
 is_lacking given required = is_none (option_and_then (first_named given) (name_of required.place))
 
@@ -151,14 +151,14 @@ abbrev pub is_value : Types → Option ℕ → Place → Bool
 is_value T number p =
     is_of ENUM_VALUE p && is_some (option_and_then (λ n. option_and_then (T.value_named n) (name_of p)) number)
 
--- by the named type, if it is an input type
+-- by the named type, which is an input type
 abbrev pub is_of_named : Types → Option ℕ → Place → Bool
 is_of_named T number p =
     if is_enum T number
     then is_value T number p
     else (if is_input_object T number
     then is_of OBJECT_VALUE p
-    else (if is_scalar T number then is_of_scalar (type_name T number) p else true))
+    else is_of_scalar (type_name T number) p)
 
 -- `null` is of each type that is not non-null. A list is of each list's type; each of its items is judged by itself.
 -- Another literal where a list is wanted is a list with one item (3.11).

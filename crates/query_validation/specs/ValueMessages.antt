@@ -1,4 +1,4 @@
--- The messages about values (section 5.6), in the words of graphql-js 16. A value is as it stands in the text.
+-- The messages about values (section 5.6), in the words of graphql-js 16. A value is written as the text has it.
 use Rattle.std.specs.Prelude.{[], ◌++◌, ◌&&◌, ◌||◌, codes, bytes_eq, Option, Some, None, if◌then◌else◌}
 use Rattle.document_grammar.specs.declared.kind.SyntaxKind.TheVariants.{ENUM_VALUE, INT_VALUE, LIST_VALUE, NULL_VALUE}
 use Rattle.document_grammar.specs.declared.kind.SyntaxKind.TheVariants.{OBJECT_FIELD, OBJECT_VALUE}

@@ -6,8 +6,9 @@ ghost use Rattle.validation_names.specs.Sites.{as_located};
 ghost use Rattle.type_system.specs.Schemas.{as_typed, as_with_arguments, types};
 ghost use Rattle.query_validation.specs.Contexts.{argument_of, around, as_context, as_definition, as_wanted};
 ghost use Rattle.query_validation.specs.Contexts.{composite, condition, directive_at, field_at, field_of, inline};
-ghost use Rattle.query_validation.specs.Contexts.{input_of, inside, is_composite, is_defined_as, is_enum};
-ghost use Rattle.query_validation.specs.Contexts.{is_input_object, is_leaf, is_scalar, step, type_name};
+ghost use Rattle.query_validation.specs.Contexts.{input_of, inside, is_composite, input_only, is_defined_as, is_enum};
+ghost use Rattle.query_validation.specs.Contexts.{is_input, is_input_object, is_leaf, step, type_name};
+ghost use Rattle.query_validation.specs.Contexts.{type_of_variable};
 ghost use Rattle.query_validation.specs.Contexts.{step_in_selection, step_in_value, type_definition};
 ghost use Rattle.query_validation.specs.Contexts.{type_named_in, type_of, wanted_by, wanted_in, wanted_item};
 ghost use Rattle.query_validation.specs.Contexts.{wanted_of_variable};
@@ -16,8 +17,8 @@ use apollo_cst_core::{child_of, is_one_of};
 use apollo_tree::{SyntaxKind, SyntaxNode};
 use std::alloc::{AllocError, Global};
 use type_system::{
-    COMPOSITE_TYPES, DefinitionWithArguments, LEAF_TYPES, OperationType, Schema, TypedDefinition,
-    item_type, named_in, named_type, operation_type, type_reference,
+    COMPOSITE_TYPES, DefinitionWithArguments, INPUT_TYPES, LEAF_TYPES, OperationType, Schema,
+    TypedDefinition, item_type, named_in, named_type, operation_type, type_reference,
 };
 use validation_names::{Site, name};
 
@@ -86,10 +87,14 @@ fn is_defined_as(schema: &Schema<'_>, number: Option<usize>, kind: SyntaxKind) -
     }
 }
 
-pub(crate) fn is_scalar(schema: &Schema<'_>, number: Option<usize>) -> bool
-    ensures { result ≡ is_scalar (types schema.now) number }
+// Whether values may have the type.
+fn is_input(schema: &Schema<'_>, number: Option<usize>) -> bool
+    ensures { result ≡ is_input (types schema.now) number }
 {
-    is_defined_as(schema, number, SyntaxKind::SCALAR_TYPE_DEFINITION)
+    match type_definition(schema, number) {
+        Some(site) => is_one_of(site.node.kind(), &INPUT_TYPES),
+        None => false,
+    }
 }
 
 pub(crate) fn is_enum(schema: &Schema<'_>, number: Option<usize>) -> bool
@@ -227,20 +232,32 @@ fn wanted_by<'s, 't: 's>(definition: &TypedDefinition<'t>) -> Option<Wanted<'s, 
     })
 }
 
+// A type, if it is an input type.
+fn input_only<'s, 't>(schema: &Schema<'_>, wanted: Wanted<'s, 't>) -> Option<Wanted<'s, 't>>
+    ensures { option_map as_wanted result ≡ input_only (types schema.now) (as_wanted wanted.entry) }
+{
+    if is_input(schema, wanted.type_number) {
+        return Some(wanted);
+    }
+    None
+}
+
 // The type of an argument or an input field that is given.
-fn wanted_in<'s, 't: 's>(around: &Context<'s, 't>, node: &SyntaxNode<'_>) -> Option<Wanted<'s, 't>>
-    ensures { option_map as_wanted result ≡ wanted_in (as_context around.now) (node_place node.now) }
+fn wanted_in<'s, 't: 's>(
+    schema: &Schema<'_>,
+    around: &Context<'s, 't>,
+    node: &SyntaxNode<'_>,
+) -> Option<Wanted<'s, 't>>
+    ensures { option_map as_wanted result
+        ≡ wanted_in (types schema.now) (as_context around.now) (node_place node.now) }
 {
     let argument = argument_of(around.definition, name(node))?;
-    wanted_by(&argument)
+    input_only(schema, wanted_by(&argument)?)
 }
 
 // The type of a variable.
-fn wanted_of_variable<'s, 't>(
-    schema: &'s Schema<'t>,
-    node: &SyntaxNode<'s>,
-) -> Option<Wanted<'s, 't>>
-    ensures { option_map as_wanted result ≡ wanted_of_variable (types schema.now) (node_place node.now) }
+fn type_of_variable<'s, 't>(schema: &Schema<'t>, node: &SyntaxNode<'s>) -> Option<Wanted<'s, 't>>
+    ensures { option_map as_wanted result ≡ type_of_variable (types schema.now) (node_place node.now) }
 {
     let reference = type_reference(node)?;
     Some(Wanted {
@@ -248,6 +265,13 @@ fn wanted_of_variable<'s, 't>(
         type_number: type_named_in(schema, named_in(&reference)),
         definition: None,
     })
+}
+
+// The type of a variable, if it is an input type.
+fn wanted_of_variable<'s, 't>(schema: &Schema<'t>, node: &SyntaxNode<'s>) -> Option<Wanted<'s, 't>>
+    ensures { option_map as_wanted result ≡ wanted_of_variable (types schema.now) (node_place node.now) }
+{
+    input_only(schema, type_of_variable(schema, node)?)
 }
 
 // The type of the items, where a list is wanted.
@@ -307,7 +331,7 @@ fn step_in_value<'s, 't>(
     } else if kind.is(SyntaxKind::VARIABLE_DEFINITION) {
         (None, wanted_of_variable(schema, node))
     } else {
-        (around.definition, wanted_in(around, node))
+        (around.definition, wanted_in(schema, around, node))
     };
     Context {
         parent: around.parent,
@@ -316,7 +340,7 @@ fn step_in_value<'s, 't>(
     }
 }
 
-// The context in what selects fields, and in a directive.
+// The context in a field, a fragment, an operation or a directive.
 fn step_in_selection<'s, 't>(
     schema: &'s Schema<'t>,
     around: &Context<'s, 't>,

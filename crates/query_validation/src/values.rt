@@ -13,7 +13,7 @@ ghost use Rattle.query_validation.specs.Rules.{is_value, unknown_input_fields, w
 ghost use Rattle.query_validation.specs.Rules.{wrong_values};
 ghost use Rattle.query_validation.specs.declared.rules.QueryRule.TheVariants.{ValuesOfCorrectType};
 
-use crate::contexts::{Context, Wanted, is_enum, is_input_object, is_scalar, type_name};
+use crate::contexts::{Context, Wanted, is_enum, is_input_object, type_name};
 use crate::judging::QueryViolation;
 use crate::rules::{QueryRule, add, add_missing, lacks_argument, site_of};
 use apollo_cst_core::{CstNode, is_one_of};
@@ -85,7 +85,7 @@ fn is_value(schema: &Schema<'_>, number: Option<usize>, node: &SyntaxNode<'_>) -
     node.kind().is(SyntaxKind::ENUM_VALUE) && value_named(schema, number, name(node)).is_some()
 }
 
-// Whether a node is a literal of the type with a number.
+// Whether a node is a literal of the input type with a number.
 fn is_of_named(schema: &Schema<'_>, number: Option<usize>, node: &SyntaxNode<'_>) -> bool
     ensures { result ≡ is_of_named (types schema.now) number (node_place node.now) }
 {
@@ -95,10 +95,7 @@ fn is_of_named(schema: &Schema<'_>, number: Option<usize>, node: &SyntaxNode<'_>
     if is_input_object(schema, number) {
         return node.kind().is(SyntaxKind::OBJECT_VALUE);
     }
-    if is_scalar(schema, number) {
-        return is_of_scalar(type_name(schema, number), node);
-    }
-    true
+    is_of_scalar(type_name(schema, number), node)
 }
 
 // Whether a node is a literal of the type that is wanted.

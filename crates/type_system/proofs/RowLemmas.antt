@@ -118,7 +118,7 @@ parts_more numbers ds fields values inputs n parts own d here are last = record 
       (λ e de. let both : Some d ≡ Some e = sym here ∙ de in let same : e ≡ d = cc in rw same last) k p pe other de;
 }
 
--- two lists that are as long, each with what it says of an element or of none
+-- Two lists are as long. Each of two functions says something of an element, or of none.
 both_at :
     {R P D : Type 0} (F : Option P → R) (G : Option D → R) (xs : List P) (ys : List D) (k : ℕ)
     → length xs ≡ length ys → F None ≡ G None

@@ -3,7 +3,8 @@ use Rattle.std.specs.List.{filter, find, flat_map}
 use Rattle.std.specs.Prelude.{List, [], ◌∷◌, map, Bool, false, not, ◌&&◌, Option, Some, None, is_some, option_map}
 use Rattle.std.specs.Prelude.{option_and_then, if◌then◌else◌, bytes_eq, codes}
 use Rattle.document_grammar.specs.declared.kind.SyntaxKind.{SyntaxKind}
-use Rattle.document_grammar.specs.declared.kind.SyntaxKind.TheVariants.{DEFAULT_VALUE, LIST_TYPE, NAMED_TYPE, NON_NULL_TYPE}
+use Rattle.document_grammar.specs.declared.kind.SyntaxKind.TheVariants.{DEFAULT_VALUE, LIST_TYPE, NAMED_TYPE}
+use Rattle.document_grammar.specs.declared.kind.SyntaxKind.TheVariants.{NON_NULL_TYPE}
 use Rattle.document_grammar.specs.declared.kind.SyntaxKind.TheVariants.{OPERATION_TYPE, ROOT_OPERATION_TYPE_DEFINITION}
 use Rattle.apollo_tree.specs.Children.{child_nodes}
 use Rattle.apollo_tree.specs.Order.{Place, text_at}

@@ -1,5 +1,5 @@
 -- Rows of items: for each definition of a type, what its definitions and extensions have in blocks of a kind.
-use Rattle.std.specs.Prelude.{◌≡◌, ℕ, ◌<◌, List, [], ◌++◌, length, map, Option, Some, if◌then◌else◌, slice_get, Bool}
+use Rattle.std.specs.Prelude.{◌≡◌, ℕ, ◌<◌, List, [], ◌++◌, length, map, Some, if◌then◌else◌, slice_get, Bool}
 use Rattle.std.specs.Prelude.{slice_index_or, option_and_then, option_map}
 use Rattle.std.specs.declared.alloc.Global.{Global}
 use Rattle.std.specs.declared.vec.Vec.{Vec}

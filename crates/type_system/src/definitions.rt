@@ -3,7 +3,8 @@ ghost use Rattle.std.specs.Prelude.{◌≡◌, ◌++◌, IfOk, OnOk, map, option
 ghost use Rattle.apollo_tree.specs.Children.{child_nodes};
 ghost use Rattle.apollo_tree.specs.References.{node_place};
 ghost use Rattle.validation_names.specs.Sites.{all_definitions, as_located, located};
-ghost use Rattle.type_system.specs.Definitions.{children, is_named, is_root, items, named_as, operation_type, operation_word};
+ghost use Rattle.type_system.specs.Definitions.{children, is_named, is_root, items, named_as, operation_type};
+ghost use Rattle.type_system.specs.Definitions.{operation_word};
 
 use crate::kinds::OperationType;
 use apollo_cst_core::{child_of, is_one_of};

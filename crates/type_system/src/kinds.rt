@@ -51,6 +51,13 @@ pub const LEAF_TYPES: [SyntaxKind; 2] = [
     SyntaxKind::ENUM_TYPE_DEFINITION,
 ];
 
+/// The definitions of scalars, enums and input objects: the types that values have (section 3.4.2, *IsInputType*).
+pub const INPUT_TYPES: [SyntaxKind; 3] = [
+    SyntaxKind::SCALAR_TYPE_DEFINITION,
+    SyntaxKind::ENUM_TYPE_DEFINITION,
+    SyntaxKind::INPUT_OBJECT_TYPE_DEFINITION,
+];
+
 // The definitions of types (section 3.4, *TypeDefinition*).
 pub(crate) const TYPES: [SyntaxKind; 6] = [
     SyntaxKind::SCALAR_TYPE_DEFINITION,

@@ -15,7 +15,7 @@ mod tables;
 mod type_references;
 
 pub use definitions::{all_definitions, children, items, operation_type};
-pub use kinds::{COMPOSITE_TYPES, LEAF_TYPES, OperationType, TYPE_REFERENCES};
+pub use kinds::{COMPOSITE_TYPES, INPUT_TYPES, LEAF_TYPES, OperationType, TYPE_REFERENCES};
 pub use schema::{DefinitionWithArguments, Schema, TypedDefinition};
 pub use standard::{EACH_TYPE, QUERY_ROOT, STANDARD};
 pub use tables::first_by_name;

@@ -21,9 +21,12 @@ loop-number-preserved c =
     let long = c.requires.fields in
     let long_values = c.requires.values in
     let long_inputs = c.requires.inputs in
-    let row = read_row fields n c.index-fields-number.result (omega (arith, long)) c.index-fields-number.is in
-    let value_row = read_row values n c.index-values-number.result (omega (arith, long_values)) c.index-values-number.is in
-    let input_row = read_row inputs n c.index-inputs-number.result (omega (arith, long_inputs)) c.index-inputs-number.is in
+    let own_fields = read_row fields n c.index-fields-number.result
+    (omega (arith, long)) c.index-fields-number.is in
+    let own_values = read_row values n c.index-values-number.result
+    (omega (arith, long_values)) c.index-values-number.is in
+    let own_inputs = read_row inputs n c.index-inputs-number.result
+    (omega (arith, long_inputs)) c.index-inputs-number.is in
     rw c.in_ok-push.ensures.items
     (parts_more (entry_of c.args.types.now) (map as_located ds) fields values inputs n c.loop-number.parts.items
     c.in_ok-own.own (as_located site) here c.loop-number.invariant
@@ -31,7 +34,7 @@ loop-number-preserved c =
       c.as_slice.ensures.value,
       c.as_slice-in-loop-number.ensures.value,
       c.as_slice-in-loop-number-2.ensures.value,
-      row,
-      value_row,
-      input_row,
+      own_fields,
+      own_values,
+      own_inputs,
     ) at c.in_ok-own.ensures))
