@@ -40,9 +40,11 @@ def wine(folder):
     # Debian has it in a folder of its own
     server = shutil.which("wineserver", path=f"{os.environ['PATH']}:/usr/lib/wine")
     run(*setting, "wine", "wineboot", stderr=subprocess.DEVNULL)
-    yield [*setting, "wine"]
-    run(*setting, server, "--kill")
-    run(*setting, server, "--wait")
+    try:
+        yield [*setting, "wine"]
+    finally:
+        run(*setting, server, "--kill")
+        run(*setting, server, "--wait")
 
 
 def test_windows(folder):
