@@ -1,7 +1,11 @@
 //! Links the library, and says where it is: the folder in `DUMYROKE_LIB_DIR`; else `lib/TARGET` of this crate, where a package has it; else, on a platform
 //! that the library is made for, `build` of the repository that this crate lies in; or, on x86-64 with glibc, where pkg-config says. With `DUMYROKE_LINK=dylib` it is
 //! the shared library, but on Windows.
-use std::path::PathBuf;
+//!
+//! With the feature `assembly` it makes the library of the assembly in this crate, by the programs that `CC` and `AR` name, or `cc` and `ar`.
+//! `DUMYROKE_LIB_DIR` has the first say there, too.
+use std::ffi::OsStr;
+use std::path::{Path, PathBuf};
 use std::process::Command;
 use std::{env, fs};
 
@@ -36,8 +40,31 @@ fn file_for(target: &str, is_shared: bool) -> (&'static str, &'static str) {
     }
 }
 
+/// Runs a tool, which a variable may name, with words before its own.
+fn run(variable: &str, usual: &str, words: &[&OsStr]) {
+    let named = env::var(variable).unwrap_or_else(|_| usual.to_owned());
+    let mut command = named.split_whitespace();
+    let ended = Command::new(command.next().unwrap_or(usual)).args(command).args(words).status();
+    assert!(ended.is_ok_and(|status| status.success()), "`{named}` fails, or is not there: {variable} names another program in its place");
+}
+
+/// Makes the library of the assembly for a target, and answers its folder. The assembly is the same with each C library.
+fn assembled(crate_folder: &Path, target: &str, file: &str) -> PathBuf {
+    let system = ["-gnu", "-musl", "-msvc"].iter().find_map(|library| target.strip_suffix(library)).unwrap_or(target);
+    let places = ["assembly", "../../build/assembly"].map(|folder| crate_folder.join(folder).join(format!("{system}.s")));
+    let Some(source) = places.iter().find(|place| place.exists()) else {
+        panic!("there is no assembly for {target}. Without the feature `assembly` the library is taken as it is made");
+    };
+    println!("cargo:rerun-if-changed={}", source.display());
+    let folder = PathBuf::from(env::var_os("OUT_DIR").unwrap());
+    let (object, library) = (folder.join("dumyroke.o"), folder.join(file));
+    run("CC", "cc", &["-c".as_ref(), source.as_ref(), "-o".as_ref(), object.as_ref()]);
+    run("AR", "ar", &["crs".as_ref(), library.as_ref(), object.as_ref()]);
+    folder
+}
+
 fn main() {
-    for name in ["DUMYROKE_LIB_DIR", "DUMYROKE_LINK", "PKG_CONFIG", "PKG_CONFIG_PATH"] {
+    for name in ["DUMYROKE_LIB_DIR", "DUMYROKE_LINK", "PKG_CONFIG", "PKG_CONFIG_PATH", "CC", "AR"] {
         println!("cargo:rerun-if-env-changed={name}");
     }
     if env::var_os("DOCS_RS").is_some() {
@@ -45,12 +72,15 @@ fn main() {
     }
     let crate_folder = PathBuf::from(env::var_os("CARGO_MANIFEST_DIR").unwrap());
     let target = env::var("TARGET").unwrap();
-    let (kind, file) = file_for(&target, env::var("DUMYROKE_LINK").is_ok_and(|link| link == "dylib"));
+    let named = env::var_os("DUMYROKE_LIB_DIR").map(PathBuf::from);
+    let is_assembled = named.is_none() && env::var_os("CARGO_FEATURE_ASSEMBLY").is_some();
+    let (kind, file) = file_for(&target, !is_assembled && env::var("DUMYROKE_LINK").is_ok_and(|link| link == "dylib"));
     let packed = Some(crate_folder.join("lib").join(&target));
     let built = PLATFORMS.iter().find(|platform| platform.0 == target).map(|platform| crate_folder.join("../..").join(platform.1));
     let is_made_for_it = built.is_some();
     let near = packed.into_iter().chain(built).find(|folder| folder.join(file).exists());
-    let found = env::var_os("DUMYROKE_LIB_DIR").map(PathBuf::from).or(near).or_else(|| (target == GLIBC).then(pkg_config)?);
+    let near = if is_assembled { Some(assembled(&crate_folder, &target, file)) } else { near };
+    let found = named.or(near).or_else(|| (target == GLIBC).then(pkg_config)?);
     let Some(folder) = found.and_then(|folder| fs::canonicalize(folder).ok()).filter(|folder| folder.join(file).exists()) else {
         let why = match target.as_str() {
             GLIBC => "`./do bindings install` of the repository puts it where pkg-config finds it".to_owned(),

@@ -148,11 +148,16 @@ def make_libraries(platform, given=None):
     return shared
 
 
+def missing_tool(platform):
+    """What is not here that making libraries for a platform takes, or None."""
+    tools = [f"{platform.tools}{tool}" for tool in TOOLS]
+    return next((tool for tool in tools if not shutil.which(tool)), None)
+
+
 def make_arm64():
     """Makes the libraries for arm64 Linux in build/arm64, where there are tools for it."""
-    missing = [tool for tool in TOOLS if not shutil.which(f"{ARM64.tools}{tool}")]
-    if missing:
-        print(f"there is no {ARM64.tools}{missing[0]}: the libraries for arm64 were not made")
+    if missing_tool(ARM64):
+        print(f"there is no {missing_tool(ARM64)}: the libraries for arm64 were not made")
         return
     make_libraries(ARM64)
 

@@ -107,4 +107,9 @@ def test_page(pictures=None):
     if not shutil.which("chromium"):
         print("there is no chromium: the page was not tried in it")
         return
-    run("node", WEB / "tests/page_test.mjs", SITE, *([pictures] if pictures else []), timeout=150)
+    test_chromium(SITE, *([pictures] if pictures else []))
+
+
+def test_chromium(site, *pictures):
+    """The tests of the page in a folder."""
+    run("node", WEB / "tests/page_test.mjs", site, *pictures, timeout=150)

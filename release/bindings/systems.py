@@ -25,6 +25,11 @@ class System:
     wheel: str
 
     @property
+    def is_linux(self):
+        """Whether it is the Linux itself."""
+        return self.triple == self.origin.target
+
+    @property
     def folder(self):
         return BUILD / "systems" / self.target
 
@@ -82,6 +87,8 @@ def layout(triple):
 def retargeted(text, system):
     """The module of a Linux for another system of the same processor: only the lines that say what it is for differ,
     and what the functions want of a processor goes."""
+    if system.is_linux:
+        return text
     for line in layout(system.triple):
         head = line.partition("=")[0]
         text = re.sub(rf"^{head}=.*$", lambda _, line=line: line, text, count=1, flags=re.MULTILINE)
@@ -115,27 +122,27 @@ def flags(system):
     words = (system.origin.folder / f"{KEPT}.words").read_text().split()
     at = words.index("-c")
     # -c, -x ir FILE, -o FILE
-    kept = [word for word in words[:at] + words[at + 6 :] if not word.startswith(("--target", "--sysroot", "-march"))]
-    if system == WINDOWS:
-        # code has no fixed place there, and with the second word an object has no time
-        return [*(word for word in kept if word != "-fPIC"), "-mno-incremental-linker-compatible"]
-    return kept
+    unwanted = ["--target", "--sysroot", *([] if system.is_linux else ["-march"])]
+    kept = [word for word in words[:at] + words[at + 6 :] if not word.startswith(tuple(unwanted))]
+    # code has no fixed place on Windows
+    return [word for word in kept if word != "-fPIC" or not isinstance(system, Windows)]
 
 
-def make_object(system, folder):
-    """The object, with our heap inside, which has the calls alone as symbols."""
-    origin, made = system.origin, folder / "dumyroke.o"
+def compile_module(system, folder, form, made):
+    """Makes code with our heap inside, which has the calls alone as symbols, in the form that words for clang give."""
+    origin = system.origin
     module = text_of(origin.target, origin.folder / KEPT, "-x", "ir", "-Xclang", "-disable-llvm-passes")
     headers = origin.run("gcc", "-print-file-name=include", stdout=subprocess.PIPE).stdout.decode().strip()
-    heap = text_of(origin.target, C / "heap.c", "-std=c11", "-O2", "-isystem", headers)
+    # it has no tables of the stack, as the module has none: the assemblers of Windows write them in other words
+    words = ["-std=c11", "-O2", "-fno-asynchronous-unwind-tables", "-isystem", headers]
+    heap = text_of(origin.target, C / "heap.c", *words)
     module, heap = retargeted(module, system), retargeted(heap, system)
-    (folder / "module.ll").write_text(by_pointer(module) if system == WINDOWS else module)
+    (folder / "module.ll").write_text(by_pointer(module) if isinstance(system, Windows) else module)
     (folder / "heap.ll").write_text(heap)
     target = f"--target={system.triple}"
     tool("clang", target, "-c", "-emit-llvm", "-x", "ir", folder / "heap.ll", "-o", folder / "heap.bc")
     inside = ["-Xclang", "-mlink-builtin-bitcode", "-Xclang", folder / "heap.bc"]
-    tool("clang", target, *flags(system), *inside, "-c", "-x", "ir", folder / "module.ll", "-o", made)
-    return made
+    tool("clang", target, *flags(system), *inside, *form, "-x", "ir", folder / "module.ll", "-o", made)
 
 
 def link_windows(made, folder, shared):
@@ -174,8 +181,10 @@ def link_macos(made, folder, shared):
 def make_system(system):
     """Makes both libraries for a system in its folder."""
     with tempfile.TemporaryDirectory() as name:
-        folder = Path(name)
-        made = make_object(system, folder)
+        folder, made = Path(name), Path(name, "dumyroke.o")
+        # with the second word an object for Windows has no time
+        words = ["-c", *(["-mno-incremental-linker-compatible"] if system == WINDOWS else [])]
+        compile_module(system, folder, words, made)
         shutil.rmtree(system.folder, ignore_errors=True)
         system.folder.mkdir(parents=True)
         form = "coff" if system == WINDOWS else "darwin"

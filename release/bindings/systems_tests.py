@@ -6,9 +6,10 @@ import shutil
 import subprocess
 
 from .answers import compare
+from .assembly import assembly
 from .library import CALLS
 from .shared import run, stop
-from .systems import CLEARING, TAKEN, WINDOWS, systems, tool
+from .systems import CLEARING, TAKEN, WINDOWS, link_macos, systems, tool
 from .tests import compiled
 
 MINGW = "x86_64-w64-mingw32-gcc"
@@ -31,6 +32,16 @@ def test_names(system):
         stop(f"{system.folder / file} has {' '.join(found)} and needs {' '.join(needed)}")
     if system != WINDOWS and names(system, system.shared, "--defined-only") != CALLS:
         stop(f"{system.folder / system.shared} has other symbols than the calls")
+
+
+def test_assembly(system, folder):
+    """The assembly for macOS gives the very shared library."""
+    made, shared = folder / "made.o", folder / system.target / system.shared
+    shared.parent.mkdir()
+    tool("clang", f"--target={system.triple}", "-c", assembly(system), "-o", made)
+    link_macos(made, folder, shared)
+    if shared.read_bytes() != (system.folder / system.shared).read_bytes():
+        stop(f"the assembly for {system.target} does not give {system.folder / system.shared}")
 
 
 @contextlib.contextmanager
@@ -64,6 +75,8 @@ def test_systems(folder):
     made = systems()
     for system in made:
         test_names(system)
+        if system != WINDOWS:
+            test_assembly(system, folder)
     missing = [program for program in (MINGW, "wine") if not shutil.which(program)]
     if WINDOWS in made and missing:
         print(f"there is no {missing[0]}: the library for Windows was not tried")

@@ -14,6 +14,7 @@ from pathlib import Path
 
 from .answers import compare
 from .arm64 import QEMU, emulated, sysroot
+from .assembly import ASSEMBLY
 from .library import ARM64, CALLS, HERE, install
 from .shared import (
     BUILD, C, INCLUDE, LIMITS, PACKAGE, PYTHON, RUST, UNPROVED, WARNINGS, gqlcst, need, run, stop, texts, version,
@@ -159,13 +160,17 @@ def test_trees(folder):
 
 
 def test_rust(_folder):
-    """The tests and the examples of the Rust crate, over both libraries."""
+    """The tests and the examples of the Rust crate, over its assembly, where there is one, and over both libraries."""
     if not shutil.which("cargo"):
         print("there is no cargo: the Rust crate was not tried")
         return
+    there = {name: value for name, value in os.environ.items() if name != "DUMYROKE_LIB_DIR"}
+    words = ["cargo", "test", "--offline", "--quiet"]
+    if ASSEMBLY.exists():
+        run(*words, "--features", "assembly", cwd=RUST, env=there, stdout=subprocess.DEVNULL)
     for link in ("dylib", "static"):
-        there = {**os.environ, "DUMYROKE_LIB_DIR": str(BUILD), "DUMYROKE_LINK": link, "LD_LIBRARY_PATH": str(BUILD)}
-        run("cargo", "test", "--offline", "--quiet", cwd=RUST, env=there, stdout=subprocess.DEVNULL)
+        settings = {"DUMYROKE_LIB_DIR": str(BUILD), "DUMYROKE_LINK": link, "LD_LIBRARY_PATH": str(BUILD)}
+        run(*words, cwd=RUST, env={**there, **settings}, stdout=subprocess.DEVNULL)
 
 
 def test_clippy(_folder):
