@@ -72,6 +72,7 @@ quick() {
     must "Show in the page what the file has." tests/readme --text
     must "Say in README what docs/SPEED.md has, or change the phrases of tools/speed." tools/speed
     must "Break the line, or write the sentence in other words." tools/words
+    must "Run ./do generate." release/packages/run table --check
     must "Run tools/imports." tools/imports --check
     must "Mend the line." tools/lint
     return $failed
@@ -81,6 +82,7 @@ generate() {
     tools/generate/run
     tools/crates
     tools/evidence/run --table
+    release/packages/run table
 }
 
 tests() {

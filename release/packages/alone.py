@@ -59,3 +59,4 @@ def try_alone():
             continue
         with tempfile.TemporaryDirectory() as name:
             try_platform(platform, Path(name))
+        yield f"static_{platform.processor}"

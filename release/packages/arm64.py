@@ -50,7 +50,9 @@ def programs(root, wheel, crate):
         run(*source, "-o", root / f"wheel-{system}", shared)
         run(*source, "-o", root / f"crate-{system}", "-static", static)
         made |= {f"the {name} for arm64, linux-{system}": root / f"{name}-{system}" for name in ("wheel", "crate")}
-    return made
+    assembly = crate / "assembly/aarch64-unknown-linux.s"
+    run(f"{ARM64.tools}gcc", "-O2", f"-I{INCLUDE}", C / "tests/answers.c", "-o", root / "assembly", "-static", assembly)
+    return {**made, "the crate's assembly for arm64": root / "assembly"}
 
 
 def interpreter(root):
@@ -81,6 +83,7 @@ def try_rust(crate):
     words = ["cargo", "test", "--offline", "--quiet", "--target", ARM64.target, "--", "--skip", LEFT_OUT]
     run(*words, cwd=crate, env=there, stdout=subprocess.DEVNULL, timeout=1800)
     print("the Rust crate for arm64 passed its tests")
+    yield "arm64_rust"
 
 
 def try_arm64():
@@ -88,7 +91,7 @@ def try_arm64():
     if not ARM64.folder.exists():
         print(f"there are no libraries for arm64: {tried} was not tried")
         return
-    if any(without(program, tried) for program in (QEMU, "cargo")):
+    if any(without(program, tried) for program in (QEMU, f"{ARM64.tools}gcc", "cargo")):
         return
     with tempfile.TemporaryDirectory() as name:
         root = Path(name, "root")
@@ -98,5 +101,7 @@ def try_arm64():
         wheel, crate = unpack(root)
         for library, program in programs(root, wheel, crate).items():
             compare(library, [*emulated(root, f"LD_LIBRARY_PATH={root}"), program], Path(name))
+        yield "arm64"
         try_python(root, wheel)
-        try_rust(crate)
+        yield "arm64_python"
+        yield from try_rust(crate)

@@ -26,7 +26,7 @@ RELEASE = BUILD / "release"
 
 def package(ending):
     """The package of the release whose name has this ending."""
-    found = [path for path in RELEASE.glob(f"*{ending}") if "-page-" not in path.name] if RELEASE.exists() else []
+    found = list(RELEASE.glob(f"*{ending}")) if RELEASE.exists() else []
     if len(found) != 1:
         stop(f"there is no package *{ending} in {RELEASE}: `./do release` makes it")
     return found[0]

@@ -57,3 +57,4 @@ def try_musl():
             return
         for package_name, program in programs(root).items():
             compare(f"{package_name} in a folder with musl alone", ["chroot", root, program], folder)
+    yield "musl"

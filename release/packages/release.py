@@ -9,10 +9,12 @@ import subprocess
 import tempfile
 from pathlib import Path
 
-from bindings.library import ARM64, HERE, pc_text
+from bindings.assembly import ASSEMBLED, ASSEMBLY, assembly
+from bindings.library import ARM64, HERE, missing_tool, pc_text
 from bindings.shared import BUILD, C, INCLUDE, PACKAGE, PYTHON, RUST, SITE, TOP, UNPROVED, need, run, stop, version
 from bindings.systems import SYSTEMS, WINDOWS, systems
-from programs.static import NOTICE, static_folder
+from platforms import OF_OTHERS, PAGE, noted, rows, state, with_table
+from programs.static import NOTICE, missing, static_folder
 
 from .about import LICENCES, about, licences
 from .archives import File, packed, read, tar, under, zipped
@@ -88,7 +90,7 @@ def made_for():
 
 
 def crate():
-    """The Rust crate as cargo packages it, with the static library inside for each platform."""
+    """The Rust crate as cargo packages it, with the static library inside for each platform, and with assembly."""
     with tempfile.TemporaryDirectory() as name:
         folder = Path(name, "rust")
         shutil.copytree(RUST, folder, ignore=shutil.ignore_patterns("target", "original", "Cargo.lock"))
@@ -98,6 +100,8 @@ def crate():
             library = folder / f"lib/{platform.processor}-unknown-linux-{libc}"
             library.mkdir(parents=True)
             shutil.copy(platform.folder / "libdumyroke.a", library)
+        if ASSEMBLY.exists():
+            shutil.copytree(ASSEMBLY, folder / "assembly")
         for system in systems():
             for target, file in system.static.items():
                 (folder / "lib" / target).mkdir()
@@ -120,9 +124,9 @@ def page():
     return f"{name}.tar.gz", packed(tar(under(name, files | licences())))
 
 
-def platforms():
-    """The section of docs/BINDINGS.md that says what was tried on which platform."""
-    text = read(TOP / "docs/BINDINGS.md").content.decode()
+def platforms(files):
+    """The section of docs/BINDINGS.md that says what was tried on which platform, with the table of this release."""
+    text = with_table(PAGE.read_text(), rows(files, noted(files)))
     return re.search(r"^## (Platforms\n.*?)\n## ", text, re.DOTALL | re.MULTILINE)[1]
 
 
@@ -135,19 +139,16 @@ def static_programs():
     return f"The static programs are proved for {processors}. Below them, {below}."
 
 
-def proved():
-    """What the release is made of, and where its proof ends."""
-    words = {"stdout": subprocess.PIPE, "text": True, "check": True}
-    commit = subprocess.run(["git", "-C", TOP, "rev-parse", "HEAD"], **words).stdout.strip()
-    changed = subprocess.run(["git", "-C", TOP, "status", "--porcelain", "--untracked-files=no"], **words).stdout
-    kit = subprocess.run(["rt", "version"], **words).stdout.strip()
+def proved(files):
+    """What a release with these files is made of, and where its proof ends."""
+    kit = run("rt", "version", stdout=subprocess.PIPE, text=True).stdout.strip()
     arm64 = "The libraries for arm64 are proved for it; the heap below them, bindings/c/heap.c, is tested only."
     if ARM64 not in made_for():
         arm64 = "No libraries for arm64 were made."
     others = ", ".join(system.target for system in systems())
     others = f"Not proved for its system, but made of the proved modules for Linux: {others}." if others else ""
     unproved = "NOT PROVED: the library was made without a proof, to try the packages.\n\n" if UNPROVED.exists() else ""
-    return f"""{unproved}Dumyroke {version()}, from commit {commit}{" with changes" if changed else ""}, proved by {kit}.
+    return f"""{unproved}Dumyroke {version()}, from commit {state()}, proved by {kit}.
 
 Programs: `run` of gqlcheck_run, gqlcst_run, gqlfmt_run and gqlls_program is proved, with the devices of byte_streams; the system below them is trusted.
 {static_programs()}
@@ -157,7 +158,7 @@ Python, JavaScript, the module's memory, and the extension for VS Code are teste
 {others}
 docs/PROMISES.md says what is proved, and EVIDENCE.md which lemmas prove it. The provers and compilers of the kit, LLVM, binaryen and the C library are trusted.
 
-{platforms()}"""
+{platforms(files)}"""
 
 
 def made_with_more():
@@ -169,6 +170,21 @@ def made_with_more():
     return [make for program, make in makers.values() if shutil.which(program)]
 
 
+def left_out():
+    """What is not in build/, each with a tool that is missing, or None, and with the command that makes it."""
+    for it in (HERE, ARM64):
+        if it not in made_for():
+            yield f"libraries for {it.target}", missing_tool(it), "./do bindings build"
+        if it not in static_for():
+            yield f"static programs for {it.processor}", missing(it), "./do programs"
+    for it in SYSTEMS:
+        if it not in systems():
+            yield f"libraries for {it.target}", missing_tool(it.origin), "./do bindings build"
+    for it in ASSEMBLED:
+        if not assembly(it).exists():
+            yield f"files of assembly for {it.target}", missing_tool(it.origin), "./do bindings build"
+
+
 def release():
     """All files of a release, by their names."""
     need("objdump", "strip", "git", "rt")
@@ -176,12 +192,9 @@ def release():
         stop("there is no build/: `./do gate` comes first")
     for library in (BUILD / "libdumyroke.a", PACKAGE / "libdumyroke.so"):
         read(library, made_by="./do bindings build")
-    if ARM64 not in made_for():
-        print("there are no libraries for arm64: its wheel is left out, and the Rust crate has none for it")
-    for system in [system for system in SYSTEMS if system not in systems()]:
-        print(f"there is no library for {system.target}: its packages are left out")
-    for platform in [platform for platform in (HERE, ARM64) if platform not in static_for()]:
-        print(f"there are no static programs for {platform.processor}: they are left out (`./do programs`)")
+    for what, tool, command in left_out():
+        why = f"there is no {tool}" if tool else f"`{command}` has not made them"
+        print(f"{why}: the {what} are left out")
     if f"## {version()}" not in read(TOP / "CHANGELOG.md").content.decode().splitlines():
         stop(f"CHANGELOG.md has no entry `## {version()}`")
     if about()["homepage"].endswith(".example"):
@@ -194,9 +207,12 @@ def release():
     packages = [*map(linux_wheel, made_for()), *map(static, static_for())]
     packages += [make(system) for system in systems() for make in (system_wheel, system_archive)]
     packages += [make() for make in [archive, deb, vsix, *made_with_more()]]
-    files = dict(packages) | {
-        "PROVED.txt": proved().encode(),
-        "EVIDENCE.md": (BUILD / "EVIDENCE.md").read_bytes(),
-    }
+    return whole(dict(packages) | {"EVIDENCE.md": (BUILD / "EVIDENCE.md").read_bytes()})
+
+
+def whole(files):
+    """The files of a release with PROVED.txt, as this trial's notes have it, and with their sums."""
+    files = {name: content for name, content in files.items() if name not in OF_OTHERS}
+    files["PROVED.txt"] = proved(files).encode()
     sums = "".join(f"{hashlib.sha256(content).hexdigest()}  {name}\n" for name, content in sorted(files.items()))
     return files | {"SHA256SUMS": sums.encode()}

@@ -3,18 +3,26 @@
 import re
 import shutil
 import subprocess
+import tarfile
 import tempfile
+import time
+from concurrent.futures import ThreadPoolExecutor
 from importlib.machinery import SourceFileLoader
 from pathlib import Path
 
-from bindings.shared import RUST, TOP, run, stop
+from bindings.assembly import ASSEMBLY
+from bindings.page import OLDEST_NODE, has_node, test_chromium
+from bindings.shared import RUST, TOP, run, stop, words_of
+from bindings.tests import test_printed
+from platforms import missing, note
 
 from . import debian
 from .alone import OPENING, try_alone
 from .arm64 import try_arm64
-from .here import NPM, npm_example, package, without
+from .here import NPM, RELEASE, npm_example, package, without
 from .installed import PROGRAMS
 from .musl import try_musl
+from .release import whole
 from .windows import try_windows
 
 # What the packages need beside themselves: a C compiler and pkg-config, pip, cargo, node. npm would bring four hundred
@@ -115,8 +123,11 @@ def try_wheel(bare, name):
     bare.run(f"{pip} uninstall --yes --break-system-packages --root-user-action=ignore dumyroke")
 
 
-def try_crate(bare, name):
-    """The example gqlcst.rs over the crate, built by cargo without a network, does what README shows of gqlcst."""
+CARGO = "cargo build --offline --quiet"
+
+
+def build_example(bare, name, command):
+    """Unpacks the crate, and has cargo build its example gqlcst.rs without a network."""
     bare.run(f"tar -xf {name} && mkdir -p src && mv {name.removesuffix('.crate')} dumyroke")
     shutil.copy(RUST / "examples/gqlcst.rs", bare.place / "src/main.rs")
     manifest = (
@@ -124,9 +135,21 @@ def try_crate(bare, name):
         ' "dumyroke" }\n'
     )
     (bare.place / "Cargo.toml").write_text(manifest)
-    bare.run("cargo build --offline --quiet")
-    bare.show("README.md", "gqlcst", before=f"PATH=/{PLACE}/target/debug:$PATH; ")
+    bare.run(command)
     shutil.rmtree(bare.root / "root/.cargo", ignore_errors=True)
+
+
+def try_crate(bare, name):
+    """The example does what README shows of gqlcst."""
+    build_example(bare, name, CARGO)
+    bare.show("README.md", "gqlcst", before=f"PATH=/{PLACE}/target/debug:$PATH; ")
+
+
+def try_assembly(bare, name):
+    """Made of the crate's assembly, where the crate has no library, the example prints what gqlcst prints."""
+    build_example(bare, name, f"rm -r dumyroke/lib && {CARGO} --features dumyroke/assembly")
+    program = ["chroot", bare.root, f"/{PLACE}/target/debug/gqlcst"]
+    test_printed("the Rust crate's assembly", ["tree", "tokens"], lambda *case: [*program, *words_of(*case)])
 
 
 def try_npm(bare, name):
@@ -142,30 +165,69 @@ def try_npm(bare, name):
     bare.run("node package_test.mjs")
 
 
-# Each with the program without which the package is left out.
-TRIALS = [
-    (try_debian, ".deb", "strip"),
-    (try_archive, "-linux-x86_64.tar.gz", "strip"),
-    (try_wheel, "linux_*_x86_64.whl", "strip"),
-    (try_crate, ".crate", "cargo"),
-    (try_npm, ".tgz", "wasm-opt"),
-]
+# Each by its name in release/platforms.json, with the program without which the package is left out.
+TRIALS = {
+    "debian": (try_debian, ".deb", "strip"),
+    "archive": (try_archive, "-linux-x86_64.tar.gz", "strip"),
+    "wheel": (try_wheel, "linux_*_x86_64.whl", "strip"),
+    "crate": (try_crate, ".crate", "cargo"),
+    "assembly": (try_assembly, ".crate", "cargo"),
+    "npm": (try_npm, ".tgz", "wasm-opt"),
+}
 
 
-def trial():
-    try_alone()
-    try_windows()
-    try_musl()
-    why = debian.why_not()
-    if why:
-        print(f"{why}: the packages were not tried in a bare Debian, and those for arm64 were not tried")
-        return
-    try_arm64()
+def try_bare():
+    trials = dict(TRIALS)
+    if not ASSEMBLY.exists():
+        print("there is no assembly: the Rust crate was not tried with it")
+        del trials["assembly"]
     with tempfile.TemporaryDirectory() as folder:
         bare = Bare(Path(folder))
         if not debian.make(bare.root, NEEDED):
             print("no bare Debian could be made from the network: the packages were not tried in it")
             return
-        for trial_of, ending, program in TRIALS:
+        for name, (trial_of, ending, program) in trials.items():
             if not without(program, f"the package *{ending}"):
                 bare.try_one(trial_of, ending)
+                yield name
+
+
+def try_page():
+    """The page as it is packed, in Chromium."""
+    if any(without(program, "the packed page") for program in ("wasm-opt", "chromium")):
+        return
+    if not has_node():
+        print(f"there is no node of version {OLDEST_NODE} or later: the packed page was not tried")
+        return
+    with tempfile.TemporaryDirectory() as folder:
+        with tarfile.open(package("-page-*.tar.gz")) as archive:
+            archive.extractall(folder)
+        [site] = Path(folder).iterdir()
+        test_chromium(site)
+    yield "page"
+
+
+def timed(part):
+    """The trials that a part ran, each with its seconds. The first has those for the things that all need, too."""
+    took, began = {}, time.monotonic()
+    for name in part():
+        took[name] = time.monotonic() - began - sum(took.values())
+        print(f"the trial {name} passed: {took[name]:.0f} seconds", flush=True)
+    return took
+
+
+def trial():
+    """Two parts at a time, the longest first."""
+    began, parts, why = time.monotonic(), [try_windows, try_musl, try_alone, try_page], debian.why_not()
+    if why:
+        print(f"{why}: the packages were not tried in a bare Debian, and those for arm64 were not tried")
+    else:
+        parts = [try_arm64, try_bare, *parts]
+    with ThreadPoolExecutor(2) as pool:
+        took = {name: seconds for part in pool.map(timed, parts) for name, seconds in part.items()}
+    files = {path.name: path.read_bytes() for path in RELEASE.iterdir()}
+    note(files, set(took))
+    for name, content in whole(files).items():
+        (RELEASE / name).write_bytes(content)
+    print("\n".join(missing(files, set(took))) or "the trials bear out each cell of the table in docs/BINDINGS.md")
+    print(f"the trials took {sum(took.values()):.0f} seconds, {time.monotonic() - began:.0f} by the clock")

@@ -32,6 +32,7 @@ def programs(folder):
     libraries, made = {"the wheel for Windows": archive / f"lib/{WINDOWS.shared}.lib"}, {}
     for target, file in WINDOWS.static.items():
         libraries[f"the Rust crate for {target}"] = crate / "lib" / target / file
+    libraries["the Rust crate's assembly for Windows"] = crate / "assembly/x86_64-pc-windows.s"
     for name, library in libraries.items():
         made[name] = folder / f"{len(made)}.exe"
         run(MINGW, "-O2", f"-I{archive}/include", C / "tests/answers.c", "-o", made[name], library)
@@ -47,3 +48,4 @@ def try_windows():
         with wine(folder) as start:
             for library, program in programs(folder).items():
                 compare(library, [*start, program], folder)
+    yield "windows"
