@@ -66,7 +66,7 @@ quick() {
     must "Give the new kind a number at the end, or the library another soname." tools/kinds --check
     must "Put the crates of crates.txt in order, or run ./do generate." tools/crates --check
     must "Give the function the name of its rule." tools/rule_names
-    must "Give docs/FORMAT.md and tests/format/layout.py the same rule." tests/format/trial --layouts
+    must "Give the tables and the examples of docs/FORMAT.md the same rule." tests/format/trial --layouts
     must "Give the option the same name, letter and value in all three." tools/options
     must "Run ./do generate, or mend the page or the list that it names." tools/evidence/run --check
     must "Show in the page what the file has." tests/readme --text
