@@ -5,8 +5,8 @@ use Rattle.std.specs.Ordering.{is_lt, nat_cmp}
 use Rattle.std.specs.Prelude.{ℕ, List, map, Option, Some, None, Result, Ok, Err, string_bytes}
 use Rattle.std.specs.declared.io.Error.{Error}
 use Rattle.std.specs.declared.vec.Vec.{Vec}
-use Rattle.file_access.specs.declared.listing.Entry as declared
-use Rattle.file_access.specs.declared.listing.Kind.{Kind}
+use Rattle.file_access.specs.declared.entries.Entry as declared
+use Rattle.file_access.specs.declared.entries.Kind.{Kind}
 
 -- a name in a folder, and what has it
 pub record Entry : Type 0 where

@@ -4,7 +4,7 @@ ghost use Rattle.std.specs.declared.io.Error.{Error};
 ghost use Rattle.file_access.specs.Listing.{AreInOrder, Listing, listing_of};
 ghost use Rattle.file_access.specs.Reading.{bytes_of, text_of};
 
-use crate::listing::Entry;
+use crate::entries::Entry;
 use std::alloc::Allocator;
 use std::io;
 

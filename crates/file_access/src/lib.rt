@@ -4,8 +4,8 @@
 //! The programs take it as a type parameter, so that their contracts say what is asked of the files.
 #![tactic(auto)]
 
+mod entries;
 mod files;
-mod listing;
 
+pub use entries::{Entry, Kind};
 pub use files::Files;
-pub use listing::{Entry, Kind};

@@ -8,7 +8,7 @@
 mod command;
 mod files;
 mod folders;
-mod framing;
+mod frame;
 mod github;
 mod greatest;
 mod inputs;

@@ -11,7 +11,7 @@ ghost use Rattle.gqlcheck_run.specs.Program.{schema_texts};
 
 use crate::command::{HELP, PROGRAM, USAGE, VERSION};
 use crate::folders::{read_if_given, read_paths};
-use crate::framing::{close, opening};
+use crate::frame::{close, opening};
 use crate::inputs::{Input, Texts, bytes_in, read_input};
 use crate::job::{Job, Printing};
 use crate::rules::Rules;

@@ -9,7 +9,7 @@ mod command;
 mod finding;
 mod outcome;
 mod output_buffer;
-mod parsing;
+mod parser;
 mod program;
 mod report;
 

@@ -9,7 +9,7 @@ use crate::command::{HELP, PROGRAM, USAGE, VERSION};
 use crate::finding::Finding;
 use crate::outcome::end;
 use crate::output_buffer::OutputBuffer;
-use crate::parsing::{lexer, parse};
+use crate::parser::{lexer, parse};
 use crate::report::{put_errors, put_tokens, put_tree};
 use apollo_parser::Limits;
 use byte_streams::{Fault, Sink, Source, read_to_end};

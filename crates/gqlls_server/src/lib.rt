@@ -17,7 +17,7 @@ mod layout;
 mod parameters;
 mod questions;
 mod references;
-mod renaming;
+mod rename;
 mod server;
 mod signature;
 mod workspace_symbols;

@@ -21,7 +21,7 @@ use crate::parameters::{
     uri_of, version_of,
 };
 use crate::questions::{answer_question, question_of};
-use crate::renaming::answer_rename;
+use crate::rename::answer_rename;
 use crate::workspace_symbols::answer_search;
 use apollo_parser::Limits;
 use editor_answers::Markup;

@@ -3,8 +3,8 @@ use Rattle.std.specs.List.{filter_map}
 use Rattle.std.specs.Prelude.{◌≡◌, ◌++◌, ℕ, List, [], ◌∷◌, Option, Some, None, string_bytes, if◌then◌else◌}
 use Rattle.std.specs.declared.io.Error.{Error}
 use Rattle.file_access.specs.Listing.{Entry, Listing, unlisted, no_folder, entries}
-use Rattle.file_access.specs.declared.listing.Kind.{Kind}
-use Rattle.file_access.specs.declared.listing.Kind.TheVariants as kind
+use Rattle.file_access.specs.declared.entries.Kind.{Kind}
+use Rattle.file_access.specs.declared.entries.Kind.TheVariants as kind
 use Rattle.named_files.specs.Names.{is_hidden, is_of_others, is_graphql, path_in}
 use Rattle.named_files.specs.declared.search.Named.{Named}
 use Rattle.named_files.specs.declared.search.Named.TheVariants as variant

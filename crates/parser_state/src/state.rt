@@ -3,11 +3,11 @@
 // state. Their callers are proved from these contracts, and do not look into the fields.
 #![tactic(auto, using(parser_rules::specs::Runs::does), unfolding(parser_rules::proofs::runs::Running::steps))]
 
-mod building;
+mod current;
+mod errors;
 mod nesting;
+mod nodes;
 mod reader;
-mod reading;
-mod reporting;
 mod tokens;
 
 ghost use Rattle.std.specs.Prelude.{◌≡◌, ◌≤◌, ◌<◌, ◌^◌, ◌+◌, ◌*◌, ◌/◌, true, [], length, take, map, min, OnOk, IfOk};
@@ -25,8 +25,8 @@ ghost use Rattle.parser_state.specs.View.{current_of, pending_of};
 use crate::borrowed_error::BorrowedError;
 use apollo_lexer::{Lexer, LimitTracker, Steps, Token};
 use apollo_tree::{BorrowedSubtree, Checkpoint, SpanBuilder};
-use building::push_all;
 use document_grammar::SyntaxKind;
+use nodes::push_all;
 use reader::Reader;
 use std::alloc::{AllocError, Allocator};
 use std::marker::Model;

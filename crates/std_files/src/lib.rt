@@ -10,14 +10,14 @@
 ghost use Rattle.std.specs.Prelude.{◌≡◌, None};
 
 mod copies;
-mod listing;
+mod entries;
 mod locations;
 mod replacement;
 mod state;
 
 use copies::{Beside, copy_path, is_file};
+use entries::{entries_of, not_utf8};
 use file_access::{Entry, Files};
-use listing::{entries_of, not_utf8};
 use locations::located;
 use replacement::{is_alone, open_writable, overwrite, readable, restore};
 use state::State;

@@ -2,7 +2,7 @@
 // the findings; `-` sets no limit. With a count, the text is in five lines: its front, a piece that is repeated, the
 // text inside, the piece that closes one, and its back. `finding` has the modes. The findings are those of
 // `apollo-parser` 0.8.7, with the descriptions of September 2025 added to its grammar.
-mod finding;
+mod findings;
 mod parts;
 mod record;
 mod typed;
@@ -13,7 +13,7 @@ use std::io;
 
 // The findings, where they are not those of the record.
 fn other_findings(alloc: Global, record: &Record<'_>) -> Result<Option<String>, AllocError> {
-    let found = finding::findings(alloc, record)?;
+    let found = findings::findings(alloc, record)?;
     if found.as_str().trim_end() == record.wanted {
         return Ok(None);
     }

@@ -4,7 +4,7 @@ use Rattle.std.proofs.Common.{is_some, refl, ap, sym, ◌∙◌, subst}
 use Rattle.std.specs.List.{filter}
 use Rattle.std.specs.declared.io.Error.{Error}
 use Rattle.file_access.specs.Listing.{Listing, listing_of}
-use Rattle.file_access.specs.declared.listing.Entry.{Entry}
+use Rattle.file_access.specs.declared.entries.Entry.{Entry}
 use Rattle.ignore_rules.specs.Ignored.{ignores}
 use Rattle.ignore_rules.specs.Lines.{Rule}
 use Rattle.unignored_files.specs.Above.{Climbs}

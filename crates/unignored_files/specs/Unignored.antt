@@ -4,8 +4,8 @@ use Rattle.std.specs.Path.{path_join}
 use Rattle.std.specs.Prelude.{not, ℕ, Bool, true, false, List, [], Result, Ok, Err}
 use Rattle.std.specs.declared.io.Error.{Error}
 use Rattle.file_access.specs.Listing.{Entry, Listing, unlisted, no_folder, entries}
-use Rattle.file_access.specs.declared.listing.Kind.{Kind}
-use Rattle.file_access.specs.declared.listing.Kind.TheVariants as kind
+use Rattle.file_access.specs.declared.entries.Kind.{Kind}
+use Rattle.file_access.specs.declared.entries.Kind.TheVariants as kind
 use Rattle.ignore_rules.specs.Ignored.{ignores}
 use Rattle.ignore_rules.specs.Lines.{Rule}
 use Rattle.unignored_files.specs.Above.{Climbs, IsMissing}

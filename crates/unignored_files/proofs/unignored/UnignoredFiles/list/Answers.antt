@@ -4,7 +4,7 @@ use Rattle.std.proofs.lemmas.List.Kept.{IsSortedBy-filter}
 use Rattle.std.proofs.lemmas.List.MinMax.{ranks_by}
 use Rattle.std.proofs.lemmas.Result.{err_from_is_err_and}
 use Rattle.file_access.specs.Listing.{AreInOrder, Entry, as_entry, entries}
-use Rattle.file_access.specs.declared.listing.Entry as declared
+use Rattle.file_access.specs.declared.entries.Entry as declared
 use Rattle.ignore_rules.specs.Ignored.{as_rules}
 use Rattle.unignored_files.proofs.UnignoredLemmas.{map-filter}
 use Rattle.unignored_files.proofs.unignored.UnignoredFiles.list.Goals as goal

@@ -5,7 +5,7 @@ use Rattle.std.specs.Prelude.{length}
 use Rattle.rpc_messages.specs.Pieces.{tokens_of}
 use Rattle.editor_answers.proofs.Added.{added}
 use Rattle.gqlls_server.proofs.Edits.{pieces_written}
-use Rattle.gqlls_server.proofs.renaming.push_edits.Goals as goal
+use Rattle.gqlls_server.proofs.rename.push_edits.Goals as goal
 use Rattle.gqlls_server.specs.State.{known_of}
 
 pub returns : goal.returns

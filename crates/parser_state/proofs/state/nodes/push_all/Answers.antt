@@ -2,7 +2,7 @@ use Rattle.std.proofs.Common.{◌∙◌, ap, arith, length}
 use Rattle.document_grammar.specs.Builds.{Building, built_text}
 use Rattle.parser_state.proofs.Lengths.{next-fits, next-taken}
 use Rattle.parser_state.proofs.Reading.{one_more}
-use Rattle.parser_state.proofs.state.building.push_all.Goals as goal
+use Rattle.parser_state.proofs.state.nodes.push_all.Goals as goal
 
 pub token-requires : goal.token-requires
 token-requires g c = next-fits c.args.pending.now c.loop-token.token-index _ _ c.loop-token.builder

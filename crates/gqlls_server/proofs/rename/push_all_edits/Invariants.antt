@@ -1,7 +1,7 @@
 use Rattle.std.proofs.Common.{◌≡◌, ◌++◌, take, true}
 use Rattle.std.specs.List.{flat_map}
 use Rattle.rpc_messages.specs.Pieces.{tokens_of}
-use Rattle.gqlls_server.proofs.renaming.push_all_edits.Given as goal
+use Rattle.gqlls_server.proofs.rename.push_all_edits.Given as goal
 use Rattle.gqlls_server.specs.Edits.{known_tokens}
 use Rattle.gqlls_server.specs.State.{places_of}
 

@@ -2,7 +2,7 @@ use Rattle.std.proofs.Common.{◌∙◌, length, ap, sym}
 use Rattle.std.proofs.lemmas.List.{length-map}
 use Rattle.std.specs.Slice.Iter.{iter_rest}
 use Rattle.apollo_parser.specs.Errors.{error_of}
-use Rattle.gqlcst_run.proofs.parsing.parse.Goals as goal
+use Rattle.gqlcst_run.proofs.parser.parse.Goals as goal
 use Rattle.gqlcst_run.specs.Parsing.{finding_of}
 
 pub returns : goal.returns

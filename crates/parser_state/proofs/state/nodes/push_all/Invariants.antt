@@ -1,7 +1,7 @@
 use Rattle.std.proofs.Common.{◌≡◌, ◌+◌, map, drop, length}
 use Rattle.document_grammar.specs.Builds.{built_text}
 use Rattle.parser_rules.specs.State.{add_all}
-use Rattle.parser_state.proofs.state.building.push_all.Given as goal
+use Rattle.parser_state.proofs.state.nodes.push_all.Given as goal
 use Rattle.parser_state.specs.Lengths.{pending_length}
 use Rattle.parser_state.specs.View.{pending_of}
 

@@ -6,7 +6,7 @@ use Rattle.rpc_messages.specs.Pieces.{tokens_of}
 use Rattle.rpc_messages.specs.declared.pieces.Piece.{Piece}
 use Rattle.editor_answers.proofs.Added.{added_as}
 use Rattle.gqlls_server.proofs.Edits.{result_written}
-use Rattle.gqlls_server.proofs.renaming.answer_edits.Goals as goal
+use Rattle.gqlls_server.proofs.rename.answer_edits.Goals as goal
 use Rattle.gqlls_server.specs.Renaming.{workspace_edit}
 use Rattle.gqlls_server.specs.State.{known_of, places_of}
 

@@ -9,7 +9,7 @@ use Rattle.apollo_cst_core.specs.Kinds.{is_of}
 use Rattle.editor_answers.specs.Names.{identifier_at}
 use Rattle.gqlls_server.proofs.Meanings.{chosen, found_passes, meaningless, meant}
 use Rattle.gqlls_server.proofs.Messages.{found_in}
-use Rattle.gqlls_server.proofs.renaming.answer_at.Goals as goal
+use Rattle.gqlls_server.proofs.rename.answer_at.Goals as goal
 use Rattle.gqlls_server.specs.Renaming.{IsRenamed, IsRenamedAt, root_of}
 use Rattle.gqlls_server.specs.State.{known_of}
 

@@ -2,7 +2,7 @@ use Rattle.std.proofs.Common.{rules, string_bytes}
 use Rattle.std.proofs.lemmas.Cmp.{nat_list_cmp_total}
 use Rattle.std.proofs.lemmas.List.MinMax.{ranks_by}
 use Rattle.std.proofs.lemmas.List.Sorted.{answers_always}
-use Rattle.std_files.proofs.listing.sort.Goals as goal
+use Rattle.std_files.proofs.entries.sort.Goals as goal
 
 pub returns : goal.returns
 returns g c =
