@@ -71,7 +71,7 @@ quick() {
     must "Run ./do generate, or mend the page or the list that it names." tools/evidence/run --check
     must "Show in the page what the file has." tests/readme --text
     must "Say in README what docs/SPEED.md has, or change the phrases of tools/speed." tools/speed
-    must "Break the line, or write the sentence in other words." tools/words
+    must "Break the line, part the paragraph, or write the sentence in other words." tools/words
     must "Run ./do generate." release/packages/run table --check
     must "Run tools/imports." tools/imports --check
     must "Mend the line." tools/lint
