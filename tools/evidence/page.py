@@ -35,7 +35,7 @@ PARTS = {
         gqlls_server/src/server.rt file_uris/src gqlls_program/src/program.rt""",
     "validation": """
         document_validation/src/validation.rt document_validation/src/messages.rt document_validation/src/lists.rt
-        variable_rules/src/judging.rt variable_rules/src/steps.rt""",
+        variable_rules/src/operations.rt variable_rules/src/steps.rt""",
     "validation against a schema": """
         type_system/src/reading.rt query_validation/src/judging.rt query_validation/src/messages.rt""",
     "the cost of operations": (

@@ -7,10 +7,10 @@
 //! `document_validation`, a crate above, hands them on.
 #![tactic(auto)]
 
-mod judging;
-mod reaching;
+mod operations;
+mod reach;
 mod steps;
 mod used_names;
 
-pub use judging::add_variables;
+pub use operations::add_variables;
 pub use steps::default_steps;

@@ -2,7 +2,7 @@ use Rattle.std.proofs.Common.{map, ap, ◌∙◌}
 use Rattle.validation_names.specs.Mentions.{as_named}
 use Rattle.validation_rules.specs.Parts.{Parts}
 use Rattle.variable_rules.proofs.KnownLemmas.{known_alone}
-use Rattle.variable_rules.proofs.judging.declared_names.Goals as goal
+use Rattle.variable_rules.proofs.operations.declared_names.Goals as goal
 
 pub returns : goal.returns
 returns c =

@@ -4,7 +4,7 @@ use Rattle.std.proofs.lemmas.List.Elements.{Contains-get_or}
 use Rattle.std.specs.List.{Contains}
 use Rattle.validation_rules.proofs.SpreadLemmas.{operations_inside}
 use Rattle.validation_rules.specs.Parts.{as_parts}
-use Rattle.variable_rules.proofs.judging.add_variables.Goals as goal
+use Rattle.variable_rules.proofs.operations.add_variables.Goals as goal
 
 pub add_operations-requires-clause-operations : goal.add_operations-requires-clause-operations
 add_operations-requires-clause-operations c k d below =

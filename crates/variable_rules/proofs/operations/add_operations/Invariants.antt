@@ -4,7 +4,7 @@ use Rattle.directed_graph.specs.Marks.{AreUnmarked}
 use Rattle.validation_rules.specs.Broken.{variables_of}
 use Rattle.validation_rules.specs.Parts.{as_parts}
 use Rattle.validation_rules.specs.Violations.{Adds}
-use Rattle.variable_rules.proofs.judging.add_operations.Given as goal
+use Rattle.variable_rules.proofs.operations.add_operations.Given as goal
 use Rattle.variable_rules.specs.Steps.{capped, is_used_up_at, steps_of}
 
 abbrev pub invariant-loop-number : goal.invariant-loop-number

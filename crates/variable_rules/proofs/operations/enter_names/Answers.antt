@@ -3,7 +3,7 @@ use Rattle.std.proofs.Math.Seq.{take-length}
 use Rattle.std.proofs.lemmas.List.{take_more, map-append}
 use Rattle.validation_names.specs.Mentions.{as_named}
 use Rattle.variable_rules.proofs.KnownLemmas.{adds_more, adds_none}
-use Rattle.variable_rules.proofs.judging.enter_names.Goals as goal
+use Rattle.variable_rules.proofs.operations.enter_names.Goals as goal
 
 pub loop-number-init : goal.loop-number-init
 loop-number-init c = adds_none c.args.known.now

@@ -1,5 +1,5 @@
 use Rattle.variable_rules.proofs.ReachLemmas.{found_are}
-use Rattle.variable_rules.proofs.reaching.reached.Goals as goal
+use Rattle.variable_rules.proofs.reach.reached.Goals as goal
 
 pub returns-clause-found : goal.returns-clause-found
 returns-clause-found c =

@@ -9,7 +9,7 @@ use Rattle.validation_rules.specs.declared.violations.Rule.TheVariants.{NoUnused
 use Rattle.variable_rules.proofs.WalkLemmas.{adds_operation, inside_reached, inside_rows, no_use_steps, none_undefined}
 use Rattle.variable_rules.proofs.WalkLemmas.{read_again}
 use Rattle.variable_rules.proofs.WalkLemmas.{unknown_are, unused_alone, used_is, walk_alone, walk_and_uses}
-use Rattle.variable_rules.proofs.judging.add_operation.Goals as goal
+use Rattle.variable_rules.proofs.operations.add_operation.Goals as goal
 use Rattle.variable_rules.specs.UsedNames.{is_known}
 
 pub names_among-requires : goal.names_among-requires

@@ -13,7 +13,7 @@ ghost use Rattle.validation_rules.specs.Violations.{Adds};
 ghost use Rattle.variable_rules.specs.Steps.{EndsAt, are_used_up, before, capped, steps_of, use_steps_in};
 ghost use Rattle.variable_rules.specs.UsedNames.{AddsNames, AreUsedNames, is_known, row_at};
 
-use crate::reaching::{edges, in_order, reached};
+use crate::reach::{edges, in_order, reached};
 use crate::used_names::{has_unknown, names_among, row, used_names};
 use std::alloc::{AllocError, Global};
 use std::collections::BTreeMap;

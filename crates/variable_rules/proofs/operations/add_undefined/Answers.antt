@@ -10,8 +10,8 @@ use Rattle.validation_rules.specs.Parts.{Parts, as_parts, at, is_declared, site_
 use Rattle.validation_rules.specs.declared.violations.Rule.TheVariants.{NoUndefinedVariables}
 use Rattle.variable_rules.proofs.KnownLemmas.{none_unknown}
 use Rattle.variable_rules.proofs.WalkLemmas.{unknown_are, use_steps_are}
-use Rattle.variable_rules.proofs.judging.add_undefined.Goals as goal
-use Rattle.variable_rules.proofs.judging.add_undefined.Goals.{then-has_unknown+in_ok-add_unknown, else-has_unknown}
+use Rattle.variable_rules.proofs.operations.add_undefined.Goals as goal
+use Rattle.variable_rules.proofs.operations.add_undefined.Goals.{then-has_unknown+in_ok-add_unknown, else-has_unknown}
 use Rattle.variable_rules.specs.Steps.{use_steps_in}
 use Rattle.variable_rules.specs.UsedNames.{is_known}
 

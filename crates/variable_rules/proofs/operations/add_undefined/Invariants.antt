@@ -3,7 +3,7 @@ use Rattle.std.specs.List.{flat_map, sum_by}
 use Rattle.validation_rules.specs.Broken.{undefined_variables_in}
 use Rattle.validation_rules.specs.Parts.{as_parts}
 use Rattle.validation_rules.specs.Violations.{Adds}
-use Rattle.variable_rules.proofs.judging.add_undefined.Given as goal
+use Rattle.variable_rules.proofs.operations.add_undefined.Given as goal
 use Rattle.variable_rules.specs.Steps.{capped, use_steps_in}
 
 abbrev pub invariant-loop-number : goal.invariant-loop-number

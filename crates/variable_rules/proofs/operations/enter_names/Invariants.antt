@@ -1,6 +1,6 @@
 use Rattle.std.proofs.Common.{map, take}
 use Rattle.validation_names.specs.Mentions.{as_named}
-use Rattle.variable_rules.proofs.judging.enter_names.Given as goal
+use Rattle.variable_rules.proofs.operations.enter_names.Given as goal
 use Rattle.variable_rules.specs.UsedNames.{AddsNames}
 
 abbrev pub invariant-loop-number : goal.invariant-loop-number

@@ -3,7 +3,7 @@ use Rattle.std.proofs.lemmas.List.{length-map}
 use Rattle.std.proofs.lemmas.List.Sums.{sum_by_more}
 use Rattle.directed_graph.specs.Graph.{row_of}
 use Rattle.validation_names.specs.Mentions.{as_named}
-use Rattle.variable_rules.proofs.judging.walk_steps.Goals as goal
+use Rattle.variable_rules.proofs.operations.walk_steps.Goals as goal
 use Rattle.variable_rules.specs.UsedNames.{row_at}
 
 pub edges-requires : goal.edges-requires

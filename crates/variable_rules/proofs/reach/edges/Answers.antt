@@ -1,6 +1,6 @@
 use Rattle.std.proofs.Common.{length, ap, sym, ◌∙◌}
 use Rattle.directed_graph.proofs.SearchLemmas.{row_of_read}
-use Rattle.variable_rules.proofs.reaching.edges.Goals as goal
+use Rattle.variable_rules.proofs.reach.edges.Goals as goal
 
 pub returns : goal.returns
 returns c =

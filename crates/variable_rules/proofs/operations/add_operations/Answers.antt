@@ -12,7 +12,7 @@ use Rattle.validation_rules.specs.Parts.{as_parts}
 use Rattle.validation_rules.specs.Violations.{Adds}
 use Rattle.variable_rules.proofs.ReachLemmas.{same_reached}
 use Rattle.variable_rules.proofs.WalkLemmas.{adds_to_end, ends_once}
-use Rattle.variable_rules.proofs.judging.add_operations.Goals as goal
+use Rattle.variable_rules.proofs.operations.add_operations.Goals as goal
 use Rattle.variable_rules.specs.Steps.{EndsAt, before, steps_of}
 
 pub add_operation-requires-clause-numbers : goal.add_operation-requires-clause-numbers

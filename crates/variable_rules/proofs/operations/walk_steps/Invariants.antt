@@ -1,7 +1,7 @@
 use Rattle.std.proofs.Common.{◌≡◌, ◌+◌, length, take}
 use Rattle.std.specs.List.{sum_by}
 use Rattle.directed_graph.specs.Graph.{row_of}
-use Rattle.variable_rules.proofs.judging.walk_steps.Given as goal
+use Rattle.variable_rules.proofs.operations.walk_steps.Given as goal
 use Rattle.variable_rules.specs.Steps.{capped}
 use Rattle.variable_rules.specs.UsedNames.{row_at}
 
