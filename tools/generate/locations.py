@@ -1,5 +1,5 @@
 """The words of the places where a directive may be (section 3.13). The list `DirectiveLocations` of Choices.antt has
-them, and so have five other files: the enum of kinds and four that are written by hand. Each of these has to have the
+them, and so have six other files: the enum of kinds and five that are written by hand. Each of these has to have the
 same words in the same order."""
 
 import re
@@ -11,7 +11,7 @@ RULES = "parser_rules/specs/Rules.antt"
 FUNCTION = "apollo_grammar/src/grammar/directive.rt"
 TEXT = "apollo_cst_type_system/src/location.rt"
 INTROSPECTION = "type_system/src/standard.rt"
-PLACES = "schema_members/src/locations.rt"
+PLACES = "type_system/src/locations.rt"
 
 
 def is_one(kind):
@@ -70,12 +70,13 @@ def faults(grammar):
         found_in(INTROSPECTION, r"^enum __DirectiveLocation \{(.*?)\}", r"\w+"),
         words,
     )
-    rows = len(found_in(PLACES, r"^const LOCATIONS.*?^\];", r"\(SyntaxKind::"))
-    counts = found_in(PLACES, r"^const LOCATIONS: \[\(SyntaxKind, &str\); \d+\]", r"\d+")
-    if counts != [str(rows)]:
-        yield f"{PLACES}: LOCATIONS has the length {' '.join(counts)}, and {rows} rows"
-    named = set(found_in(PLACES, r"^.*$", r'"([A-Z][A-Z_]+)"'))
-    for word in sorted(set(words) - named):
-        yield f"{PLACES}: no place has the directive location {word}"
-    for word in sorted(named - set(words)):
-        yield f"{PLACES}: it has the directive location {word}, which is not in the list {LISTED} of Choices.antt"
+    yield from differing(PLACES, "name", found_in(PLACES, r"^    pub fn name.*?^    }", r'"(\w+)"'), words)
+    rows = found_in(PLACES, r"^pub\(crate\) const LOCATIONS.*?^\];", r"SyntaxKind::\w+,\s+DirectiveLocation::(\w+)")
+    counts = found_in(PLACES, r"^pub\(crate\) const LOCATIONS: \[[^;]*; \d+\]", r"\d+")
+    if counts != [str(len(rows))]:
+        yield f"{PLACES}: LOCATIONS has the length {' '.join(counts)}, and {len(rows)} rows"
+    variants = found_in(PLACES, r"^pub enum DirectiveLocation \{.*?^}", r"(\w+),")
+    at = rows + found_in(PLACES, r"^fn \w+_location.*?^}", r"DirectiveLocation::(\w+)")
+    for variant in variants:
+        if variant not in at:
+            yield f"{PLACES}: no node has the directive location {variant}"

@@ -21,7 +21,7 @@ RULES = "crates/parser_rules/specs/Rules.antt"
 LOCATIONS = "crates/apollo_grammar/src/grammar/directive.rt"
 LOCATION_TEXT = "crates/apollo_cst_type_system/src/location.rt"
 STANDARD = "crates/type_system/src/standard.rt"
-LOCATION_PLACES = "crates/schema_members/src/locations.rt"
+LOCATION_PLACES = "crates/type_system/src/locations.rt"
 SYMBOLS = "tools/generate/symbols.py"
 PLACES = "tools/generate/places.py"
 WORDS = "tools/generate/typed_docs.py"
@@ -286,15 +286,21 @@ MISTAKES = [
     ),
     (
         LOCATION_PLACES,
-        '(SyntaxKind::ENUM_VALUE_DEFINITION, "ENUM_VALUE")',
-        '(SyntaxKind::ENUM_VALUE_DEFINITION, "ENUM_VALUES")',
-        "schema_members/src/locations.rt: no place has the directive location ENUM_VALUE",
+        'DirectiveLocation::EnumValue => "ENUM_VALUE"',
+        'DirectiveLocation::EnumValue => "ENUM_VALUES"',
+        "type_system/src/locations.rt: name has ENUM_VALUES where ENUM_VALUE should be",
     ),
     (
         LOCATION_PLACES,
-        '    (SyntaxKind::UNION_TYPE_DEFINITION, "UNION"),\n',
+        "DirectiveLocation::EnumValue,\n    ),\n",
+        "DirectiveLocation::Enum,\n    ),\n",
+        "type_system/src/locations.rt: no node has the directive location EnumValue",
+    ),
+    (
+        LOCATION_PLACES,
+        "    (SyntaxKind::UNION_TYPE_DEFINITION, DirectiveLocation::Union),\n",
         "",
-        "schema_members/src/locations.rt: LOCATIONS has the length 21, and 20 rows",
+        "type_system/src/locations.rt: LOCATIONS has the length 21, and 20 rows",
     ),
     (PLACES, '"fragments": ["2.8"]', '"fragments": ["2.8", "2.4"]', "places.py: CRATES has 2.4 twice"),
     (

@@ -6,8 +6,11 @@ use Rattle.apollo_cst_core.specs.Kinds.{is_of}
 use Rattle.validation_names.specs.Names.{Name}
 use Rattle.validation_names.specs.OwnNames.{name_at, own_name}
 use Rattle.validation_names.specs.Sites.{Located}
+use Rattle.type_system.specs.LocationNames.{location_name}
 use Rattle.type_system.specs.Types.{Types}
+use Rattle.type_system.specs.declared.locations.DirectiveLocation.{DirectiveLocation}
 use Rattle.query_validation.specs.Breaches.{QueryBreach}
+use Rattle.query_validation.specs.Rules.{location_at}
 use Rattle.query_validation.specs.Texts.{Text, defined_name, name_of_parent, owner, parent_type, type_of_definition}
 use Rattle.query_validation.specs.Texts.{type_text}
 use Rattle.query_validation.specs.ValueMessages.{wrong_value}
@@ -81,6 +84,18 @@ not_an_input name of =
 abbrev pub wrong_variable : Place → Text
 wrong_variable p = not_an_input (name_of_parent p) (type_text p)
 
+-- 5.7.1, where nothing defines the directive; and 5.7.2
+abbrev pub name_of_location : Option DirectiveLocation → Name
+name_of_location None = []
+name_of_location (Some location) = location_name location
+
+abbrev pub misplaced : Name → Name → Text
+misplaced name location = codes "Directive \"@" ++ name ++ codes "\" may not be used on " ++ location ++ codes "."
+
+abbrev pub wrong_directive : Place → Option Located → Text
+wrong_directive p None = codes "Unknown directive \"@" ++ name_at p ++ codes "\"."
+wrong_directive p (Some d) = misplaced (name_at p) (name_of_location (location_at p))
+
 abbrev pub wording : Types → QueryRule → Place → Option Located → Text
 wording T rule.FieldsOnCorrectType p d = unknown_field (name_at p) (defined_name d)
 wording T rule.ScalarLeafs p d = wrong_leaf p (type_of_definition d)
@@ -89,7 +104,7 @@ wording T rule.ProvidedRequiredArguments p d = missing_argument p (defined_name 
 wording T rule.ValuesOfCorrectType p d = wrong_value T p d
 wording T rule.KnownTypeNames p d = codes "Unknown type \"" ++ name_at p ++ codes "\"."
 wording T rule.FragmentsOnCompositeTypes p d = wrong_condition (name_of_owner p) (name_at p)
-wording T rule.KnownDirectives p d = codes "Unknown directive \"@" ++ name_at p ++ codes "\"."
+wording T rule.KnownDirectives p d = wrong_directive p d
 wording T rule.VariablesAreInputTypes p d = wrong_variable p
 
 abbrev pub message_of : Types → QueryBreach → Text

@@ -18,10 +18,13 @@ use Rattle.validation_names.specs.Mentions.{name_of}
 use Rattle.validation_names.specs.Names.{Name}
 use Rattle.validation_names.specs.Sites.{Located}
 use Rattle.type_system.specs.Definitions.{children, item_type, items, named_in}
+use Rattle.type_system.specs.Locations.{location_of, may_be_at}
 use Rattle.type_system.specs.Types.{Types, WithArguments, first_named}
 use Rattle.type_system.specs.declared.kinds.TheConstants.{TYPE_REFERENCES}
+use Rattle.type_system.specs.declared.locations.DirectiveLocation.{DirectiveLocation}
 use Rattle.query_validation.specs.Contexts.{Context, Wanted, is_composite, is_enum, is_input_object, is_leaf}
 use Rattle.query_validation.specs.Contexts.{type_definition, type_name, type_named_in, type_of}
+use Rattle.query_validation.specs.Texts.{owner}
 use Rattle.query_validation.specs.declared.rules.QueryRule.{QueryRule}
 use Rattle.query_validation.specs.declared.rules.QueryRule.TheVariants as rule
 use Rattle.query_validation.specs.declared.rules.TheConstants.{WITH_ARGUMENTS}
@@ -108,9 +111,23 @@ wrong_conditions T p =
     once (is_of NAMED_TYPE p && (is_condition (parent_place p) && is_not_composite T (type_named_in T (name_of p))))
     (type_definition T (type_named_in T (name_of p)))
 
--- 5.7.1, "Directives Are Defined"
-abbrev pub unknown_directives : Context → Place → Abouts
-unknown_directives inside p = once (is_of DIRECTIVE p && (is_some (name_of p) && is_none inside.definition)) None
+-- what a directive is on, as its location: the parent of the directive is the list of all directives there
+abbrev pub location_at : Place → Option DirectiveLocation
+location_at p = option_and_then location_of (owner p)
+
+abbrev pub is_not_for : Option DirectiveLocation → WithArguments → Bool
+is_not_for None d = false
+is_not_for (Some location) d = not (may_be_at location d.definition.site.place)
+
+-- 5.7.1, "Directives Are Defined"; and 5.7.2, "Directives Are in Valid Locations": The definition of the directive
+-- lists the location. A breach of the second is about the definition.
+abbrev pub is_wrong_directive : Option WithArguments → Place → Bool
+is_wrong_directive None p = is_some (name_of p)
+is_wrong_directive (Some d) p = is_not_for (location_at p) d
+
+abbrev pub wrong_directives : Context → Place → Abouts
+wrong_directives inside p =
+    once (is_of DIRECTIVE p && is_wrong_directive inside.definition p) (site_of inside.definition)
 
 -- 5.8.2, "Variables Are Input Types": The type of a variable is a scalar, an enum or an input object. A breach is at
 -- the reference to the type, and about the type.
@@ -199,5 +216,5 @@ broken_by T rule.ProvidedRequiredArguments around inside site = missing_argument
 broken_by T rule.ValuesOfCorrectType around inside site = wrong_values T around inside site
 broken_by T rule.KnownTypeNames around inside site = unknown_types T site.place
 broken_by T rule.FragmentsOnCompositeTypes around inside site = wrong_conditions T site.place
-broken_by T rule.KnownDirectives around inside site = unknown_directives inside site.place
+broken_by T rule.KnownDirectives around inside site = wrong_directives inside site.place
 broken_by T rule.VariablesAreInputTypes around inside site = wrong_variables T site.place

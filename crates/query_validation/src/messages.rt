@@ -5,20 +5,21 @@ ghost use Rattle.validation_names.specs.Sites.{as_located};
 ghost use Rattle.type_system.specs.Schemas.{types};
 ghost use Rattle.query_validation.specs.Breaches.{as_breach};
 ghost use Rattle.query_validation.specs.Messages.{argument_in, given_to, has_no_fields, lacking_in, lacks_selections};
-ghost use Rattle.query_validation.specs.Messages.{message_of, missing_argument, name_of_owner, not_an_input};
+ghost use Rattle.query_validation.specs.Messages.{message_of, misplaced, missing_argument, name_of_location};
+ghost use Rattle.query_validation.specs.Messages.{name_of_owner, not_an_input, wrong_directive};
 ghost use Rattle.query_validation.specs.Messages.{unknown_argument, unknown_field, with_arguments, wrong_condition};
 ghost use Rattle.query_validation.specs.Messages.{wrong_leaf, wrong_variable};
 ghost use Rattle.query_validation.specs.Texts.{defined_name, type_of_definition};
 
 use crate::judging::QueryViolation;
-use crate::rules::QueryRule;
+use crate::rules::{QueryRule, location_at};
 use crate::texts::{
     defined_name, name_in, name_of_parent, owner, parent_type, type_of_definition, type_text,
 };
 use crate::value_messages::wrong_value;
 use apollo_tree::{SyntaxKind, SyntaxNode};
 use std::alloc::{AllocError, Global};
-use type_system::Schema;
+use type_system::{DirectiveLocation, Schema};
 use validation_names::{Site, name_at, with_names};
 
 fn unknown_field(alloc: Global, name: &str, of: &str) -> Result<String, AllocError>
@@ -201,6 +202,43 @@ fn wrong_variable(alloc: Global, reference: &SyntaxNode<'_>) -> Result<String, A
     not_an_input(alloc, name_of_parent(reference), of.as_str())
 }
 
+fn name_of_location(location: Option<DirectiveLocation>) -> &'static str
+    ensures { result.now ≡ name_of_location location }
+{
+    match location {
+        Some(location) => location.name(),
+        None => "",
+    }
+}
+
+fn misplaced(alloc: Global, name: &str, location: &str) -> Result<String, AllocError>
+    ensures { IfOk result (λ text. string_bytes text ≡ misplaced name.now location.now) }
+{
+    with_names(
+        alloc,
+        "Directive \"@",
+        name,
+        "\" may not be used on ",
+        location,
+        ".",
+    )
+}
+
+fn wrong_directive(
+    alloc: Global,
+    node: &SyntaxNode<'_>,
+    definition: Option<Site<'_>>,
+) -> Result<String, AllocError>
+    ensures { IfOk result (λ text. string_bytes text
+        ≡ wrong_directive (node_place node.now) (option_map as_located definition.entry)) }
+{
+    let name = name_at(node);
+    match definition {
+        Some(_) => misplaced(alloc, name, name_of_location(location_at(node))),
+        None => format!(in alloc; "Unknown directive \"@{name}\"."),
+    }
+}
+
 /// The message of a violation of a rule that needs a schema, in the words of graphql-js 16 with double quotes, but
 /// without its suggestions of other names.
 pub fn message(
@@ -223,7 +261,7 @@ pub fn message(
         QueryRule::FragmentsOnCompositeTypes => {
             wrong_condition(alloc, name_in(owner(node)), name)
         }
-        QueryRule::KnownDirectives => format!(in alloc; "Unknown directive \"@{name}\"."),
+        QueryRule::KnownDirectives => wrong_directive(alloc, node, definition),
         QueryRule::VariablesAreInputTypes => wrong_variable(alloc, node),
     }
 }

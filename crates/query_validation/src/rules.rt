@@ -7,22 +7,26 @@ ghost use Rattle.type_system.specs.Schemas.{as_with_arguments, types};
 ghost use Rattle.type_system.specs.Tables.{AreFirst};
 ghost use Rattle.query_validation.specs.Breaches.{as_abouts, as_breach, breaches_about, breaches_of, lacking_breaches};
 ghost use Rattle.query_validation.specs.Contexts.{as_context, as_definition};
-ghost use Rattle.query_validation.specs.Rules.{given, is_lacking, is_not_composite, is_unknown_type, lacks_argument};
-ghost use Rattle.query_validation.specs.Rules.{missing, missing_arguments, site_of, unknown_arguments};
-ghost use Rattle.query_validation.specs.Rules.{unknown_directives};
-ghost use Rattle.query_validation.specs.Rules.{unknown_fields, unknown_types, wrong_conditions, wrong_leaves};
+ghost use Rattle.query_validation.specs.Rules.{given, is_lacking, is_not_composite, is_not_for, is_unknown_type};
+ghost use Rattle.query_validation.specs.Rules.{is_wrong_directive, lacks_argument, location_at, missing};
+ghost use Rattle.query_validation.specs.Rules.{missing_arguments, site_of, unknown_arguments, unknown_fields};
+ghost use Rattle.query_validation.specs.Rules.{unknown_types, wrong_conditions, wrong_directives, wrong_leaves};
 ghost use Rattle.query_validation.specs.Rules.{wrong_variables};
 ghost use Rattle.query_validation.specs.declared.rules.QueryRule.TheVariants.{ProvidedRequiredArguments};
 
 use crate::contexts::{Context, is_composite, is_leaf, type_definition, type_named_in, type_of};
 use crate::judging::QueryViolation;
 use crate::parts::{given_by_name, has_selections, is_condition, is_variable};
+use crate::texts::owner;
 use crate::values::add_wrong_values;
 use apollo_cst_core::is_one_of;
 use apollo_tree::{SyntaxKind, SyntaxNode};
 use std::alloc::{AllocError, Global};
 use std::collections::BTreeMap;
-use type_system::{DefinitionWithArguments, Schema, TYPE_REFERENCES, named_in};
+use type_system::{
+    DefinitionWithArguments, DirectiveLocation, Schema, TYPE_REFERENCES, location_of, may_be_at,
+    named_in,
+};
 use validation_names::{Site, name};
 
 /// A rule that needs the types of a schema, under the name that graphql-js gives it, with its sections (GraphQL
@@ -43,7 +47,7 @@ pub enum QueryRule {
     KnownTypeNames,
     /// 5.5.1.3
     FragmentsOnCompositeTypes,
-    /// 5.7.1
+    /// 5.7.1 and 5.7.2
     KnownDirectives,
     /// 5.8.2
     VariablesAreInputTypes,
@@ -195,17 +199,39 @@ fn wrong_condition<'t>(schema: &Schema<'t>, node: &SyntaxNode<'_>) -> Option<Opt
     None
 }
 
-fn unknown_directive<'t>(
-    inside: &Context<'_, 't>,
-    node: &SyntaxNode<'_>,
-) -> Option<Option<Site<'t>>>
-    ensures { as_abouts result ≡ unknown_directives (as_context inside.now) (node_place node.now) }
+// The location of a directive.
+pub(crate) fn location_at(node: &SyntaxNode<'_>) -> Option<DirectiveLocation>
+    ensures { result ≡ location_at (node_place node.now) }
 {
-    if node.kind().is(SyntaxKind::DIRECTIVE)
-        && name(node).is_some()
-        && inside.definition.is_none()
-    {
-        return Some(None);
+    location_of(&owner(node)?)
+}
+
+fn is_not_for(location: Option<DirectiveLocation>, definition: &DefinitionWithArguments<'_>) -> bool
+    ensures { result ≡ is_not_for location (as_with_arguments definition.now) }
+{
+    match location {
+        Some(location) => !may_be_at(&definition.definition.site.node, location),
+        None => false,
+    }
+}
+
+fn is_wrong_directive(
+    definition: Option<&DefinitionWithArguments<'_>>,
+    node: &SyntaxNode<'_>,
+) -> bool
+    ensures { result ≡ is_wrong_directive (as_definition definition.entry) (node_place node.now) }
+{
+    match definition {
+        Some(definition) => is_not_for(location_at(node), definition),
+        None => name(node).is_some(),
+    }
+}
+
+fn wrong_directive<'t>(inside: &Context<'_, 't>, node: &SyntaxNode<'_>) -> Option<Option<Site<'t>>>
+    ensures { as_abouts result ≡ wrong_directives (as_context inside.now) (node_place node.now) }
+{
+    if node.kind().is(SyntaxKind::DIRECTIVE) && is_wrong_directive(inside.definition, node) {
+        return Some(site_of(inside.definition));
     }
     None
 }
@@ -356,7 +382,7 @@ pub(crate) fn judge_rule<'d, 't>(
         }
         QueryRule::KnownTypeNames => unknown_type(schema, node),
         QueryRule::FragmentsOnCompositeTypes => wrong_condition(schema, node),
-        QueryRule::KnownDirectives => unknown_directive(inside, node),
+        QueryRule::KnownDirectives => wrong_directive(inside, node),
         QueryRule::VariablesAreInputTypes => wrong_variable(schema, node),
     };
     add(found, rule, site, broken)

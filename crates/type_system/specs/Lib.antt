@@ -1,4 +1,6 @@
 pub mod Definitions
+pub mod LocationNames
+pub mod Locations
 pub mod Operations
 pub mod Rows
 pub mod Schemas
