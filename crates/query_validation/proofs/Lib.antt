@@ -1,2 +1,3 @@
 pub mod ListedLemmas
+pub mod RepeatLemmas
 pub mod StackLemmas

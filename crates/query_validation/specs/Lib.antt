@@ -2,6 +2,7 @@ pub mod Breaches
 pub mod Contexts
 pub mod Listed
 pub mod Messages
+pub mod Repeats
 pub mod RuleNames
 pub mod Rules
 pub mod Stack

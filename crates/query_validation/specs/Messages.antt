@@ -96,6 +96,11 @@ abbrev pub wrong_directive : Place → Option Located → Text
 wrong_directive p None = codes "Unknown directive \"@" ++ name_at p ++ codes "\"."
 wrong_directive p (Some d) = misplaced (name_at p) (name_of_location (location_at p))
 
+-- 5.7.3
+abbrev pub repeated_directive : Place → Text
+repeated_directive p =
+    codes "The directive \"@" ++ name_at p ++ codes "\" can only be used once at this location."
+
 abbrev pub wording : Types → QueryRule → Place → Option Located → Text
 wording T rule.FieldsOnCorrectType p d = unknown_field (name_at p) (defined_name d)
 wording T rule.ScalarLeafs p d = wrong_leaf p (type_of_definition d)
@@ -105,6 +110,7 @@ wording T rule.ValuesOfCorrectType p d = wrong_value T p d
 wording T rule.KnownTypeNames p d = codes "Unknown type \"" ++ name_at p ++ codes "\"."
 wording T rule.FragmentsOnCompositeTypes p d = wrong_condition (name_of_owner p) (name_at p)
 wording T rule.KnownDirectives p d = wrong_directive p d
+wording T rule.UniqueDirectivesPerLocation p d = repeated_directive p
 wording T rule.VariablesAreInputTypes p d = wrong_variable p
 
 abbrev pub message_of : Types → QueryBreach → Text

@@ -4,6 +4,7 @@ use Rattle.std.specs.Int.Signed.{lt_z}
 use Rattle.std.specs.List.{filter, find}
 use Rattle.std.specs.Prelude.{ℕ, List, [], ◌∷◌, map, Bool, false, not, ◌&&◌, Option, Some, None, is_some}
 use Rattle.std.specs.Prelude.{is_none, if◌then◌else◌, option_map, option_and_then, bytes_eq, codes, pos, negsuc, true}
+use Rattle.std.specs.Prelude.{nat_lt}
 use Rattle.lexical_grammar.specs.Values.{IntOf}
 use Rattle.document_grammar.specs.declared.kind.SyntaxKind.TheVariants.{ARGUMENT, ARGUMENTS, BOOLEAN_VALUE, DIRECTIVE}
 use Rattle.document_grammar.specs.declared.kind.SyntaxKind.TheVariants.{ENUM_VALUE, FIELD, INT_VALUE, LIST_VALUE}
@@ -16,9 +17,9 @@ use Rattle.apollo_tree.specs.Order.{Place, parent_place, text_at}
 use Rattle.apollo_cst_core.specs.Kinds.{is_of, is_of_one}
 use Rattle.validation_names.specs.Mentions.{name_of}
 use Rattle.validation_names.specs.Names.{Name}
-use Rattle.validation_names.specs.Sites.{Located}
+use Rattle.validation_names.specs.Sites.{Located, located}
 use Rattle.type_system.specs.Definitions.{children, item_type, items, named_in}
-use Rattle.type_system.specs.Locations.{location_of, may_be_at}
+use Rattle.type_system.specs.Locations.{is_repeatable, location_of, may_be_at}
 use Rattle.type_system.specs.Types.{Types, WithArguments, first_named}
 use Rattle.type_system.specs.declared.kinds.TheConstants.{TYPE_REFERENCES}
 use Rattle.type_system.specs.declared.locations.DirectiveLocation.{DirectiveLocation}
@@ -129,6 +130,36 @@ abbrev pub wrong_directives : Context → Place → Abouts
 wrong_directives inside p =
     once (is_of DIRECTIVE p && is_wrong_directive inside.definition p) (site_of inside.definition)
 
+-- 5.7.3, "Directives Are Unique per Location": A directive that is not repeatable is there once. A breach is at each
+-- further one, and about the definition.
+
+-- the directives at the same location: the parent of a directive is their list
+abbrev pub list_around : Located → Option Located
+list_around site = option_map (located site.document) (parent_place site.place)
+
+abbrev pub all_in : Option Located → List Located
+all_in None = []
+all_in (Some list) = children list
+
+-- the first of them with the same name
+abbrev pub first_use : Located → Option Located
+first_use site = option_and_then (first_named (all_in (list_around site))) (name_of site.place)
+
+abbrev pub comes_before : Option Located → Place → Bool
+comes_before None p = false
+comes_before (Some other) p = nat_lt other.place.index p.index
+
+abbrev pub is_used_once : Option WithArguments → Bool
+is_used_once None = false
+is_used_once (Some d) = not (is_repeatable d.definition.site.place)
+
+abbrev pub is_repeat : Context → Located → Bool
+is_repeat inside site =
+    is_of DIRECTIVE site.place && (is_used_once inside.definition && comes_before (first_use site) site.place)
+
+abbrev pub repeated_directives : Context → Located → Abouts
+repeated_directives inside site = once (is_repeat inside site) (site_of inside.definition)
+
 -- 5.8.2, "Variables Are Input Types": The type of a variable is a scalar, an enum or an input object. A breach is at
 -- the reference to the type, and about the type.
 abbrev pub is_variable : Option Place → Bool
@@ -217,4 +248,5 @@ broken_by T rule.ValuesOfCorrectType around inside site = wrong_values T around 
 broken_by T rule.KnownTypeNames around inside site = unknown_types T site.place
 broken_by T rule.FragmentsOnCompositeTypes around inside site = wrong_conditions T site.place
 broken_by T rule.KnownDirectives around inside site = wrong_directives inside site.place
+broken_by T rule.UniqueDirectivesPerLocation around inside site = repeated_directives inside site
 broken_by T rule.VariablesAreInputTypes around inside site = wrong_variables T site.place

@@ -7,10 +7,11 @@ ghost use Rattle.query_validation.specs.Breaches.{IsValidAgainst, as_breach, bre
 ghost use Rattle.query_validation.specs.Breaches.{definition_breaches};
 ghost use Rattle.query_validation.specs.Contexts.{as_context};
 ghost use Rattle.query_validation.specs.Listed.{Lists};
+ghost use Rattle.query_validation.specs.Rules.{is_repeat};
 
-use crate::contexts::Context;
+use crate::repeats::{empty_table, is_repeat};
 use crate::rules::{QUERY_RULES, QueryRule, judge_rule};
-use crate::stack::{Level, contexts_of};
+use crate::stack::{Contexts, Level, contexts_of};
 use apollo_cst_core::is_one_of;
 use apollo_tree::{SyntaxKind, SyntaxNode};
 use std::alloc::{AllocError, Global};
@@ -39,17 +40,19 @@ pub(crate) const EXECUTABLES: [SyntaxKind; 2] = [
 fn judge_node<'d, 't>(
     alloc: Global,
     schema: &Schema<'t>,
-    around: &Context<'_, 't>,
-    inside: &Context<'_, 't>,
+    contexts: &Contexts<'_, 't>,
+    repeats: bool,
     site: &Site<'d>,
     found: &mut Vec<QueryViolation<'d, 't>>,
 ) -> Result<(), AllocError>
+    requires { repeats ≡ is_repeat (as_context contexts.now.inside) (as_located site.now) }
     ensures { OnOk result (map as_breach found.new.items
         ≡ map as_breach found.old.items
-        ++ breaches_in (types schema.now) (as_context around.now) (as_context inside.now) (as_located site.now)) }
+        ++ breaches_in (types schema.now) (as_context contexts.now.around) (as_context contexts.now.inside)
+        (as_located site.now)) }
 {
     for rule in &QUERY_RULES {
-        judge_rule(alloc, schema, *rule, around, inside, site, found)?;
+        judge_rule(alloc, schema, *rule, contexts, repeats, site, found)?;
     }
     Ok(())
 }
@@ -67,20 +70,15 @@ fn judge_definition<'s, 'd: 's, 't>(
 {
     let document = definition.document;
     let mut stack: Vec<Level<'s, 't>> = Vec::new(alloc);
+    let mut table = empty_table(alloc);
     for node in definition.node.descendants() {
         if most <= found.len() {
             return Ok(());
         }
         let contexts = contexts_of(alloc, schema, &mut stack, &node)?;
         let site = Site { document, node };
-        judge_node(
-            alloc,
-            schema,
-            &contexts.around,
-            &contexts.inside,
-            &site,
-            found,
-        )?;
+        let repeats = is_repeat(alloc, &mut table, &contexts.inside, &site)?;
+        judge_node(alloc, schema, &contexts, repeats, &site, found)?;
     }
     Ok(())
 }

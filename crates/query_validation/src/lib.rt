@@ -9,6 +9,7 @@ mod contexts;
 mod judging;
 mod messages;
 mod parts;
+mod repeats;
 mod rules;
 mod stack;
 mod texts;

@@ -6,7 +6,7 @@ ghost use Rattle.type_system.specs.Schemas.{types};
 ghost use Rattle.query_validation.specs.Breaches.{as_breach};
 ghost use Rattle.query_validation.specs.Messages.{argument_in, given_to, has_no_fields, lacking_in, lacks_selections};
 ghost use Rattle.query_validation.specs.Messages.{message_of, misplaced, missing_argument, name_of_location};
-ghost use Rattle.query_validation.specs.Messages.{name_of_owner, not_an_input, wrong_directive};
+ghost use Rattle.query_validation.specs.Messages.{name_of_owner, not_an_input, repeated_directive, wrong_directive};
 ghost use Rattle.query_validation.specs.Messages.{unknown_argument, unknown_field, with_arguments, wrong_condition};
 ghost use Rattle.query_validation.specs.Messages.{wrong_leaf, wrong_variable};
 ghost use Rattle.query_validation.specs.Texts.{defined_name, type_of_definition};
@@ -239,6 +239,13 @@ fn wrong_directive(
     }
 }
 
+fn repeated_directive(alloc: Global, node: &SyntaxNode<'_>) -> Result<String, AllocError>
+    ensures { IfOk result (λ text. string_bytes text ≡ repeated_directive (node_place node.now)) }
+{
+    let name = name_at(node);
+    format!(in alloc; "The directive \"@{name}\" can only be used once at this location.")
+}
+
 /// The message of a violation of a rule that needs a schema, in the words of graphql-js 16 with double quotes, but
 /// without its suggestions of other names.
 pub fn message(
@@ -262,6 +269,7 @@ pub fn message(
             wrong_condition(alloc, name_in(owner(node)), name)
         }
         QueryRule::KnownDirectives => wrong_directive(alloc, node, definition),
+        QueryRule::UniqueDirectivesPerLocation => repeated_directive(alloc, node),
         QueryRule::VariablesAreInputTypes => wrong_variable(alloc, node),
     }
 }

@@ -8,8 +8,8 @@ ghost use Rattle.type_system.specs.Tables.{AreFirst};
 ghost use Rattle.query_validation.specs.Breaches.{as_abouts, as_breach, breaches_about, breaches_of, lacking_breaches};
 ghost use Rattle.query_validation.specs.Contexts.{as_context, as_definition};
 ghost use Rattle.query_validation.specs.Rules.{given, is_lacking, is_not_composite, is_not_for, is_unknown_type};
-ghost use Rattle.query_validation.specs.Rules.{is_wrong_directive, lacks_argument, location_at, missing};
-ghost use Rattle.query_validation.specs.Rules.{missing_arguments, site_of, unknown_arguments, unknown_fields};
+ghost use Rattle.query_validation.specs.Rules.{is_repeat, is_wrong_directive, lacks_argument, location_at, missing};
+ghost use Rattle.query_validation.specs.Rules.{missing_arguments, once, site_of, unknown_arguments, unknown_fields};
 ghost use Rattle.query_validation.specs.Rules.{unknown_types, wrong_conditions, wrong_directives, wrong_leaves};
 ghost use Rattle.query_validation.specs.Rules.{wrong_variables};
 ghost use Rattle.query_validation.specs.declared.rules.QueryRule.TheVariants.{ProvidedRequiredArguments};
@@ -17,6 +17,7 @@ ghost use Rattle.query_validation.specs.declared.rules.QueryRule.TheVariants.{Pr
 use crate::contexts::{Context, is_composite, is_leaf, type_definition, type_named_in, type_of};
 use crate::judging::QueryViolation;
 use crate::parts::{given_by_name, has_selections, is_condition, is_variable};
+use crate::stack::Contexts;
 use crate::texts::owner;
 use crate::values::add_wrong_values;
 use apollo_cst_core::is_one_of;
@@ -49,12 +50,14 @@ pub enum QueryRule {
     FragmentsOnCompositeTypes,
     /// 5.7.1 and 5.7.2
     KnownDirectives,
+    /// 5.7.3
+    UniqueDirectivesPerLocation,
     /// 5.8.2
     VariablesAreInputTypes,
 }
 
 /// All of them, in the order in which a node is judged by them.
-pub const QUERY_RULES: [QueryRule; 9] = [
+pub const QUERY_RULES: [QueryRule; 10] = [
     QueryRule::FieldsOnCorrectType,
     QueryRule::ScalarLeafs,
     QueryRule::KnownArgumentNames,
@@ -63,6 +66,7 @@ pub const QUERY_RULES: [QueryRule; 9] = [
     QueryRule::KnownTypeNames,
     QueryRule::FragmentsOnCompositeTypes,
     QueryRule::KnownDirectives,
+    QueryRule::UniqueDirectivesPerLocation,
     QueryRule::VariablesAreInputTypes,
 ];
 
@@ -86,6 +90,7 @@ impl QueryRule {
             QueryRule::KnownTypeNames => "KnownTypeNames",
             QueryRule::FragmentsOnCompositeTypes => "FragmentsOnCompositeTypes",
             QueryRule::KnownDirectives => "KnownDirectives",
+            QueryRule::UniqueDirectivesPerLocation => "UniqueDirectivesPerLocation",
             QueryRule::VariablesAreInputTypes => "VariablesAreInputTypes",
         }
     }
@@ -236,6 +241,15 @@ fn wrong_directive<'t>(inside: &Context<'_, 't>, node: &SyntaxNode<'_>) -> Optio
     None
 }
 
+fn repeated_directive<'t>(inside: &Context<'_, 't>, repeats: bool) -> Option<Option<Site<'t>>>
+    ensures { as_abouts result ≡ once repeats (site_of (as_context inside.now).definition) }
+{
+    if repeats {
+        return Some(site_of(inside.definition));
+    }
+    None
+}
+
 fn wrong_variable<'t>(schema: &Schema<'t>, node: &SyntaxNode<'_>) -> Option<Option<Site<'t>>>
     ensures { as_abouts result ≡ wrong_variables (types schema.now) (node_place node.now) }
 {
@@ -354,21 +368,23 @@ fn add_missing_arguments<'d, 't>(
     )
 }
 
-/// Adds what a node breaks of a rule, by the contexts around it and inside it.
+// Adds what a node breaks of a rule, by the contexts around it and inside it, and whether it is a repeated directive.
 pub(crate) fn judge_rule<'d, 't>(
     alloc: Global,
     schema: &Schema<'t>,
     rule: QueryRule,
-    around: &Context<'_, 't>,
-    inside: &Context<'_, 't>,
+    contexts: &Contexts<'_, 't>,
+    repeats: bool,
     site: &Site<'d>,
     found: &mut Vec<QueryViolation<'d, 't>>,
 ) -> Result<(), AllocError>
+    requires { repeats ≡ is_repeat (as_context contexts.now.inside) (as_located site.now) }
     ensures { OnOk result (map as_breach found.new.items
         ≡ map as_breach found.old.items
-        ++ breaches_of (types schema.now) rule (as_context around.now) (as_context inside.now)
+        ++ breaches_of (types schema.now) rule (as_context contexts.now.around) (as_context contexts.now.inside)
         (as_located site.now)) }
 {
+    let (around, inside) = (&contexts.around, &contexts.inside);
     let node = &site.node;
     let broken = match rule {
         QueryRule::FieldsOnCorrectType => unknown_field(schema, around, inside, node),
@@ -383,6 +399,7 @@ pub(crate) fn judge_rule<'d, 't>(
         QueryRule::KnownTypeNames => unknown_type(schema, node),
         QueryRule::FragmentsOnCompositeTypes => wrong_condition(schema, node),
         QueryRule::KnownDirectives => wrong_directive(inside, node),
+        QueryRule::UniqueDirectivesPerLocation => repeated_directive(inside, repeats),
         QueryRule::VariablesAreInputTypes => wrong_variable(schema, node),
     };
     add(found, rule, site, broken)

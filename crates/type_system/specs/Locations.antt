@@ -1,12 +1,14 @@
--- Where directives may be (GraphQL October 2021, section 3.13).
+-- Where directives may be, and how often (GraphQL October 2021, section 3.13).
 use Rattle.std.specs.List.{find, list_any}
-use Rattle.std.specs.Prelude.{Bool, ◌&&◌, if◌then◌else◌, bytes_eq, Option, Some, None, option_map}
+use Rattle.std.specs.Prelude.{Bool, ◌&&◌, if◌then◌else◌, bytes_eq, Option, Some, None, is_some, option_map}
 use Rattle.document_grammar.specs.Numbers.{is_kind}
 use Rattle.document_grammar.specs.declared.kind.SyntaxKind.{SyntaxKind}
 use Rattle.document_grammar.specs.declared.kind.SyntaxKind.TheVariants.{ARGUMENTS_DEFINITION, DIRECTIVE_LOCATIONS}
 use Rattle.document_grammar.specs.declared.kind.SyntaxKind.TheVariants.{INPUT_VALUE_DEFINITION, OPERATION_DEFINITION}
+use Rattle.document_grammar.specs.declared.kind.SyntaxKind.TheVariants.{repeatable_KW}
 use Rattle.apollo_tree.specs.Children.{child_nodes}
 use Rattle.apollo_tree.specs.Order.{Place, kind_at, parent_place, text_at}
+use Rattle.apollo_cst_core.specs.Cast.{first_of, leaves_of}
 use Rattle.apollo_cst_core.specs.Kinds.{is_of}
 use Rattle.validation_names.specs.Names.{Name}
 use Rattle.type_system.specs.Definitions.{operation_type}
@@ -53,3 +55,7 @@ is_listed name definition = list_any (lists_location name) (child_nodes definiti
 -- whether a directive may be at a location, by its definition
 abbrev pub may_be_at : DirectiveLocation → Place → Bool
 may_be_at location definition = is_listed (location_name location) definition
+
+-- whether it may be there more than once
+abbrev pub is_repeatable : Place → Bool
+is_repeatable definition = is_some (first_of (leaves_of repeatable_KW definition))

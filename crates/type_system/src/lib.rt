@@ -17,7 +17,7 @@ mod type_references;
 
 pub use definitions::{all_definitions, children, items, operation_type};
 pub use kinds::{COMPOSITE_TYPES, INPUT_TYPES, LEAF_TYPES, OperationType, TYPE_REFERENCES};
-pub use locations::{DirectiveLocation, location_of, may_be_at};
+pub use locations::{DirectiveLocation, is_repeatable, location_of, may_be_at};
 pub use schema::{DefinitionWithArguments, Schema, TypedDefinition};
 pub use standard::{EACH_TYPE, QUERY_ROOT, STANDARD};
 pub use tables::first_by_name;

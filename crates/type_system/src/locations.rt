@@ -1,4 +1,4 @@
-// Where directives may be (section 3.13).
+// Where directives may be, and how often (section 3.13).
 ghost use Rattle.std.specs.Prelude.{◌≡◌};
 ghost use Rattle.std.specs.List.{find, list_any};
 ghost use Rattle.std.specs.Prelude.{bytes_eq};
@@ -6,12 +6,13 @@ ghost use Rattle.document_grammar.specs.Numbers.{is_kind};
 ghost use Rattle.apollo_tree.specs.Children.{child_nodes};
 ghost use Rattle.apollo_tree.specs.Order.{parent_place, text_at};
 ghost use Rattle.apollo_tree.specs.References.{node_place};
-ghost use Rattle.type_system.specs.Locations.{input_location, is_listed, listed_location, location_of};
-ghost use Rattle.type_system.specs.Locations.{may_be_at, operation_location};
+ghost use Rattle.type_system.specs.Locations.{input_location, is_listed, is_repeatable, listed_location};
+ghost use Rattle.type_system.specs.Locations.{location_of, may_be_at, operation_location};
 ghost use Rattle.type_system.specs.declared.locations.TheConstants.{LOCATIONS};
 
 use crate::definitions::operation_type;
 use crate::kinds::OperationType;
+use apollo_cst_core::token;
 use apollo_tree::{SyntaxKind, SyntaxNode};
 
 /// What a directive may be on (section 3.13, *DirectiveLocation*).
@@ -212,4 +213,11 @@ pub fn may_be_at(definition: &SyntaxNode<'_>, location: DirectiveLocation) -> bo
     ensures { result ≡ may_be_at location (node_place definition.now) }
 {
     is_listed(definition, location.name())
+}
+
+/// Whether a directive may be more than once at a location, by its definition.
+pub fn is_repeatable(definition: &SyntaxNode<'_>) -> bool
+    ensures { result ≡ is_repeatable (node_place definition.now) }
+{
+    token(definition, SyntaxKind::repeatable_KW).is_some()
 }

@@ -8,10 +8,12 @@ use Rattle.apollo_tree.specs.Yields.{rest_descendant_nodes}
 use Rattle.validation_names.specs.Sites.{as_located, located, nodes}
 use Rattle.type_system.specs.Schemas.{types}
 use Rattle.query_validation.proofs.ListedLemmas.{listed_more}
+use Rattle.query_validation.proofs.RepeatLemmas.{no_table}
 use Rattle.query_validation.proofs.StackLemmas.{nodes_in}
 use Rattle.query_validation.proofs.judging.judge_definition.Goals as goal
 use Rattle.query_validation.specs.Breaches.{as_breach, breaches_at, breaches_in, definition_breaches}
 use Rattle.query_validation.specs.Contexts.{around, as_context}
+use Rattle.query_validation.specs.Repeats.{IsTable}
 use Rattle.query_validation.specs.Stack.{IsLevel}
 
 pub loop-node-init : goal.loop-node-init
@@ -30,6 +32,7 @@ loop-node-init c =
           all;
       levels = All-same (IsLevel T p.whole) c.new-stack.result.items [] c.new-stack.ensures.items
           (All-nil (IsLevel T p.whole));
+      table = no_table definition.document p.whole c.empty_table-table.result c.empty_table-table.ensures;
       tree = All-same (λ (q : Place). q.whole ≡ p.whole) rest (nodes p) all (nodes_in p);
     }
 
@@ -45,6 +48,18 @@ contexts_of-requires c =
     (sym steps) c.loop-node.invariant.tree) in
     subst (λ (w : Forest). All (IsLevel (types c.args.schema.now) w) c.loop-node.stack.items) (sym same)
     c.loop-node.invariant.levels
+
+pub is_repeat-requires : goal.is_repeat-requires
+is_repeat-requires c =
+    let definition = c.args.definition.now in
+    let tree = (node_place definition.node).whole in
+    let node = node_place c.in-Some.node in
+    let rest = rest_descendant_nodes c.next.new.self in
+    let same : node.whole ≡ tree =
+    All-head (λ (q : Place). q.whole ≡ tree) node rest
+    (All-same (λ (q : Place). q.whole ≡ tree) (node ∷ rest) (rest_descendant_nodes c.loop-node.node-iterator)
+    (sym c.in-Some.ensures.steps) c.loop-node.invariant.tree) in
+    subst (λ (w : Forest). IsTable definition.document w c.loop-node.table) (sym same) c.loop-node.invariant.table
 
 pub loop-node-preserved : goal.loop-node-preserved
 loop-node-preserved c =
@@ -75,5 +90,6 @@ loop-node-preserved c =
           c.loop-node.invariant.listed adds;
       levels = subst (λ (w : Forest). All (IsLevel T w) c.contexts_of.new.stack.items) same
           c.in_ok-contexts.ensures.levels;
+      table = subst (λ (w : Forest). IsTable document w c.is_repeat.new.table) same c.in_ok-repeats.ensures.table;
       tree = All-rest (λ (q : Place). q.whole ≡ tree) node rest before steps c.loop-node.invariant.tree;
     }

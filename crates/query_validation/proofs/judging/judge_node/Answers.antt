@@ -11,8 +11,8 @@ use Rattle.query_validation.specs.declared.rules.TheConstants.{QUERY_RULES}
 pub loop-rule-preserved : goal.loop-rule-preserved
 loop-rule-preserved c =
     each_more
-    (λ rule. breaches_of (types c.args.schema.now) rule (as_context c.args.around.now) (as_context c.args.inside.now)
-    (as_located c.args.site.now))
+    (λ rule. breaches_of (types c.args.schema.now) rule (as_context c.args.contexts.now.around)
+    (as_context c.args.contexts.now.inside) (as_located c.args.site.now))
     QUERY_RULES (map as_breach c.args.found.now.items) (map as_breach c.loop-rule.found.items)
     (map as_breach c.judge_rule.new.found.items) c.loop-rule.rule-index FieldsOnCorrectType c.loop-rule-test.true
     c.loop-rule.invariant c.in_ok-judge_rule.ensures

@@ -12,5 +12,6 @@ invariant-loop-rule l =
     map as_breach l.found.items
     ≡ map as_breach l.fn.found.items
     ++ flat_map
-    (λ rule. breaches_of (types l.schema) rule (as_context l.around) (as_context l.inside) (as_located l.site))
+    (λ rule.
+    breaches_of (types l.schema) rule (as_context l.contexts.around) (as_context l.contexts.inside) (as_located l.site))
     (take l.rule-index QUERY_RULES)
