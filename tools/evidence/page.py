@@ -37,7 +37,7 @@ PARTS = {
         document_validation/src/validation.rt document_validation/src/messages.rt document_validation/src/lists.rt
         variable_rules/src/operations.rt variable_rules/src/steps.rt""",
     "validation against a schema": """
-        type_system/src/reading.rt query_validation/src/judging.rt query_validation/src/messages.rt""",
+        type_system/src/parts.rt query_validation/src/violations.rt query_validation/src/messages.rt""",
     "the cost of operations": (
         "cost_limits/src/measures.rt cost_limits/src/limits.rt cost_figures/src/limits.rt"
     ),
@@ -59,7 +59,7 @@ COUNTED = {
     "`gqlls`": "gqlls_program/src/program.rt",
     "C, Python and the page": "c_exports/src/lib.rt",
     "`Schema::read` and `query_validation`": (
-        "type_system/src/reading.rt query_validation/src/judging.rt query_validation/src/messages.rt"
+        "type_system/src/parts.rt query_validation/src/violations.rt query_validation/src/messages.rt"
     ),
 }
 # The four clauses of `parse` that are the main theorem.

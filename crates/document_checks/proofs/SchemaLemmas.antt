@@ -5,7 +5,7 @@ use Rattle.apollo_tree.specs.Order.{Place}
 use Rattle.validation_names.specs.Sites.{Located, as_located}
 use Rattle.type_system.specs.Types.{Types, types_of}
 use Rattle.query_validation.specs.Breaches.{QueryBreach, as_breach, breaches}
-use Rattle.query_validation.specs.declared.judging.QueryViolation.{QueryViolation}
+use Rattle.query_validation.specs.declared.violations.QueryViolation.{QueryViolation}
 use Rattle.document_checks.specs.Schemas.{documents_before, judged_of, query_sites, types_by}
 
 site_of : QueryBreach → Located

@@ -11,7 +11,7 @@ use Rattle.validation_names.specs.Sites.{Located, as_located}
 use Rattle.type_system.specs.Types.{Types, types_of}
 use Rattle.type_system.specs.declared.standard.TheConstants.{STANDARD}
 use Rattle.query_validation.specs.Breaches.{IsValidAgainst, QueryBreach, breaches}
-use Rattle.query_validation.specs.declared.judging.QueryViolation.{QueryViolation}
+use Rattle.query_validation.specs.declared.violations.QueryViolation.{QueryViolation}
 
 -- how many documents come before a text, where these are the numbers of their texts
 abbrev pub documents_before : ℕ → List ℕ → ℕ

@@ -8,10 +8,10 @@ use Rattle.validation_names.specs.declared.sites.Site.{Site}
 use Rattle.type_system.specs.Types.{Types}
 use Rattle.query_validation.specs.Contexts.{Context, around, step}
 use Rattle.query_validation.specs.Rules.{Abouts, broken_by, given, is_lacking}
-use Rattle.query_validation.specs.declared.judging.QueryViolation.{QueryViolation}
-use Rattle.query_validation.specs.declared.judging.TheConstants.{EXECUTABLES}
 use Rattle.query_validation.specs.declared.rules.QueryRule.{QueryRule}
 use Rattle.query_validation.specs.declared.rules.TheConstants.{QUERY_RULES}
+use Rattle.query_validation.specs.declared.violations.QueryViolation.{QueryViolation}
+use Rattle.query_validation.specs.declared.violations.TheConstants.{EXECUTABLES}
 
 -- what breaks which rule, and the definition in the schema that it is about, if there is one
 pub record QueryBreach : Type 0 where

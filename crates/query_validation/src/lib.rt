@@ -6,7 +6,6 @@
 #![tactic(auto)]
 
 mod contexts;
-mod judging;
 mod messages;
 mod parts;
 mod repeats;
@@ -15,8 +14,9 @@ mod stack;
 mod texts;
 mod value_messages;
 mod values;
+mod violations;
 
 pub use contexts::{Context, Wanted};
-pub use judging::{QueryViolation, validate};
 pub use messages::message;
 pub use rules::{QUERY_RULES, QueryRule};
+pub use violations::{QueryViolation, validate};

@@ -11,12 +11,12 @@ ghost use Rattle.query_validation.specs.Messages.{unknown_argument, unknown_fiel
 ghost use Rattle.query_validation.specs.Messages.{wrong_leaf, wrong_variable};
 ghost use Rattle.query_validation.specs.Texts.{defined_name, type_of_definition};
 
-use crate::judging::QueryViolation;
 use crate::rules::{QueryRule, location_at};
 use crate::texts::{
     defined_name, name_in, name_of_parent, owner, parent_type, type_of_definition, type_text,
 };
 use crate::value_messages::wrong_value;
+use crate::violations::QueryViolation;
 use apollo_tree::{SyntaxKind, SyntaxNode};
 use std::alloc::{AllocError, Global};
 use type_system::{DirectiveLocation, Schema};

@@ -15,11 +15,11 @@ ghost use Rattle.query_validation.specs.Rules.{wrong_variables};
 ghost use Rattle.query_validation.specs.declared.rules.QueryRule.TheVariants.{ProvidedRequiredArguments};
 
 use crate::contexts::{Context, is_composite, is_leaf, type_definition, type_named_in, type_of};
-use crate::judging::QueryViolation;
 use crate::parts::{given_by_name, has_selections, is_condition, is_variable};
 use crate::stack::Contexts;
 use crate::texts::owner;
 use crate::values::add_wrong_values;
+use crate::violations::QueryViolation;
 use apollo_cst_core::is_one_of;
 use apollo_tree::{SyntaxKind, SyntaxNode};
 use std::alloc::{AllocError, Global};

@@ -14,8 +14,8 @@ ghost use Rattle.query_validation.specs.Rules.{wrong_values};
 ghost use Rattle.query_validation.specs.declared.rules.QueryRule.TheVariants.{ValuesOfCorrectType};
 
 use crate::contexts::{Context, Wanted, is_enum, is_input_object, type_name};
-use crate::judging::QueryViolation;
 use crate::rules::{QueryRule, add, add_missing, lacks_argument, site_of};
+use crate::violations::QueryViolation;
 use apollo_cst_core::{CstNode, is_one_of};
 use apollo_cst_executable::IntValue;
 use apollo_tree::{SyntaxKind, SyntaxNode};

@@ -9,7 +9,7 @@
 mod definitions;
 mod kinds;
 mod locations;
-mod reading;
+mod parts;
 mod schema;
 mod standard;
 mod tables;

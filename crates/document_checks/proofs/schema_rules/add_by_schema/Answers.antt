@@ -5,7 +5,7 @@ use Rattle.apollo_tree.specs.References.{node_place}
 use Rattle.validation_names.specs.Sites.{as_located}
 use Rattle.type_system.specs.Schemas.{types}
 use Rattle.query_validation.specs.Breaches.{as_breach, breaches}
-use Rattle.query_validation.specs.declared.judging.QueryViolation.{QueryViolation}
+use Rattle.query_validation.specs.declared.violations.QueryViolation.{QueryViolation}
 use Rattle.document_checks.proofs.SchemaLemmas.{first_sites, read_types}
 use Rattle.document_checks.proofs.schema_rules.add_by_schema.Goals as goal
 use Rattle.document_checks.specs.Documents.{numbers_of, root_of}

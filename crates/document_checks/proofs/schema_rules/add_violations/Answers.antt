@@ -2,7 +2,7 @@ use Rattle.std.proofs.Common.{◌++◌, ◌∷◌, [], ◌∙◌, List, ap, appe
 use Rattle.std.proofs.Common.{sym, take, take_all}
 use Rattle.std.proofs.lemmas.List.{map_more}
 use Rattle.validation_names.specs.Sites.{Located, as_located}
-use Rattle.query_validation.specs.declared.judging.QueryViolation.{QueryViolation}
+use Rattle.query_validation.specs.declared.violations.QueryViolation.{QueryViolation}
 use Rattle.document_checks.proofs.Passing.{place_more}
 use Rattle.document_checks.proofs.schema_rules.add_violations.Goals as goal
 use Rattle.document_checks.specs.Documents.{AreJudged, numbers_of}

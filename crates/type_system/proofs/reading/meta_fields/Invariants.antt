@@ -1,8 +1,0 @@
-use Rattle.std.proofs.Common.{◌≡◌, map, take}
-use Rattle.validation_names.specs.Sites.{as_located}
-use Rattle.type_system.proofs.reading.meta_fields.Given as goal
-use Rattle.type_system.specs.Types.{meta_fields}
-
-abbrev pub invariant-loop-site : goal.invariant-loop-site
-invariant-loop-site l =
-    map as_located l.found.items ≡ meta_fields (map as_located (take l.site-index l.fn.definitions)) l.fn.owner
