@@ -2,6 +2,8 @@
 does. Their C library is musl, since glibc's licence, the LGPL, wants that users can link the file anew."""
 
 import shutil
+from concurrent.futures import ThreadPoolExecutor
+from functools import partial
 from pathlib import Path
 
 from bindings.library import ARM64, HERE
@@ -12,6 +14,8 @@ from packages.installed import PROGRAMS
 SYSTEM = [Path(__file__).resolve().parent / "system.c", C / "heap.c"]
 # They lie at another address in each run, and no table of addresses stays writable.
 LINKING = ["-static", "-pie", "--no-dynamic-linker", "-z", "text", "-z", "relro", "-z", "now", "--gc-sections", "-s"]
+# How many proofs run at a time, and tests of processors.
+AT_ONCE = 2
 # The licence of musl, which comes with each copy of it.
 NOTICE = Path("/usr/share/doc/musl-dev/copyright")
 
@@ -66,8 +70,9 @@ def make(platform):
         return
     static_folder(platform).mkdir(parents=True)
     system = [compiled(platform, source, static_folder(platform)) for source in SYSTEM]
-    for name in PROGRAMS:
-        link(platform, static_folder(platform) / name, [make_object(platform, name), *system])
+    with ThreadPoolExecutor(AT_ONCE) as pool:
+        for name, made in zip(PROGRAMS, pool.map(partial(make_object, platform), PROGRAMS)):
+            link(platform, static_folder(platform) / name, [made, *system])
 
 
 def build():

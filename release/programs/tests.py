@@ -6,6 +6,7 @@ import shutil
 import subprocess
 import sys
 import tempfile
+from concurrent.futures import ThreadPoolExecutor
 from pathlib import Path
 
 from bindings.arm64 import QEMU
@@ -14,7 +15,7 @@ from bindings.shared import TOP, run, stop, words_of
 from bindings.tests import symbols, test_printed
 from packages.installed import PROGRAMS
 
-from .static import SYSTEM, compiled, link, static_folder
+from .static import AT_ONCE, SYSTEM, compiled, link, static_folder
 
 # A test, and the program that it is given.
 TESTS = [("tests/files", "gqlfmt"), ("tests/gqlcheck", "gqlcheck"), ("tests/editors/protocol.py", "gqlls")]
@@ -79,16 +80,21 @@ def test_platform(platform, to):
     run(TOP / "tests/faults/run", failing, timeout=1800)
 
 
+def try_platform(platform):
+    """The tests of a processor, where its programs are. What is not here is said."""
+    if not static_folder(platform).exists():
+        return  # making them has said why
+    if platform == ARM64 and not shutil.which(QEMU):
+        print(f"there is no {QEMU}: the static programs for {platform.processor} were not tried")
+        return
+    with tempfile.TemporaryDirectory() as name:
+        # another user starts the programs, too
+        Path(name).chmod(0o755)
+        test_platform(platform, Path(name))
+    print(f"the static programs for {platform.processor} passed their tests", flush=True)
+
+
 def test():
-    """All tests, up to the first that fails. What is not here is said."""
-    for platform in (HERE, ARM64):
-        if not static_folder(platform).exists():
-            continue  # making them has said why
-        if platform == ARM64 and not shutil.which(QEMU):
-            print(f"there is no {QEMU}: the static programs for {platform.processor} were not tried")
-            continue
-        with tempfile.TemporaryDirectory() as name:
-            # another user starts the programs, too
-            Path(name).chmod(0o755)
-            test_platform(platform, Path(name))
-        print(f"the static programs for {platform.processor} passed their tests", flush=True)
+    """All tests, those in qemu first, since they take longest."""
+    with ThreadPoolExecutor(AT_ONCE) as pool:
+        list(pool.map(try_platform, (ARM64, HERE)))
