@@ -6,9 +6,10 @@ use editor_answers::{NameKind, meaning_of, span_of, symbol_of};
 use editor_diagnostics::Positions;
 use editor_text::closed;
 use rpc_messages::Piece;
-use schema_members::{Call, Member, Schema, call_at, directives_at, members_at};
+use schema_members::{Call, Schema, call_at, directives_at, members_at, name_in};
 use std::alloc::{AllocError, Global};
 use std::collections::BTreeSet;
+use validation_names::Site;
 
 // A word that may come next, the protocol's number of its sort, and the type or the condition that its definition
 // gives; else empty.
@@ -142,7 +143,7 @@ impl Front<'_> {
     }
 
     // The fields, arguments and values that may come after the text, by the types of some documents.
-    fn members<'t>(self, roots: &[SyntaxNode<'t>]) -> Result<Vec<Member<'t>>, AllocError> {
+    fn members<'t>(self, roots: &[SyntaxNode<'t>]) -> Result<Vec<Site<'t>>, AllocError> {
         let front = self.text;
         let text = format!(in self.alloc; "{front}x")?;
         let tree = Parser::within(text.as_str(), self.limits).parse(self.alloc)?;
@@ -153,7 +154,7 @@ impl Front<'_> {
     }
 
     // The directives that may come after the text, by the definitions of some documents.
-    fn directives<'t>(self, roots: &[SyntaxNode<'t>]) -> Result<Vec<Member<'t>>, AllocError> {
+    fn directives<'t>(self, roots: &[SyntaxNode<'t>]) -> Result<Vec<Site<'t>>, AllocError> {
         let front = self.text;
         let text = format!(in self.alloc; "{front}x")?;
         let tree = Parser::within(text.as_str(), self.limits).parse(self.alloc)?;
@@ -316,7 +317,7 @@ fn push_all_names<'t>(
 }
 
 // The protocol's number of the sort of thing that a member is.
-fn member_number(member: Member<'_>) -> usize {
+fn member_number(member: Site<'_>) -> usize {
     let kind = member.node.kind();
     if kind.is(SyntaxKind::DIRECTIVE_DEFINITION) {
         name_number(NameKind::Directive)
@@ -330,7 +331,7 @@ fn member_number(member: Member<'_>) -> usize {
 }
 
 // The type of a member; empty where it has none.
-fn member_detail<'t>(member: Member<'t>) -> &'t str {
+fn member_detail<'t>(member: Site<'t>) -> &'t str {
     match symbol_of(member.node) {
         Some(symbol) => symbol.detail,
         None => "",
@@ -340,14 +341,14 @@ fn member_detail<'t>(member: Member<'t>) -> &'t str {
 // Adds the names of members, each once.
 fn push_members<'t>(
     alloc: Global,
-    members: &[Member<'t>],
+    members: &[Site<'t>],
     found: &mut Vec<Candidate<'t>>,
 ) -> Result<(), AllocError> {
     let mut known = BTreeSet::new(alloc);
     for member in members {
-        if known.insert(member.name())? {
+        if known.insert(name_in(member.node))? {
             found.push(Candidate {
-                label: member.name(),
+                label: name_in(member.node),
                 number: member_number(*member),
                 detail: member_detail(*member),
             })?;

@@ -18,7 +18,7 @@ use editor_answers::{
 use editor_diagnostics::Positions;
 use json::Value;
 use rpc_messages::{Piece, answer, code, refusal};
-use schema_members::{Call, Schema, Uses, member_at, member_named};
+use schema_members::{Call, Schema, Uses, member_at, member_named, name_in, name_offset};
 use std::alloc::{AllocError, Global};
 use type_system::STANDARD;
 
@@ -153,8 +153,8 @@ impl<'a> Asked<'a, '_, '_> {
         let Some(member) = member_at(self.alloc, schema, leaf)? else {
             return Ok(None);
         };
-        let start = member.offset();
-        let end = start.saturating_add(member.name().len());
+        let start = name_offset(member.node);
+        let end = start.saturating_add(name_in(member.node).len());
         Ok(Some(Definer {
             document: searched.known.get(member.document).copied(),
             span: Span { start, end },

@@ -8,11 +8,12 @@ use apollo_parser::{SyntaxKind, SyntaxNode};
 use editor_answers::{description_of, span_of};
 use json::Value;
 use rpc_messages::{Piece, answer};
-use schema_members::{Call, Member};
+use schema_members::{Call, arguments_of, name_in, name_offset};
 use std::alloc::{AllocError, Global};
+use validation_names::Site;
 
 // The text of an argument's definition with its name, its type and its default value.
-fn parameter_text<'t>(parameter: Member<'t>) -> &'t str {
+fn parameter_text<'t>(parameter: Site<'t>) -> &'t str {
     let span = span_of(parameter.node.text_range());
     let mut end = span.end;
     for part in parameter.node.children() {
@@ -20,7 +21,7 @@ fn parameter_text<'t>(parameter: Member<'t>) -> &'t str {
             end = part.text_range().start();
         }
     }
-    let front = parameter.offset().saturating_sub(span.start);
+    let front = name_offset(parameter.node).saturating_sub(span.start);
     let end = end.saturating_sub(span.start);
     parameter.node.text().get(front..end).unwrap_or("").trim()
 }
@@ -40,7 +41,7 @@ fn type_text<'t>(definition: SyntaxNode<'t>) -> &'t str {
 }
 
 // The texts of some arguments' definitions.
-fn labels_of(alloc: Global, parameters: &[Member<'_>]) -> Result<Vec<String>, AllocError> {
+fn labels_of(alloc: Global, parameters: &[Site<'_>]) -> Result<Vec<String>, AllocError> {
     let mut labels = Vec::new(alloc);
     for parameter in parameters {
         labels.push(String::from_str(alloc, parameter_text(*parameter))?)?;
@@ -51,10 +52,10 @@ fn labels_of(alloc: Global, parameters: &[Member<'_>]) -> Result<Vec<String>, Al
 // The name of a field or a directive, with the texts of its arguments and its type.
 fn signature_text(
     alloc: Global,
-    definition: Member<'_>,
+    definition: Site<'_>,
     labels: &[String],
 ) -> Result<String, AllocError> {
-    let mut text = String::from_str(alloc, definition.name())?;
+    let mut text = String::from_str(alloc, name_in(definition.node))?;
     for (index, label) in labels.iter().enumerate() {
         text.push_str(if index == 0 { "(" } else { ", " })?;
         text.push_str(label.as_str())?;
@@ -123,7 +124,7 @@ pub(crate) fn answer_signature(
     requires { HasNumbers (value_view id.now) }
     ensures { IfOk result (λ body. IsAnswer (value_view id.now) body.items) }
 {
-    let parameters = call.definition.arguments(alloc)?;
+    let parameters = arguments_of(alloc, call.definition)?;
     let labels = labels_of(alloc, parameters.as_slice())?;
     let text = signature_text(alloc, call.definition, labels.as_slice())?;
     let description = description_of(alloc, call.definition.node)?;

@@ -1,6 +1,6 @@
 -- The definitions of documents, and their members (GraphQL, October 2021, sections 3.6 to 3.13).
 use Rattle.std.specs.List.{filter, find, flat_map, list_any}
-use Rattle.std.specs.Prelude.{ℕ, suc, Bool, false, ◌&&◌, ◌||◌, if◌then◌else◌, List, [], ◌∷◌, ◌++◌, map, bytes_eq}
+use Rattle.std.specs.Prelude.{ℕ, Bool, false, ◌&&◌, ◌||◌, if◌then◌else◌, List, [], ◌∷◌, bytes_eq}
 use Rattle.std.specs.Prelude.{Option, Some, None, option_and_then, option_map, unwrap_or}
 use Rattle.document_grammar.specs.declared.kind.SyntaxKind.TheVariants.{ENUM_VALUE, ENUM_VALUE_DEFINITION}
 use Rattle.document_grammar.specs.declared.kind.SyntaxKind.TheVariants.{FIELD_DEFINITION, IMPLEMENTS_INTERFACES}
@@ -13,7 +13,6 @@ use Rattle.apollo_tree.specs.Order.{Place, parent_place, range_at, text_at}
 use Rattle.apollo_tree.specs.References.{node_place}
 use Rattle.apollo_tree.specs.declared.node.SyntaxNode.{SyntaxNode}
 use Rattle.apollo_cst_core.specs.Kinds.{is_of, is_of_one}
-use Rattle.schema_members.specs.declared.definitions.Member.{Member}
 use Rattle.schema_members.specs.declared.definitions.TheConstants.{MEMBERS, TYPES}
 
 -- ---- names
@@ -33,17 +32,6 @@ name_start place = (range_at (unwrap_or (name_node place) place)).0
 
 -- ---- members
 
--- the index of a document, and a place in its tree
-abbrev pub Located : Type 0
-Located = ℕ × Place
-
-abbrev pub located : Member → Located
-located member = (member.document, node_place member.node)
-
--- places in a document
-abbrev pub located_in : ℕ → List Place → List Located
-located_in document places = map (λ place. (document, place)) places
-
 -- the members in a block of a definition
 abbrev pub members_of_block : Place → List Place
 members_of_block block = filter (is_of_one MEMBERS) (child_nodes block)
@@ -59,12 +47,6 @@ defined_in node =
     if is_of FIELD_DEFINITION node || is_of INPUT_VALUE_DEFINITION node then Some node
     else if is_of ENUM_VALUE node then option_and_then
     (λ value. if is_of ENUM_VALUE_DEFINITION value then Some value else None) (parent_place node) else None
-
--- what the documents have, each with its own, from an index on
-abbrev pub in_documents : (Place → List Place) → ℕ → List SyntaxNode → List Located
-in_documents places index [] = []
-in_documents places index (root ∷ roots) =
-    located_in index (places (node_place root)) ++ in_documents places (suc index) roots
 
 -- ---- interfaces
 

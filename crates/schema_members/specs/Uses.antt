@@ -3,7 +3,8 @@ use Rattle.std.specs.Prelude.{◌≡◌, ℕ, List, Option, Some, MatchOption, I
 use Rattle.document_grammar.specs.Numbers.{is_kind}
 use Rattle.document_grammar.specs.declared.kind.SyntaxKind.TheVariants.{IDENT}
 use Rattle.apollo_tree.specs.Order.{Place, kind_at, parent_place, text_at}
-use Rattle.schema_members.specs.Members.{Located, defined_in, name_at}
+use Rattle.validation_names.specs.Sites.{Located, located}
+use Rattle.schema_members.specs.Members.{defined_in, name_at}
 
 -- a leaf is an identifier with this text
 pub record IsIdentifier (text : List ℕ) (leaf : Place) : Type 0 where
@@ -14,10 +15,10 @@ pub record IsIdentifier (text : List ℕ) (leaf : Place) : Type 0 where
 -- has
 abbrev pub defined_by : ℕ → Place → Option Located
 defined_by document leaf =
-    option_map (λ node. (document, node))
+    option_map (located document)
     (option_and_then defined_in (option_and_then parent_place (parent_place leaf)))
 
 -- what is defined is found, and else at most something with this name
 abbrev pub IsDefinedOrNamed : Option Located → List ℕ → Option Located → Type 0
 IsDefinedOrNamed defined text found =
-    MatchOption defined (IfSome found (λ member. name_at member.1 ≡ text)) (λ member. found ≡ Some member)
+    MatchOption defined (IfSome found (λ member. name_at member.place ≡ text)) (λ member. found ≡ Some member)

@@ -1,13 +1,14 @@
 // The definitions of some documents.
 ghost use Rattle.std.specs.Prelude.{◌≡◌, ◌++◌, IfOk, OnOk, map, option_map};
 ghost use Rattle.apollo_tree.specs.References.{node_place};
-ghost use Rattle.schema_members.specs.Members.{located, located_in, members_in, members_of_block, name_at, name_node};
-ghost use Rattle.schema_members.specs.Members.{name_start};
+ghost use Rattle.validation_names.specs.Sites.{as_located, located};
+ghost use Rattle.schema_members.specs.Members.{members_in, members_of_block, name_at, name_node, name_start};
 
 use apollo_cst_core::{child_of, is_one_of};
 use apollo_tree::{SyntaxKind, SyntaxNode};
 use std::alloc::{AllocError, Global};
 use type_system::{EACH_TYPE, QUERY_ROOT};
+use validation_names::Site;
 
 /// The roots of the trees of some documents, in which types and directives are looked for. The first that defines a
 /// name counts. Where one of them is the tree of `STANDARD` of `type_system`, the types, directives and meta-fields of
@@ -15,14 +16,6 @@ use type_system::{EACH_TYPE, QUERY_ROOT};
 #[derive(Clone, Copy)]
 pub struct Schema<'s, 't> {
     pub roots: &'s [SyntaxNode<'t>],
-}
-
-/// A field, an argument, an input field, a value or a directive, where it is defined, and the index of the root that
-/// this is below.
-#[derive(Clone, Copy)]
-pub struct Member<'t> {
-    pub document: usize,
-    pub node: SyntaxNode<'t>,
 }
 
 pub(crate) const TYPES: [SyntaxKind; 10] = [
@@ -58,8 +51,8 @@ fn name_node<'t>(node: SyntaxNode<'t>) -> Option<SyntaxNode<'t>>
     child_of(node, &NAMES)
 }
 
-/// The name in a node; empty where there is none.
-pub(crate) fn name_in<'t>(node: SyntaxNode<'t>) -> &'t str
+/// The name in a node, such as a member; empty where there is none.
+pub fn name_in<'t>(node: SyntaxNode<'t>) -> &'t str
     ensures { result.now ≡ name_at (node_place node.entry) }
 {
     match name_node(node) {
@@ -68,47 +61,33 @@ pub(crate) fn name_in<'t>(node: SyntaxNode<'t>) -> &'t str
     }
 }
 
-impl<'t> Member<'t> {
-    /// Whether it is the same as another one, of the same documents.
-    pub(crate) fn is_same(self, other: Member<'_>) -> bool {
-        self.document == other.document
-            && self.node.text_range().start() == other.node.text_range().start()
-    }
-
-    /// Its name; empty where that is missing.
-    pub fn name(self) -> &'t str
-        ensures { result.now ≡ name_at (node_place self.entry.node) }
-    {
-        name_in(self.node)
-    }
-
-    /// The byte offset at which its name begins, or where that is missing its definition.
-    pub fn offset(self) -> usize
-        ensures { result ≡ name_start (node_place self.entry.node) }
-    {
-        match name_node(self.node) {
-            Some(name) => name.text_range().start(),
-            None => self.node.text_range().start(),
-        }
-    }
-
-    /// The arguments of a field or a directive, in their order. It fails only where memory is refused.
-    pub fn arguments(self, alloc: Global) -> Result<Vec<Member<'t>>, AllocError>
-        ensures { IfOk result (λ found. map located found.items
-            ≡ located_in self.entry.document (members_in (node_place self.entry.node))) }
-    {
-        let mut found = Vec::new(alloc);
-        push_members(self, &mut found)?;
-        Ok(found)
-    }
-
-    /// The name of its type, whatever lists it is in; empty for a value.
-    pub(crate) fn type_name(self) -> &'t str {
-        type_in(self.node)
+/// The byte offset at which the name in a definition begins, or where that is missing the definition.
+pub fn name_offset(definition: SyntaxNode<'_>) -> usize
+    ensures { result ≡ name_start (node_place definition.entry) }
+{
+    match name_node(definition) {
+        Some(name) => name.text_range().start(),
+        None => definition.text_range().start(),
     }
 }
 
-/// The name of the type that a node gives; empty where it gives none.
+/// Whether two members of the same documents are the same.
+pub(crate) fn is_same(one: Site<'_>, other: Site<'_>) -> bool {
+    one.document == other.document
+        && one.node.text_range().start() == other.node.text_range().start()
+}
+
+/// The arguments of a field or a directive, in their order. It fails only where memory is refused.
+pub fn arguments_of<'t>(alloc: Global, definition: Site<'t>) -> Result<Vec<Site<'t>>, AllocError>
+    ensures { IfOk result (λ found. map as_located found.items
+        ≡ map (located definition.entry.document) (members_in (node_place definition.entry.node))) }
+{
+    let mut found = Vec::new(alloc);
+    push_members(definition, &mut found)?;
+    Ok(found)
+}
+
+/// The name of the type that a node gives, whatever lists it is in; empty where it gives none.
 pub(crate) fn type_in<'t>(node: SyntaxNode<'t>) -> &'t str {
     for part in node.children() {
         if is_one_of(
@@ -140,14 +119,14 @@ fn named_type<'t>(node: SyntaxNode<'t>) -> &'t str {
 fn push_block<'t>(
     document: usize,
     block: SyntaxNode<'t>,
-    found: &mut Vec<Member<'t>>,
+    found: &mut Vec<Site<'t>>,
 ) -> Result<(), AllocError>
-    ensures { OnOk result (map located found.new.items
-        ≡ map located found.old.items ++ located_in document (members_of_block (node_place block.entry))) }
+    ensures { OnOk result (map as_located found.new.items
+        ≡ map as_located found.old.items ++ map (located document) (members_of_block (node_place block.entry))) }
 {
     for node in block.children() {
         if is_one_of(node.kind(), &MEMBERS) {
-            found.push(Member { document, node })?;
+            found.push(Site { document, node })?;
         }
     }
     Ok(())
@@ -155,12 +134,12 @@ fn push_block<'t>(
 
 /// Adds the members of a definition: the fields or values of a type, the arguments of a field or of a directive.
 pub(crate) fn push_members<'t>(
-    definition: Member<'t>,
-    found: &mut Vec<Member<'t>>,
+    definition: Site<'t>,
+    found: &mut Vec<Site<'t>>,
 ) -> Result<(), AllocError>
-    ensures { OnOk result (map located found.new.items
-        ≡ map located found.old.items
-        ++ located_in definition.entry.document (members_in (node_place definition.entry.node))) }
+    ensures { OnOk result (map as_located found.new.items
+        ≡ map as_located found.old.items
+        ++ map (located definition.entry.document) (members_in (node_place definition.entry.node))) }
 {
     for block in definition.node.children() {
         push_block(definition.document, block, found)?;
@@ -174,11 +153,11 @@ fn push_named<'t>(
     root: SyntaxNode<'t>,
     kinds: &[SyntaxKind],
     name: &str,
-    found: &mut Vec<Member<'t>>,
+    found: &mut Vec<Site<'t>>,
 ) -> Result<(), AllocError> {
     for node in root.children() {
         if is_one_of(node.kind(), kinds) && name_in(node) == name {
-            found.push(Member { document, node })?;
+            found.push(Site { document, node })?;
         }
     }
     Ok(())
@@ -215,7 +194,7 @@ impl<'t> Schema<'_, 't> {
         alloc: Global,
         kinds: &[SyntaxKind],
         name: &str,
-    ) -> Result<Vec<Member<'t>>, AllocError> {
+    ) -> Result<Vec<Site<'t>>, AllocError> {
         let mut found = Vec::new(alloc);
         for (document, root) in self.roots.iter().enumerate() {
             push_named(document, *root, kinds, name, &mut found)?;
@@ -228,7 +207,7 @@ impl<'t> Schema<'_, 't> {
         self,
         alloc: Global,
         name: &str,
-        found: &mut Vec<Member<'t>>,
+        found: &mut Vec<Site<'t>>,
     ) -> Result<(), AllocError> {
         for definition in &self.definitions(alloc, &TYPES, name)? {
             push_members(*definition, found)?;
@@ -241,7 +220,7 @@ impl<'t> Schema<'_, 't> {
         self,
         alloc: Global,
         name: &str,
-    ) -> Result<Vec<Member<'t>>, AllocError> {
+    ) -> Result<Vec<Site<'t>>, AllocError> {
         let mut found = Vec::new(alloc);
         self.push_members_of(alloc, name, &mut found)?;
         Ok(found)
@@ -252,7 +231,7 @@ impl<'t> Schema<'_, 't> {
         self,
         alloc: Global,
         name: &str,
-    ) -> Result<Vec<Member<'t>>, AllocError> {
+    ) -> Result<Vec<Site<'t>>, AllocError> {
         let mut found = self.members_of_type(alloc, name)?;
         self.push_members_of(alloc, EACH_TYPE, &mut found)?;
         if name == self.root_type("query") {
@@ -266,7 +245,7 @@ impl<'t> Schema<'_, 't> {
         self,
         alloc: Global,
         name: &str,
-    ) -> Result<Option<Member<'t>>, AllocError> {
+    ) -> Result<Option<Site<'t>>, AllocError> {
         let found = self.definitions(alloc, &DIRECTIVES, name)?;
         Ok(found.as_slice().first().copied())
     }

@@ -14,7 +14,7 @@ mod places;
 mod table;
 mod usage;
 
-pub use definitions::{Member, Schema};
+pub use definitions::{Schema, arguments_of, name_in, name_offset};
 pub use locations::directives_at;
 pub use places::{Call, call_at, member_at, members_at};
 pub use usage::{Uses, member_named};

@@ -1,44 +1,31 @@
 // The directives that may be at a place.
-ghost use Rattle.std.specs.Prelude.{◌≡◌, ◌++◌, IfOk, OnOk, map, option_map};
+ghost use Rattle.std.specs.Prelude.{◌≡◌, IfOk, map, option_map};
+ghost use Rattle.std.specs.List.{filter};
 ghost use Rattle.apollo_tree.specs.References.{node_place, token_place};
-ghost use Rattle.schema_members.specs.Locations.{directive_owner, directives_at, directives_in, location_at};
-ghost use Rattle.schema_members.specs.Members.{in_documents, located, located_in};
+ghost use Rattle.validation_names.specs.Sites.{all_definitions, as_located};
+ghost use Rattle.schema_members.specs.Locations.{directive_owner, directives_at, is_directive_for, location_at};
 
-use crate::definitions::{Member, Schema};
+use crate::definitions::Schema;
 use apollo_tree::{SyntaxKind, SyntaxNode, SyntaxToken};
 use std::alloc::{AllocError, Global};
-use type_system::{DirectiveLocation, location_of, may_be_at};
-
-// Adds the directives that a document defines and that may be at a location.
-fn push_directives<'t>(
-    document: usize,
-    root: SyntaxNode<'t>,
-    location: DirectiveLocation,
-    found: &mut Vec<Member<'t>>,
-) -> Result<(), AllocError>
-    ensures { OnOk result (map located found.new.items
-        ≡ map located found.old.items ++ located_in document (directives_in location (node_place root.entry))) }
-{
-    for node in root.children() {
-        if node.kind().is(SyntaxKind::DIRECTIVE_DEFINITION) && may_be_at(&node, location) {
-            found.push(Member { document, node })?;
-        }
-    }
-    Ok(())
-}
+use type_system::{DirectiveLocation, all_definitions, location_of, may_be_at};
+use validation_names::Site;
 
 // The directives of all documents that may be at a location.
 fn all_directives<'t>(
     alloc: Global,
     schema: Schema<'_, 't>,
     location: DirectiveLocation,
-) -> Result<Vec<Member<'t>>, AllocError>
-    ensures { IfOk result (λ found. map located found.items
-        ≡ in_documents (directives_in location) 0 schema.entry.roots.now) }
+) -> Result<Vec<Site<'t>>, AllocError>
+    ensures { IfOk result (λ found. map as_located found.items
+        ≡ filter (is_directive_for location) (all_definitions (map node_place schema.entry.roots.now))) }
 {
     let mut found = Vec::new(alloc);
-    for (document, root) in schema.roots.iter().enumerate() {
-        push_directives(document, *root, location, &mut found)?;
+    for definition in &all_definitions(alloc, schema.roots)? {
+        let node = &definition.node;
+        if node.kind().is(SyntaxKind::DIRECTIVE_DEFINITION) && may_be_at(node, location) {
+            found.push(*definition)?;
+        }
     }
     Ok(found)
 }
@@ -68,9 +55,9 @@ pub fn directives_at<'t>(
     alloc: Global,
     schema: Schema<'_, 't>,
     leaf: SyntaxToken<'_>,
-) -> Result<Vec<Member<'t>>, AllocError>
+) -> Result<Vec<Site<'t>>, AllocError>
     ensures { IfOk result (λ found.
-        map located found.items ≡ directives_at schema.entry.roots.now (token_place leaf.entry)) }
+        map as_located found.items ≡ directives_at (map node_place schema.entry.roots.now) (token_place leaf.entry)) }
 {
     match location_at(leaf) {
         Some(location) => all_directives(alloc, schema, location),

@@ -5,17 +5,18 @@ ghost use Rattle.apollo_tree.specs.References.{node_place, token_place};
 ghost use Rattle.schema_members.specs.Locations.{operation_word};
 ghost use Rattle.schema_members.specs.Members.{members_in, name_at};
 
-use crate::definitions::{Member, Schema, name_in, type_in};
+use crate::definitions::{Schema, arguments_of, name_in, type_in};
 use apollo_cst_core::child_of;
 use apollo_tree::{SyntaxKind, SyntaxNode, SyntaxToken};
 use std::alloc::{AllocError, Global};
+use validation_names::Site;
 
 // The member that has a name.
-fn named<'t>(members: &[Member<'t>], name: &str) -> Option<Member<'t>>
+fn named<'t>(members: &[Site<'t>], name: &str) -> Option<Site<'t>>
     ensures { IfSome result (λ member. name_at (node_place member.node) ≡ name.now) }
 {
     for member in members {
-        if member.name() == name {
+        if name_in(member.node) == name {
             return Some(*member);
         }
     }
@@ -78,7 +79,7 @@ struct Search<'s, 't> {
 
 impl<'t> Search<'_, 't> {
     // The members of a type, as a path goes on: in a selection set the fields that each type has too.
-    fn members_of(self, name: &str, step: SyntaxKind) -> Result<Vec<Member<'t>>, AllocError> {
+    fn members_of(self, name: &str, step: SyntaxKind) -> Result<Vec<Site<'t>>, AllocError> {
         if step.is(SyntaxKind::FIELD) {
             self.schema.fields_of_type(self.alloc, name)
         } else {
@@ -87,19 +88,19 @@ impl<'t> Search<'_, 't> {
     }
 
     // The members of the type that is reached from another by the names on a path, the last of them first.
-    fn members_below(self, start: &str, path: &Path<'_>) -> Result<Vec<Member<'t>>, AllocError> {
+    fn members_below(self, start: &str, path: &Path<'_>) -> Result<Vec<Site<'t>>, AllocError> {
         let mut members = self.members_of(start, path.step)?;
         for node in path.nodes.iter().rev() {
             let Some(member) = named(members.as_slice(), name_in(*node)) else {
                 return Ok(Vec::new(self.alloc));
             };
-            members = self.members_of(member.type_name(), path.step)?;
+            members = self.members_of(type_in(member.node), path.step)?;
         }
         Ok(members)
     }
 
     // The fields that may be in a selection set.
-    fn selected(self, set: SyntaxNode<'_>) -> Result<Vec<Member<'t>>, AllocError> {
+    fn selected(self, set: SyntaxNode<'_>) -> Result<Vec<Site<'t>>, AllocError> {
         let path = path_from(self.alloc, set, SyntaxKind::FIELD)?;
         let Some(end) = path.end else {
             return Ok(Vec::new(self.alloc));
@@ -112,7 +113,7 @@ impl<'t> Search<'_, 't> {
     }
 
     // The definition of a field of a selection set.
-    fn field(self, field: SyntaxNode<'_>) -> Result<Option<Member<'t>>, AllocError> {
+    fn field(self, field: SyntaxNode<'_>) -> Result<Option<Site<'t>>, AllocError> {
         let Some(set) = field.parent() else {
             return Ok(None);
         };
@@ -121,7 +122,7 @@ impl<'t> Search<'_, 't> {
     }
 
     // The definition of the field or the directive that some arguments are for.
-    fn owner(self, arguments: SyntaxNode<'_>) -> Result<Option<Member<'t>>, AllocError> {
+    fn owner(self, arguments: SyntaxNode<'_>) -> Result<Option<Site<'t>>, AllocError> {
         match arguments.parent() {
             Some(owner) if owner.kind().is(SyntaxKind::FIELD) => self.field(owner),
             Some(owner) => self.schema.directive(self.alloc, name_in(owner)),
@@ -130,18 +131,18 @@ impl<'t> Search<'_, 't> {
     }
 
     // The arguments that may be where an argument is.
-    fn arguments(self, argument: SyntaxNode<'_>) -> Result<Vec<Member<'t>>, AllocError> {
+    fn arguments(self, argument: SyntaxNode<'_>) -> Result<Vec<Site<'t>>, AllocError> {
         let Some(list) = argument.parent() else {
             return Ok(Vec::new(self.alloc));
         };
         match self.owner(list)? {
-            Some(owner) => owner.arguments(self.alloc),
+            Some(owner) => arguments_of(self.alloc, owner),
             None => Ok(Vec::new(self.alloc)),
         }
     }
 
     // The members of the type of a value: the values of an enum, or the fields of an input object.
-    fn members_of_value(self, value: SyntaxNode<'_>) -> Result<Vec<Member<'t>>, AllocError> {
+    fn members_of_value(self, value: SyntaxNode<'_>) -> Result<Vec<Site<'t>>, AllocError> {
         let path = path_from(self.alloc, value, SyntaxKind::OBJECT_FIELD)?;
         let Some(end) = path.end else {
             return Ok(Vec::new(self.alloc));
@@ -151,13 +152,13 @@ impl<'t> Search<'_, 't> {
         }
         let arguments = self.arguments(end)?;
         match named(arguments.as_slice(), name_in(end)) {
-            Some(argument) => self.members_below(argument.type_name(), &path),
+            Some(argument) => self.members_below(type_in(argument.node), &path),
             None => Ok(Vec::new(self.alloc)),
         }
     }
 
     // The members that may be what a node names.
-    fn members_for(self, node: SyntaxNode<'_>) -> Result<Vec<Member<'t>>, AllocError> {
+    fn members_for(self, node: SyntaxNode<'_>) -> Result<Vec<Site<'t>>, AllocError> {
         let Some(parent) = node.parent() else {
             return Ok(Vec::new(self.alloc));
         };
@@ -194,7 +195,7 @@ pub fn members_at<'t>(
     alloc: Global,
     schema: Schema<'_, 't>,
     leaf: SyntaxToken<'_>,
-) -> Result<Vec<Member<'t>>, AllocError> {
+) -> Result<Vec<Site<'t>>, AllocError> {
     let Some(name) = leaf.parent() else {
         return Ok(Vec::new(alloc));
     };
@@ -209,7 +210,7 @@ pub fn member_at<'t>(
     alloc: Global,
     schema: Schema<'_, 't>,
     leaf: SyntaxToken<'_>,
-) -> Result<Option<Member<'t>>, AllocError>
+) -> Result<Option<Site<'t>>, AllocError>
     ensures { IfOk result (λ found. IfSome found
         (λ member. name_at (node_place member.node) ≡ text_at (token_place leaf.entry))) }
 {
@@ -221,7 +222,7 @@ pub fn member_at<'t>(
 #[derive(Clone, Copy)]
 pub struct Call<'t> {
     /// Its definition.
-    pub definition: Member<'t>,
+    pub definition: Site<'t>,
     /// The index of the argument at the place: the one whose value is there, or else the first that isn't given yet; or
     /// how many there are.
     pub active: usize,
@@ -248,7 +249,7 @@ fn gives(arguments: SyntaxNode<'_>, name: &str) -> bool {
 }
 
 // The index of the parameter that a leaf in some arguments is about.
-fn active_in(parameters: &[Member<'_>], arguments: SyntaxNode<'_>, leaf: SyntaxToken<'_>) -> usize
+fn active_in(parameters: &[Site<'_>], arguments: SyntaxNode<'_>, leaf: SyntaxToken<'_>) -> usize
     ensures { result ≤ length parameters.now }
 {
     let value_of = match around(leaf, SyntaxKind::ARGUMENT) {
@@ -258,7 +259,7 @@ fn active_in(parameters: &[Member<'_>], arguments: SyntaxNode<'_>, leaf: SyntaxT
         _ => "",
     };
     for (index, parameter) in parameters.iter().enumerate() {
-        let name = parameter.name();
+        let name = name_in(parameter.node);
         if name == value_of || (value_of.is_empty() && !gives(arguments, name)) {
             return index;
         }
@@ -282,7 +283,7 @@ pub fn call_at<'t>(
     let Some(definition) = Search { alloc, schema }.owner(arguments)? else {
         return Ok(None);
     };
-    let parameters = definition.arguments(alloc)?;
+    let parameters = arguments_of(alloc, definition)?;
     Ok(Some(Call {
         definition,
         active: active_in(parameters.as_slice(), arguments, leaf),

@@ -1,15 +1,16 @@
 // The definitions of some documents by their names, to look up many.
-use crate::definitions::{DIRECTIVES, MEMBERS, Member, Schema, TYPES, name_in};
+use crate::definitions::{DIRECTIVES, MEMBERS, Schema, TYPES, name_in};
 use apollo_cst_core::is_one_of;
 use apollo_tree::{SyntaxKind, SyntaxNode};
 use std::alloc::{AllocError, Global};
 use type_system::{EACH_TYPE, QUERY_ROOT};
+use validation_names::Site;
 
 // A definition or an extension, with its name.
 #[derive(Clone, Copy)]
 struct Named<'t> {
     name: &'t str,
-    definition: Member<'t>,
+    definition: Site<'t>,
 }
 
 // A member with its name, its document and the byte offset at which the definition begins that has it.
@@ -18,7 +19,7 @@ struct Owned<'t> {
     document: usize,
     owner: usize,
     name: &'t str,
-    member: Member<'t>,
+    member: Site<'t>,
 }
 
 /// The types and the directives of a schema by their names, those of one name in the order of the documents; and the
@@ -43,7 +44,7 @@ fn push_definitions<'t>(
         let kind = node.kind();
         let name = name_in(node);
         if (is_one_of(kind, &TYPES) || is_one_of(kind, &DIRECTIVES)) && !name.is_empty() {
-            let definition = Member { document, node };
+            let definition = Site { document, node };
             definitions.push(Named { name, definition })?;
         }
     }
@@ -65,11 +66,11 @@ fn push_members<'t>(
         if is_one_of(node.kind(), &MEMBERS)
             && let Some(owner) = owner_of(node)
         {
-            let member = Member { document, node };
+            let member = Site { document, node };
             members.push(Owned {
                 document,
                 owner: owner.text_range().start(),
-                name: member.name(),
+                name: name_in(member.node),
                 member,
             })?;
         }
@@ -138,7 +139,7 @@ impl<'t> Table<'t> {
 
     /// The member of a definition that has a name: the field or the value of a type, the argument of a field or a
     /// directive.
-    pub(crate) fn member_in(&self, definition: Member<'_>, name: &str) -> Option<Member<'t>> {
+    pub(crate) fn member_in(&self, definition: Site<'_>, name: &str) -> Option<Site<'t>> {
         let document = definition.document;
         let owner = definition.node.text_range().start();
         let all = self.members.as_slice();
@@ -161,7 +162,7 @@ impl<'t> Table<'t> {
     }
 
     /// The first definition of a directive.
-    pub(crate) fn directive(&self, name: &str) -> Option<Member<'t>> {
+    pub(crate) fn directive(&self, name: &str) -> Option<Site<'t>> {
         for it in self.named(name) {
             if is_one_of(it.definition.node.kind(), &DIRECTIVES) {
                 return Some(it.definition);
@@ -172,7 +173,7 @@ impl<'t> Table<'t> {
 
     /// The member of a type that has a name: an input field or a value, or a field that isn't one of the standard's for
     /// each type.
-    pub(crate) fn member(&self, type_name: &str, name: &str) -> Option<Member<'t>> {
+    pub(crate) fn member(&self, type_name: &str, name: &str) -> Option<Site<'t>> {
         for it in self.named(type_name) {
             if is_one_of(it.definition.node.kind(), &TYPES)
                 && let Some(member) = self.member_in(it.definition, name)
@@ -184,7 +185,7 @@ impl<'t> Table<'t> {
     }
 
     /// The field that may be selected from a type and has a name.
-    pub(crate) fn field(&self, type_name: &str, name: &str) -> Option<Member<'t>> {
+    pub(crate) fn field(&self, type_name: &str, name: &str) -> Option<Site<'t>> {
         if type_name.is_empty() {
             return None;
         }

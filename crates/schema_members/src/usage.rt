@@ -5,17 +5,19 @@ ghost use Rattle.apollo_tree.specs.Above.{at_or_above};
 ghost use Rattle.apollo_tree.specs.Order.{text_at};
 ghost use Rattle.apollo_tree.specs.References.{node_place, token_place};
 ghost use Rattle.apollo_cst_core.specs.Kinds.{is_of_one};
-ghost use Rattle.schema_members.specs.Members.{defined_in, has_interface, has_interface_named, is_shared_in, located};
+ghost use Rattle.validation_names.specs.Sites.{as_located, located};
+ghost use Rattle.schema_members.specs.Members.{defined_in, has_interface, has_interface_named, is_shared_in};
 ghost use Rattle.schema_members.specs.Members.{name_at};
 ghost use Rattle.schema_members.specs.Uses.{IsDefinedOrNamed, IsIdentifier, defined_by};
 
-use crate::definitions::{Member, Schema, TYPES, name_in, type_in};
+use crate::definitions::{Schema, TYPES, is_same, name_in, type_in};
 use crate::places::{member_at, operation_word};
 use crate::table::Table;
 use apollo_cst_core::{child, is_one_of};
 use apollo_cst_executable::Name;
 use apollo_tree::{SyntaxKind, SyntaxNode, SyntaxToken};
 use std::alloc::{AllocError, Global};
+use validation_names::Site;
 
 // What the names in a part of a document mean, up to where the part ends: the name of the type that fields are selected
 // from, the field or the directive that arguments are for, and the name of the type of values.
@@ -23,7 +25,7 @@ use std::alloc::{AllocError, Global};
 struct Scope<'t> {
     end: usize,
     selects: &'t str,
-    owner: Option<Member<'t>>,
+    owner: Option<Site<'t>>,
     value: &'t str,
 }
 
@@ -65,24 +67,24 @@ fn defined_in<'t>(node: SyntaxNode<'t>) -> Option<SyntaxNode<'t>>
 }
 
 // The member that a node of a document defines by its name.
-fn defined<'t>(document: usize, node: SyntaxNode<'t>) -> Option<Member<'t>>
-    ensures { option_map located result ≡ option_map (λ place. (document, place)) (defined_in (node_place node.entry)) }
+fn defined<'t>(document: usize, node: SyntaxNode<'t>) -> Option<Site<'t>>
+    ensures { option_map as_located result ≡ option_map (located document) (defined_in (node_place node.entry)) }
 {
     let node = defined_in(node)?;
-    Some(Member { document, node })
+    Some(Site { document, node })
 }
 
 // The member that a name in a document defines.
-fn defined_by<'t>(document: usize, leaf: SyntaxToken<'t>) -> Option<Member<'t>>
-    ensures { option_map located result ≡ defined_by document (token_place leaf.entry) }
+fn defined_by<'t>(document: usize, leaf: SyntaxToken<'t>) -> Option<Site<'t>>
+    ensures { option_map as_located result ≡ defined_by document (token_place leaf.entry) }
 {
     defined(document, leaf.parent()?.parent()?)
 }
 
 // The name of a member's type; empty where there is no member.
-fn type_of<'t>(member: Option<Member<'t>>) -> &'t str {
+fn type_of<'t>(member: Option<Site<'t>>) -> &'t str {
     match member {
-        Some(member) => member.type_name(),
+        Some(member) => type_in(member.node),
         None => "",
     }
 }
@@ -156,9 +158,9 @@ pub fn member_named<'t>(
     schema: Schema<'_, 't>,
     document: usize,
     leaf: SyntaxToken<'t>,
-) -> Result<Option<Member<'t>>, AllocError>
+) -> Result<Option<Site<'t>>, AllocError>
     ensures { IfOk result (λ found. IsDefinedOrNamed (defined_by document (token_place leaf.entry))
-        (text_at (token_place leaf.entry)) (option_map located found)) }
+        (text_at (token_place leaf.entry)) (option_map as_located found)) }
 {
     match defined_by(document, leaf) {
         Some(member) => Ok(Some(member)),
@@ -218,7 +220,7 @@ fn type_around<'t>(node: SyntaxNode<'t>) -> Option<SyntaxNode<'t>>
 /// A search for the names that mean one member.
 #[derive(Drop)]
 pub struct Uses<'s, 't> {
-    pub member: Member<'t>,
+    pub member: Site<'t>,
     /// Its name.
     pub name: &'t str,
     /// The documents.
@@ -231,7 +233,7 @@ impl<'s, 't> Uses<'s, 't> {
     pub fn new(
         alloc: Global,
         schema: Schema<'s, 't>,
-        member: Member<'t>,
+        member: Site<'t>,
     ) -> Result<Uses<'s, 't>, AllocError>
         ensures member { IfOk result (λ uses. uses.member ≡ member.entry) }
         ensures name { IfOk result (λ uses. uses.name.now ≡ name_at (node_place member.entry.node)) }
@@ -240,7 +242,7 @@ impl<'s, 't> Uses<'s, 't> {
         let table = Table::new(alloc, schema)?;
         Ok(Uses {
             member,
-            name: member.name(),
+            name: name_in(member.node),
             schema,
             table,
         })
@@ -258,7 +260,7 @@ impl<'s, 't> Uses<'s, 't> {
     }
 
     // The member that a node names in a scope.
-    fn named(&self, scope: Scope<'t>, node: SyntaxNode<'t>) -> Option<Member<'t>> {
+    fn named(&self, scope: Scope<'t>, node: SyntaxNode<'t>) -> Option<Site<'t>> {
         let kind = node.kind();
         if kind.is(SyntaxKind::FIELD) {
             self.table.field(scope.selects, name_in(node))
@@ -276,7 +278,7 @@ impl<'s, 't> Uses<'s, 't> {
         &self,
         scope: Scope<'t>,
         node: SyntaxNode<'t>,
-        named: Option<Member<'t>>,
+        named: Option<Site<'t>>,
     ) -> Scope<'t> {
         let kind = node.kind();
         let mut inner = scope;
@@ -305,14 +307,14 @@ impl<'s, 't> Uses<'s, 't> {
         &self,
         document: usize,
         node: SyntaxNode<'t>,
-        named: Option<Member<'t>>,
+        named: Option<Site<'t>>,
         with_definition: bool,
     ) -> bool {
         if let Some(member) = named {
-            return member.is_same(self.member);
+            return is_same(member, self.member);
         }
         match defined(document, node) {
-            Some(member) => with_definition && member.is_same(self.member),
+            Some(member) => with_definition && is_same(member, self.member),
             None => false,
         }
     }

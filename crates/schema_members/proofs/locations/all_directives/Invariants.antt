@@ -1,9 +1,12 @@
 use Rattle.std.proofs.Common.{◌≡◌, ◌++◌, map, drop}
+use Rattle.std.specs.List.{filter}
+use Rattle.apollo_tree.specs.References.{node_place}
+use Rattle.validation_names.specs.Sites.{all_definitions, as_located}
 use Rattle.schema_members.proofs.locations.all_directives.Given as goal
-use Rattle.schema_members.specs.Locations.{directives_in}
-use Rattle.schema_members.specs.Members.{in_documents, located}
+use Rattle.schema_members.specs.Locations.{is_directive_for}
 
-abbrev pub invariant-loop-document : goal.invariant-loop-document
-invariant-loop-document l =
-    map located l.found.items ++ in_documents (directives_in l.location) l.document (drop l.document l.schema.roots.now)
-    ≡ in_documents (directives_in l.location) 0 l.schema.roots.now
+abbrev pub invariant-loop-definition : goal.invariant-loop-definition
+invariant-loop-definition l =
+    map as_located l.found.items
+    ++ filter (is_directive_for l.location) (map as_located (drop l.definition-index l.definition-items))
+    ≡ filter (is_directive_for l.location) (all_definitions (map node_place l.schema.roots.now))
