@@ -96,6 +96,7 @@ tests() {
     tests/validation
     tests/variables
     tests/queries
+    tests/slips/run --check 100
     release/bindings/run pages
     tests/editors/run
     tests/readme --check
