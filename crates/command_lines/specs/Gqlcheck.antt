@@ -1,4 +1,5 @@
--- The words of `gqlcheck`: options and files in any order, each option at most once; or a page of the program.
+-- The words of `gqlcheck`: options and files in any order, each option at most once but for `--schema` and
+-- `--fragments`; or a page of the program.
 use Rattle.std.specs.Prelude.{ℕ, ◌-◌, ◌^◌, List, bytes_eq, codes, map, if◌then◌else◌, Option, unwrap_or}
 use Rattle.cost_figures.specs.declared.figures.Figures.{Figures}
 use Rattle.command_lines.specs.FilePrograms as files

@@ -1,6 +1,6 @@
--- The words of a command line: options, each at most once, and files or standard input where a program takes some. A
--- program's options are a table.
-use Rattle.std.specs.List.{find}
+-- The words of a command line: options, and files or standard input where a program takes some. A program's options are
+-- a table.
+use Rattle.std.specs.List.{filter_map, find}
 use Rattle.std.specs.Prelude.{ℕ, Bool, false, true, ◌==◌, ◌&&◌, ◌||◌, not, List, [], ◌∷◌, ◌++◌, codes, bytes_eq}
 use Rattle.std.specs.Prelude.{if◌then◌else◌, Option, Some, None, option_and_then, option_map, unwrap_or, is_some}
 use Rattle.apollo_lexer.specs.Limits.{default_limits}
@@ -11,6 +11,7 @@ use Rattle.command_lines.specs.declared.options.Takes.{Takes}
 use Rattle.command_lines.specs.declared.options.Takes.TheVariants.{Ignored, Nothing, Mode, Json}
 use Rattle.command_lines.specs.declared.options.Takes.TheVariants.{Number as TakesNumber, LineEnding as TakesLineEnding}
 use Rattle.command_lines.specs.declared.options.Takes.TheVariants.{Format as TakesFormat, Text as TakesText}
+use Rattle.command_lines.specs.declared.options.Takes.TheVariants.{Texts as TakesTexts}
 use Rattle.command_lines.specs.declared.options.Value.{Value}
 use Rattle.command_lines.specs.declared.options.Value.TheVariants.{Flag, Number as NumberValue, Text as TextValue}
 
@@ -51,6 +52,7 @@ value_of TakesNumber word = option_map NumberValue (number_of word)
 value_of TakesLineEnding word = if is_line_ending word then Some (TextValue word) else None
 value_of TakesFormat word = if is_format word then Some (TextValue word) else None
 value_of TakesText word = Some (TextValue word)
+value_of TakesTexts word = Some (TextValue word)
 value_of takes word = None
 
 -- ---- words
@@ -69,12 +71,17 @@ nothing_given = record { settings = []; input = false; files = [] }
 abbrev pub setting : List ℕ → Given → Option (Value (List ℕ))
 setting key given = option_map (λ set. set.1) (find (λ set. bytes_eq set.0 key) given.settings)
 
--- What an option sets is set to a value, once. An option that is ignored sets nothing.
+-- whether an option may be set more than once
+abbrev pub may_repeat : Takes → Bool
+may_repeat TakesTexts = true
+may_repeat takes = false
+
+-- What an option sets is set to a value, once unless it may repeat. An option that is ignored sets nothing.
 abbrev pub set_to : Row → Option (Value (List ℕ)) → Given → Option Given
 set_to row None given = None
 set_to (name, short, Ignored) (Some value) given = Some given
 set_to row (Some value) given =
-    if is_some (setting (key_of row) given) then None else Some
+    if not (may_repeat row.2) && is_some (setting (key_of row) given) then None else Some
     (record given { settings = given.settings ++ (key_of row, value) ∷ [] })
 
 -- an option is a dash with more; a dash alone is standard input
@@ -148,6 +155,13 @@ number key given = option_and_then as_number (setting key given)
 
 abbrev pub text : List ℕ → Given → Option (List ℕ)
 text key given = option_and_then as_text (setting key given)
+
+-- the texts that a key is set to, in their order
+abbrev pub text_of : List ℕ → (List ℕ × Value (List ℕ)) → Option (List ℕ)
+text_of key set = if bytes_eq set.0 key then as_text set.1 else None
+
+abbrev pub texts_set : List ℕ → Given → List (List ℕ)
+texts_set key given = filter_map (text_of key) given.settings
 
 -- the parser's limits
 abbrev pub limits_of : Given → Limits

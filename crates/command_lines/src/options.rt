@@ -4,8 +4,8 @@ ghost use Rattle.std.specs.List.{Contains};
 ghost use Rattle.command_lines.specs.FilePrograms.{request_of};
 ghost use Rattle.command_lines.specs.Misuse.{IsAbout, IsAmong};
 ghost use Rattle.command_lines.specs.Options.{alone, awaiting, given_from, is_option, with_file, with_option};
-ghost use Rattle.command_lines.specs.Options.{with_word, is_set, key_of, limits_of, nothing_given, number, row_called};
-ghost use Rattle.command_lines.specs.Options.{set_to, setting, text, value_of};
+ghost use Rattle.command_lines.specs.Options.{with_word, is_set, key_of, limits_of, may_repeat, nothing_given, number};
+ghost use Rattle.command_lines.specs.Options.{row_called, set_to, setting, text, texts_set, value_of};
 ghost use Rattle.command_lines.specs.Reading.{IsTaken, as_given, as_row, as_rows, as_value};
 ghost use Rattle.command_lines.specs.Words.{IsRead, request_map, texts};
 
@@ -14,7 +14,7 @@ use crate::misuse::{Mistake, WordsError, or_misuse};
 use crate::numbers::number_of;
 use crate::own_value::name_and_value;
 use apollo_lexer::Limits;
-use std::alloc::Allocator;
+use std::alloc::{AllocError, Allocator};
 
 /// What an option takes.
 #[derive(Clone, Copy)]
@@ -35,9 +35,11 @@ pub enum Takes {
     Json,
     /// Any word.
     Text,
+    /// Any word, each time that the option is given.
+    Texts,
 }
 
-/// An option: its name, its short name or nothing, and what it takes. What it sets is set once.
+/// An option: its name, its short name or nothing, and what it takes. What it sets is set once, unless it takes texts.
 pub type Row = (&'static str, &'static str, Takes);
 
 // The limits of the parser, which each program takes.
@@ -100,7 +102,7 @@ fn alone<'a>(row: Row) -> Option<Value<&'a str>>
         Takes::Ignored | Takes::Nothing => Some(Value::Flag),
         Takes::Mode => Some(Value::Text(row.0)),
         Takes::Json => Some(Value::Text("json")),
-        Takes::Number | Takes::LineEnding | Takes::Format | Takes::Text => None,
+        Takes::Number | Takes::LineEnding | Takes::Format | Takes::Text | Takes::Texts => None,
     }
 }
 
@@ -145,7 +147,7 @@ impl Takes {
                 "text" | "json" | "github" | "sarif" => Some(Value::Text(word)),
                 _ => None,
             },
-            Takes::Text => Some(Value::Text(word)),
+            Takes::Text | Takes::Texts => Some(Value::Text(word)),
             Takes::Ignored | Takes::Nothing | Takes::Mode | Takes::Json => None,
         }
     }
@@ -156,10 +158,20 @@ impl Takes {
             Takes::Number => Mistake::NoNumber,
             Takes::LineEnding => Mistake::NoLineEnding,
             Takes::Format => Mistake::NoFormat,
-            Takes::Ignored | Takes::Nothing | Takes::Mode | Takes::Json | Takes::Text => {
-                Mistake::Unknown
-            }
+            Takes::Ignored
+            | Takes::Nothing
+            | Takes::Mode
+            | Takes::Json
+            | Takes::Text
+            | Takes::Texts => Mistake::Unknown,
         }
+    }
+
+    // Whether an option may be set more than once.
+    fn may_repeat(self) -> bool
+        ensures { result ≡ may_repeat self }
+    {
+        matches!(self, Takes::Texts)
     }
 }
 
@@ -193,7 +205,7 @@ impl<'a, A: Allocator> Plan<'a, A> {
             return Ok(());
         }
         let key = key_of(row);
-        if self.setting(key).is_some() {
+        if !row.2.may_repeat() && self.setting(key).is_some() {
             return Err(WordsError::of(word, Mistake::Again));
         }
         match self.settings.push((key, value)) {
@@ -311,6 +323,21 @@ impl<'a, A: Allocator> Plan<'a, A> {
             Some(Value::Text(text)) => Some(text),
             _ => None,
         }
+    }
+
+    /// The words that an option is given, in their order.
+    pub fn texts(&self, alloc: A, key: &str) -> Result<Vec<&'a str, A>, AllocError>
+        ensures { IfOk result (λ found. texts found.items ≡ texts_set key.now (as_given self.now)) }
+    {
+        let mut found = Vec::new(alloc);
+        for set in &self.settings {
+            if let (name, Value::Text(text)) = *set
+                && name == key
+            {
+                found.push(text)?;
+            }
+        }
+        Ok(found)
     }
 
     /// The limits of the parser. One that no option has set has its default.

@@ -1,8 +1,7 @@
 -- What a run of the program does, by the request in its words.
-use Rattle.std.specs.Prelude.{◌≡◌, ◌⊎◌, ◌++◌, ℕ, zero, suc, max, Bool, List, codes, length, Option, Some, None}
-use Rattle.std.specs.Prelude.{Result, if◌then◌else◌, option_map, unwrap_or}
+use Rattle.std.specs.Prelude.{◌≡◌, ◌⊎◌, ◌++◌, ℕ, zero, suc, max, Bool, List, [], ◌∷◌, codes, length, Option}
+use Rattle.std.specs.Prelude.{Some, None, Result, if◌then◌else◌, unwrap_or}
 use Rattle.std.specs.declared.io.Error.{Error}
-use denote.Ref.{Bor}
 use Rattle.validation_rules.specs.declared.selection.RuleSet.{RuleSet}
 use Rattle.cost_limits.specs.declared.introspection.Introspection.{Introspection}
 use Rattle.cost_limits.specs.declared.introspection.Introspection.TheVariants.{Counted, LeftOut}
@@ -11,7 +10,7 @@ use Rattle.byte_streams.specs.Devices.{Account}
 use Rattle.file_access.specs.Listing.{Listing}
 use Rattle.command_lines.specs.Gqlcheck.{format_of, most_of, operation_of, request_of}
 use Rattle.command_lines.specs.Misuse.{IsAmong}
-use Rattle.command_lines.specs.Options.{Given, is_set, limits_of, number, text}
+use Rattle.command_lines.specs.Options.{Given, is_set, limits_of, number, text, texts_set}
 use Rattle.command_lines.specs.Streams.{Explains, IsSaid, OnlyPrints, OnlySays, OnlyExplains, no_memory}
 use Rattle.command_lines.specs.Words.{texts}
 use Rattle.command_lines.specs.declared.information.Information.{Information}
@@ -20,11 +19,11 @@ use Rattle.command_lines.specs.declared.information.Request.{Request}
 use Rattle.command_lines.specs.declared.information.Request.TheVariants.{Print, Process}
 use Rattle.command_lines.specs.declared.misuse.WordsError.{WordsError}
 use Rattle.command_lines.specs.declared.misuse.WordsError.TheVariants.{Memory, Usage}
-use Rattle.named_files.specs.Handling.{State, streams}
+use Rattle.named_files.specs.Handling.{InTurn, State, streams}
 use Rattle.gqlcheck_run.specs.Framing.{Closes, opening}
 use Rattle.gqlcheck_run.specs.Inputs.{Input, bytes_in, default_steps, no_texts}
 use Rattle.gqlcheck_run.specs.Judging.{JudgesTexts}
-use Rattle.gqlcheck_run.specs.Reading.{Reading, ReadsIfGiven, ReadsTexts}
+use Rattle.gqlcheck_run.specs.Reading.{Reading, ReadsPath, ReadsTexts}
 use Rattle.gqlcheck_run.specs.Rules.{AreRules, IsUnknownRule, names_of}
 use Rattle.gqlcheck_run.specs.declared.command.TheConstants.{PROGRAM, USAGE, HELP, VERSION}
 use Rattle.gqlcheck_run.specs.declared.job.Printing.{Printing}
@@ -59,12 +58,12 @@ asked_by given rules warnings = record {
   steps = number (codes "--max-steps") given;
 }
 
--- How many texts are those of the schema, if a path of one is given: as many as were read. Where one of its files was
+-- How many texts are those of the schema, if paths of one are given: as many as were read. Where one of its files was
 -- not read, nothing is judged by it.
-abbrev pub schema_texts : Option (List ℕ) → ℕ → ℕ → Option ℕ
-schema_texts None status texts = None
-schema_texts (Some path) zero texts = Some texts
-schema_texts (Some path) (suc n) texts = None
+abbrev pub schema_texts : List (List ℕ) → ℕ → ℕ → Option ℕ
+schema_texts [] status count = None
+schema_texts (path ∷ paths) zero count = Some count
+schema_texts (path ∷ paths) (suc n) count = None
 
 -- The same for texts, of which some are those of a schema, and as many as this are judged. The others are known only.
 -- If no number of steps is given, it is by the bytes of all texts.
@@ -85,25 +84,25 @@ Refuses Memory status old new = (status ≡ 2) × IsSaid (no_memory PROGRAM.now)
 abbrev pub printing_of : Given → Printing
 printing_of given = record { figures = is_set (codes "--figures") given; format = format_of given }
 
--- the paths whose texts are judged, one whose texts are known, and one of a schema, if they are given
+-- the paths whose texts are judged, those whose texts are known, and those of a schema
 pub record Paths : Type 0 where
   pub judged : List (List ℕ)
-  pub known : Option (List ℕ)
-  pub schema : Option (List ℕ)
+  pub known : List (List ℕ)
+  pub schema : List (List ℕ)
 
 -- the same as the code has them
 abbrev pub as_paths : declared_paths.Paths → Paths
 as_paths paths = record {
   judged = texts paths.judged.now;
-  known = option_map (λ (path : Bor (List ℕ)). path.now) paths.known;
-  schema = option_map (λ (path : Bor (List ℕ)). path.now) paths.schema;
+  known = texts paths.known.now;
+  schema = texts paths.schema.now;
 }
 
 abbrev pub paths_of : Given → Paths
 paths_of given = record {
   judged = given.files;
-  known = text (codes "--fragments") given;
-  schema = text (codes "--schema") given;
+  known = texts_set (codes "--fragments") given;
+  schema = texts_set (codes "--schema") given;
 }
 
 -- the files, as a trait tells what three of its calls do
@@ -115,14 +114,14 @@ module _ {S : Type 0} (lists : S → List ℕ → Listing → S → Type 0) (omi
       (old new : State S) : Type 0 where
     pub schema : Reading S
     pub defined : ℕ
-    pub reads_schema : ReadsIfGiven lists omits reads paths.schema defined
+    pub reads_schema : InTurn (ReadsPath lists omits reads) paths.schema defined
         (record { files = old.files; complaints = old.complaints; texts = no_texts }) schema
     pub first : Reading S
     pub read : ℕ
     pub reads_all : ReadsTexts lists omits reads paths.judged read old.input new.input schema first
     pub all : Reading S
     pub added : ℕ
-    pub reads_known : ReadsIfGiven lists omits reads paths.known added first all
+    pub reads_known : InTurn (ReadsPath lists omits reads) paths.known added first all
     pub files : new.files ≡ all.files
     pub found : ℕ
     pub judges : JudgesTexts

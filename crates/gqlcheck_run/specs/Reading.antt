@@ -119,8 +119,3 @@ module _ {S : Type 0} (lists : S → List ℕ → Listing → S → Type 0) (omi
       × (new.files ≡ old.files)
   ReadsTexts (path ∷ paths) status input input' old new =
       InTurn ReadsPath (path ∷ paths) status old new × (input' ≡ input)
-
-  -- The files that a path names are read, if there is one.
-  abbrev pub ReadsIfGiven : Option (List ℕ) → ℕ → Reading S → Reading S → Type 0
-  ReadsIfGiven None status old new = (status ≡ 0) × (new ≡ old)
-  ReadsIfGiven (Some path) status old new = ReadsPath path status old new

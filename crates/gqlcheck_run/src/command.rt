@@ -42,8 +42,9 @@ pass, unless an operation is named.
   --operation NAME    limits and figures of this operation alone
   --figures           print each operation's figures, and the greatest of each
   --schema PATH       a file or folder that defines the types by which operations
-                      and fragments are judged
-  --fragments PATH    a file or folder whose fragments are known and not judged
+                      and fragments are judged; may be given for each of several
+  --fragments PATH    a file or folder whose fragments are known and not judged;
+                      may be given for each of several
   --allow RULES       do not judge these rules: names as messages have them in
                       brackets, joined by commas
   --warn RULES        tell of these as warnings, which do not change the status

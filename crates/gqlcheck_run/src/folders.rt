@@ -3,7 +3,7 @@ ghost use Rattle.std.specs.Prelude.{◌≡◌, option_map};
 ghost use Rattle.command_lines.specs.Words.{texts};
 ghost use Rattle.named_files.specs.Handling.{InTurn};
 ghost use Rattle.gqlcheck_run.specs.Inputs.{as_texts};
-ghost use Rattle.gqlcheck_run.specs.Reading.{ReadsIfGiven, ReadsNamed, ReadsPath};
+ghost use Rattle.gqlcheck_run.specs.Reading.{ReadsNamed, ReadsPath};
 
 use crate::command::PROGRAM;
 use crate::files::read_files;
@@ -55,24 +55,6 @@ fn read_path<A: Allocator + Copy, F: Files, E: Sink>(
             tell_of_file(alloc, PROGRAM, complaints, path, &fault);
             2
         }
-    }
-}
-
-/// Reads the files that a path names, if there is one, and gives the greatest of their statuses.
-pub fn read_if_given<A: Allocator + Copy, F: Files, E: Sink>(
-    alloc: A,
-    files: &mut F,
-    complaints: &mut E,
-    kept: &mut Texts<A>,
-    path: Option<&str>,
-) -> u8
-    ensures { ReadsIfGiven F.lists F.omits F.reads (option_map (λ p. p.now) path.entry) result
-        (record { files = files.old; complaints = E.account complaints.old; texts = as_texts kept.old })
-        (record { files = files.new; complaints = E.account complaints.new; texts = as_texts kept.new }) }
-{
-    match path {
-        Some(path) => read_path(alloc, files, complaints, kept, path),
-        None => 0,
     }
 }
 

@@ -1,16 +1,18 @@
 // A run of the program.
-ghost use Rattle.std.specs.Prelude.{◌≡◌, map, option_map};
+ghost use Rattle.std.specs.Prelude.{◌≡◌, ◌++◌, IfErr, IfOk, codes, map};
 ghost use Rattle.document_checks.specs.Checking.{as_asked};
-ghost use Rattle.command_lines.specs.Words.{texts};
+ghost use Rattle.command_lines.specs.Options.{texts_set};
 ghost use Rattle.command_lines.specs.Reading.{as_given};
+ghost use Rattle.command_lines.specs.Words.{texts};
 ghost use Rattle.gqlcheck_run.specs.Inputs.{as_input, as_texts};
 ghost use Rattle.gqlcheck_run.specs.Reading.{ReadsTexts};
-ghost use Rattle.gqlcheck_run.specs.Program.{ChecksAll, ChecksIfRules, ChecksTexts, Refuses, Runs, as_paths, asked_by};
-ghost use Rattle.gqlcheck_run.specs.Program.{asked_of, information_text, introspection_of, paths_of, printing_of};
-ghost use Rattle.gqlcheck_run.specs.Program.{schema_texts};
+ghost use Rattle.gqlcheck_run.specs.Program.{ChecksAll, ChecksIfRules, ChecksTexts, Refuses, Runs, allowed_by};
+ghost use Rattle.gqlcheck_run.specs.Program.{as_paths, asked_by, asked_of, information_text, introspection_of};
+ghost use Rattle.gqlcheck_run.specs.Program.{printing_of, schema_texts, warned_by};
+ghost use Rattle.gqlcheck_run.specs.Rules.{AreRules, IsNotRead, IsUnknownRule};
 
 use crate::command::{HELP, PROGRAM, USAGE, VERSION};
-use crate::folders::{read_if_given, read_paths};
+use crate::folders::read_paths;
 use crate::frame::{close, opening};
 use crate::inputs::{Input, Texts, bytes_in, read_input};
 use crate::job::{Job, Printing};
@@ -39,19 +41,54 @@ fn most_findings(format: Format) -> usize {
 struct Paths<'p> {
     // those whose texts are judged
     judged: &'p [&'p str],
-    // one whose texts are known, if one is given
-    known: Option<&'p str>,
-    // one of a schema, if one is given
-    schema: Option<&'p str>,
+    // those whose texts are known
+    known: &'p [&'p str],
+    // those of a schema
+    schema: &'p [&'p str],
 }
 
-fn paths_of<'p, A: Allocator>(plan: &'p Plan<'_, A>) -> Paths<'p>
-    ensures { as_paths result ≡ paths_of (as_given plan.now) }
-{
-    Paths {
-        judged: plan.files.as_slice(),
-        known: plan.text("--fragments"),
-        schema: plan.text("--schema"),
+// What a plan names: rules, and paths beside its files.
+#[derive(Drop)]
+struct Named<'w, A: Allocator> {
+    rules: Rules,
+    known: Vec<&'w str, A>,
+    schema: Vec<&'w str, A>,
+}
+
+impl<'w, A: Allocator + Copy> Named<'w, A> {
+    fn of(alloc: A, plan: &Plan<'w, A>) -> Result<Named<'w, A>, WordsError<'w>>
+        ensures rules { IfOk result (λ named. AreRules (allowed_by (as_given plan.now)) (warned_by (as_given plan.now))
+            named.rules.judged named.rules.told) }
+        ensures known { IfOk result (λ named. texts named.known.items
+            ≡ texts_set (codes "--fragments") (as_given plan.now)) }
+        ensures schema { IfOk result (λ named. texts named.schema.items
+            ≡ texts_set (codes "--schema") (as_given plan.now)) }
+        ensures err { IfErr result (λ error. IsNotRead
+            (IsUnknownRule (allowed_by (as_given plan.now) ++ warned_by (as_given plan.now))) error) }
+    {
+        let rules = Rules::of(alloc, plan.text("--allow"), plan.text("--warn"))?;
+        let known = plan.texts(alloc, "--fragments")?;
+        let schema = plan.texts(alloc, "--schema")?;
+        Ok(Named {
+            rules,
+            known,
+            schema,
+        })
+    }
+
+    // The paths of a run with these files.
+    fn paths<'p>(&'p self, files: &'p [&'w str]) -> Paths<'p>
+        ensures { as_paths result ≡ record {
+          judged = texts files.now;
+          known = texts self.now.known.items;
+          schema = texts self.now.schema.items;
+        } }
+    {
+        Paths {
+            judged: files,
+            known: self.known.as_slice(),
+            schema: self.schema.as_slice(),
+        }
     }
 }
 
@@ -75,14 +112,14 @@ fn introspection_of<A: Allocator>(plan: &Plan<'_, A>) -> Introspection
     }
 }
 
-// How many texts are those of the schema, by its path and the status of its reading.
-fn schema_texts(path: Option<&str>, status: u8, texts: usize) -> Option<usize>
-    ensures { result ≡ schema_texts (option_map (λ p. p.now) path.entry) status texts }
+// How many texts are those of the schema, by its paths and the status of their reading.
+fn schema_texts(paths: &[&str], status: u8, count: usize) -> Option<usize>
+    ensures { result ≡ schema_texts (texts paths.now) status count }
 {
-    if path.is_some() && status == 0 {
-        Some(texts)
-    } else {
-        None
+    match (paths, status) {
+        ([], _) => None,
+        (_, 0) => Some(count),
+        _ => None,
     }
 }
 
@@ -190,11 +227,11 @@ impl<'c, 'w, A: Allocator + Copy, C: DocumentChecker> Job<'c, 'w, A, C> {
     {
         let alloc = self.alloc;
         let mut kept = Texts::new(alloc);
-        let defined = read_if_given(alloc, files, complaints, &mut kept, paths.schema);
+        let defined = read_paths(alloc, files, complaints, &mut kept, paths.schema);
         let schema = schema_texts(paths.schema, defined, kept.inputs.len());
         let read = read_texts(alloc, reader, complaints, files, &mut kept, paths.judged);
         let judged = kept.inputs.len();
-        let added = read_if_given(alloc, files, complaints, &mut kept, paths.known);
+        let added = read_paths(alloc, files, complaints, &mut kept, paths.known);
         let job = self.for_texts(schema, judged, kept.inputs.as_slice());
         let found = job.check_inputs(writer, complaints, tally, kept.inputs.as_slice());
         defined.max(read).max(added).max(found)
@@ -276,10 +313,11 @@ fn check_by<A: Allocator + Copy, C: DocumentChecker, R: Source, W: Sink, E: Sink
           files = files.new;
         }) }
 {
-    match Rules::of(alloc, plan.text("--allow"), plan.text("--warn")) {
-        Ok(rules) => {
-            let job = Job::of(alloc, checker, plan, rules);
-            job.check_all(reader, writer, complaints, files, paths_of(plan))
+    match Named::of(alloc, plan) {
+        Ok(named) => {
+            let job = Job::of(alloc, checker, plan, named.rules);
+            let paths = named.paths(plan.files.as_slice());
+            job.check_all(reader, writer, complaints, files, paths)
         }
         Err(error) => refuse(alloc, complaints, error),
     }
