@@ -237,7 +237,8 @@ typedef struct dumyroke_violation_counts {
     uint32_t status;
 } dumyroke_violation_counts;
 
-/* The limit of steps for dumyroke_validate, if there is no reason for another one: a million, and 10 for each byte of the text. */
+/* The limit of steps for dumyroke_validate, if there is no reason for another one: 1,000,000, and 10 more for each byte
+   of the text. */
 size_t dumyroke_default_steps(size_t text_length);
 
 /* Validates a document by the rules of dumyroke_rule, within both limits of a parse.

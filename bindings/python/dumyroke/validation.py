@@ -76,10 +76,10 @@ def validate(
     one definition may not have twice: fields, arguments, input fields, enum values, union members and interfaces of one
     name.
 
-    `max_steps` is how many steps the rules on variables may take, if not given a million, and 10 for each byte of the
-    text. These rules judge one operation after another. An operation takes a step for each definition that it reaches,
-    for each spread of a fragment in these, and for each name of a variable that one of these uses. A definition that
-    uses a variable which the operation does not declare takes a step for each use, too.
+    `max_steps` is how many steps the rules on variables may take. By default they may take 1,000,000, and 10 more for
+    each byte of the text. These rules judge one operation after another. An operation takes a step for each definition
+    that it reaches, for each spread of a fragment in these, and for each name of a variable that one of these uses. A
+    definition that uses a variable which the operation does not declare takes a step for each use, too.
 
     Raises `NotADocument` with the errors if the text is none within both limits; `Undecided` if the operations before
     one took all steps, unless `most` violations were found; and else as `parse` does."""

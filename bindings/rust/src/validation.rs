@@ -97,7 +97,7 @@ pub fn validate_within(parser: Parser<'_>, most: usize, steps: usize) -> Result<
     }
 }
 
-/// The steps of [`validate`] for a text of so many bytes: a million, and 10 for each byte.
+/// The steps of [`validate`] for a text of so many bytes: 1,000,000, and 10 more for each byte.
 pub fn default_steps(bytes: usize) -> usize {
     ffi::default_steps(bytes)
 }
