@@ -6,10 +6,10 @@ import re
 import subprocess
 
 
-def errors_of(notice):
-    """The syntax errors in a notice of diagnostics: a violation of a rule of validation has the rule's name as its
-    code."""
-    return [it for it in notice["diagnostics"] if it["code"] == "syntax"]
+def errors_of(notification):
+    """The syntax errors in a notification of diagnostics: a violation of a rule of validation has the rule's name as
+    its code."""
+    return [it for it in notification["diagnostics"] if it["code"] == "syntax"]
 
 
 class Client:

@@ -348,8 +348,8 @@ def violations():
 def fragments_of_others():
     """A fragment that another open document defines is known, and one that another spreads is used (5.5.1.4 and
     5.5.2.1, with all open documents as one)."""
-    def codes(notice):
-        return [it["code"] for it in notice["diagnostics"]]
+    def codes(notification):
+        return [it["code"] for it in notification["diagnostics"]]
 
     client = started()
     other = "file:///b.graphql"

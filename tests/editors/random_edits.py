@@ -65,13 +65,13 @@ class Run:
                 text = Text(text.text[:start] + new + text.text[end:], self.encoding)
         return changes, text
 
-    def fault(self, uri, text, language, notice):
+    def fault(self, uri, text, language, notification):
         """The fault in the server's messages about a document, or nothing."""
         anew = self.other.open(uri, text.text, language)["diagnostics"]
         self.other.close(uri)
-        if notice["diagnostics"] != anew:
+        if notification["diagnostics"] != anew:
             return "other diagnostics than the text opened anew"
-        if language == "graphql" and GQLCST.exists() and not at_their_offsets(text, errors_of(notice)):
+        if language == "graphql" and GQLCST.exists() and not at_their_offsets(text, errors_of(notification)):
             return "other offsets of errors than gqlcst's"
         offset = text.boundary(self.random.randint(0, len(text.text)))
         feature = self.random.choice(answers.ALL)

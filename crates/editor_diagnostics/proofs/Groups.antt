@@ -1,4 +1,4 @@
--- The errors of the definitions, and the remarks on them.
+-- The errors of the definitions, and the diagnostics on them.
 use Rattle.std.proofs.Common.{◌≡◌, ◌<◌, ◌+◌, ◌-◌, ℕ, suc, get_or, List, [], ◌∷◌, ◌++◌, Bool, true, false, cond, None}
 use Rattle.std.proofs.Common.{map, take, drop, length, min, ap, refl, sym, ◌∙◌, inl, inr, arith}
 use Rattle.std.proofs.Math.Seq.{take-suc}
@@ -8,24 +8,27 @@ use Rattle.std.proofs.lemmas.List.Sums.{take_while-cons}
 use Rattle.std.specs.Prelude.{take_while}
 use Rattle.apollo_lexer.specs.Diagnostics.{Diagnostic}
 use Rattle.first_errors.specs.Groups.{Group, group_of, groups, is_earlier}
-use Rattle.editor_diagnostics.specs.Remarks.{Remarked}
-use Rattle.editor_diagnostics.specs.Syntax.{IsAboutFirst, as_group, more_remarks, syntax_remark, syntax_remarks}
+use Rattle.editor_diagnostics.specs.Diagnostics.{Diagnosis}
+use Rattle.editor_diagnostics.specs.Syntax.{IsAboutFirst, as_group, more_diagnostics, syntax_diagnostic}
+use Rattle.editor_diagnostics.specs.Syntax.{syntax_diagnostics}
 use Rattle.editor_diagnostics.specs.declared.syntax.ErrorGroup.{ErrorGroup}
 
--- the remarks after that on the first group
-abbrev remarks_after : ℕ → Diagnostic → List Group → List Remarked
-remarks_after others error more =
-    map syntax_remark (take 99 more) ++ more_remarks (length (record { first = error; others = others } ∷ more) - 100)
+-- the diagnostics after that on the first group
+abbrev diagnostics_after : ℕ → Diagnostic → List Group → List Diagnosis
+diagnostics_after others error more =
+    map syntax_diagnostic (take 99 more)
+    ++ more_diagnostics (length (record { first = error; others = others } ∷ more) - 100)
 
-abbrev remarks_on : List Group → List Remarked
-remarks_on gs = map syntax_remark (take 100 gs) ++ more_remarks (length gs - 100)
+abbrev diagnostics_on : List Group → List Diagnosis
+diagnostics_on gs = map syntax_diagnostic (take 100 gs) ++ more_diagnostics (length gs - 100)
 
--- the remarks on the first hundred groups, and how many more there are
+-- the diagnostics on the first hundred groups, and how many more there are
 pub capped : (starts : List ℕ) (errors : List Diagnostic) (items slice : List ErrorGroup) (most : ℕ)
-    (found now : List Remarked)
+    (found now : List Diagnosis)
     → map as_group items ≡ groups starts errors → slice ≡ items → most ≡ min 100 (length slice)
-    → found ≡ map syntax_remark (map as_group (take most slice)) → now ≡ found ++ more_remarks (length slice - most)
-    → now ≡ syntax_remarks starts errors
+    → found ≡ map syntax_diagnostic (map as_group (take most slice))
+    → now ≡ found ++ more_diagnostics (length slice - most)
+    → now ≡ syntax_diagnostics starts errors
 capped starts errors items slice most found now are view at_most first added =
     let all : List Group = map as_group slice in
     let size : length all ≡ length slice = length-map slice as_group in
@@ -33,9 +36,11 @@ capped starts errors items slice most found now are view at_most first added =
     let rest : length slice - most ≡ length all - 100 = omega (arith, at_most, size) in
     let shown : map as_group (take most slice) ≡ take 100 all =
     sym (take-map as_group most slice) ∙ ap (λ (n : ℕ). take n all) same ∙ take_min 100 all in
-    added ∙ ap (λ (rs : List Remarked). rs ++ more_remarks (length slice - most)) (first ∙ ap (map syntax_remark) shown)
-    ∙ ap (λ (n : ℕ). map syntax_remark (take 100 all) ++ more_remarks n) rest
-    ∙ ap remarks_on (ap (map as_group) view ∙ are)
+    added
+    ∙ ap (λ (rs : List Diagnosis). rs ++ more_diagnostics (length slice - most))
+    (first ∙ ap (map syntax_diagnostic) shown)
+    ∙ ap (λ (n : ℕ). map syntax_diagnostic (take 100 all) ++ more_diagnostics n) rest
+    ∙ ap diagnostics_on (ap (map as_group) view ∙ are)
 
 -- one more thing made of the next of some
 pub one_made : {A B C D : Type 0} (f : A → D) (g : C → D) (h : B → C) (made now : List A) (all : List B) (k : ℕ)
@@ -88,9 +93,9 @@ no_groups : (starts : List ℕ) → groups starts [] ≡ []
 no_groups [] = refl
 no_groups (start ∷ starts) = no_groups starts
 
--- the first remark is about the first error
-pub about_first : (starts : List ℕ) (errors : List Diagnostic) → IsAboutFirst errors (syntax_remarks starts errors)
-about_first starts [] = ap remarks_on (no_groups starts)
+-- the first diagnostic is about the first error
+pub about_first : (starts : List ℕ) (errors : List Diagnostic) → IsAboutFirst errors (syntax_diagnostics starts errors)
+about_first starts [] = ap diagnostics_on (no_groups starts)
 about_first starts (error ∷ errors) =
     (let first = first_group starts error errors in
-    (first.0, None, remarks_after first.0 error first.1, ap remarks_on first.2))
+    (first.0, None, diagnostics_after first.0 error first.1, ap diagnostics_on first.2))

@@ -1,3 +1,3 @@
 pub mod Cursors
 pub mod Groups
-pub mod RemarkTokens
+pub mod DiagnosticTokens

@@ -1,5 +1,5 @@
 pub mod Positions
 pub mod Publication
-pub mod Remarks
+pub mod Diagnostics
 pub mod Syntax
 pub mod Tokens

@@ -1,12 +1,12 @@
--- The notice of the remarks on a document to a client.
+-- The notification of the diagnostics on a document to a client.
 use Rattle.std.specs.Fmt.{signed_decimal}
 use Rattle.std.specs.Prelude.{ℕ, ◌+◌, ◌-◌, ◌^◌, ℤ, List, map, min, Option, Some, None, codes, decimal}
 use Rattle.json.specs.Json.{Json, Members, array, item, member, no_items, no_members, number, object, string}
 use Rattle.json.specs.Value.{items_of}
 use Rattle.line_index.specs.declared.PositionEncoding.{PositionEncoding}
-use Rattle.rpc_messages.specs.Messages.{IsNoticeOf}
+use Rattle.rpc_messages.specs.Messages.{IsNotificationOf}
+use Rattle.editor_diagnostics.specs.Diagnostics.{Diagnosis, severity_number}
 use Rattle.editor_diagnostics.specs.Positions.{IsReadAt, position_of, range_value}
-use Rattle.editor_diagnostics.specs.Remarks.{Remarked, severity_number}
 
 -- ---- diagnostics
 
@@ -33,18 +33,18 @@ related_members uri encoding text (Some brace) =
     member (codes "relatedInformation") (array (item (brace_information uri encoding text brace) no_items)) no_members
 
 -- what follows the range, and then other members
-abbrev pub words_of_remark : Remarked → Members → Members
-words_of_remark r others =
+abbrev pub members_of_diagnostic : Diagnosis → Members → Members
+members_of_diagnostic r others =
     member (codes "code") (string r.code) (member (codes "severity") (number (decimal (severity_number r.severity)))
     (member (codes "source") (string (codes "gqlls")) (member (codes "message") (string r.message) others)))
 
--- a `Diagnostic` is from where the remark begins to where it ends, in the document with this name
-abbrev pub remark_diagnostic : List ℕ → PositionEncoding → List ℕ → Remarked → Json
-remark_diagnostic uri encoding text r =
+-- `Diagnostic` (Language Server Protocol 3.17), in the document with this name
+abbrev pub diagnostic_value : List ℕ → PositionEncoding → List ℕ → Diagnosis → Json
+diagnostic_value uri encoding text r =
     object (member (codes "range") (range_value (position_of encoding text r.start) (position_of encoding text r.end))
-    (words_of_remark r (related_members uri encoding text r.open_brace)))
+    (members_of_diagnostic r (related_members uri encoding text r.open_brace)))
 
--- ---- notices
+-- ---- notifications
 
 abbrev pub method : List ℕ
 method = codes "textDocument/publishDiagnostics"
@@ -57,13 +57,13 @@ publish_params uri (Some version) diagnostics =
 publish_params uri None diagnostics =
     member (codes "uri") (string uri) (member (codes "diagnostics") (array (items_of diagnostics)) no_members)
 
--- the body is the notice of these diagnostics of a document
-abbrev pub IsNoticeAbout : List ℕ → Option ℤ → List Json → List ℕ → Type 0
-IsNoticeAbout uri version diagnostics body = IsNoticeOf method (publish_params uri version diagnostics) body
+-- the body is the notification of these diagnostics of a document
+abbrev pub IsNotificationAbout : List ℕ → Option ℤ → List Json → List ℕ → Type 0
+IsNotificationAbout uri version diagnostics body = IsNotificationOf method (publish_params uri version diagnostics) body
 
--- the body has these remarks on this text, at the positions where a client reads them
+-- the body has these diagnostics on this text, at the positions where a client reads them
 pub record IsPublication
-    (uri : List ℕ) (version : Option ℤ) (encoding : PositionEncoding) (text : List ℕ) (remarks : List Remarked)
+    (uri : List ℕ) (version : Option ℤ) (encoding : PositionEncoding) (text : List ℕ) (diagnostics : List Diagnosis)
     (body : List ℕ) : Type 0 where
-  pub notice : IsNoticeAbout uri version (map (remark_diagnostic uri encoding text) remarks) body
+  pub notification : IsNotificationAbout uri version (map (diagnostic_value uri encoding text) diagnostics) body
   pub read : (offset : ℕ) → IsReadAt encoding text offset (position_of encoding text offset)

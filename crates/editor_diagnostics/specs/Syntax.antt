@@ -1,12 +1,12 @@
--- The syntax errors of a document as remarks: one for each definition that has some.
+-- The syntax errors of a document as diagnostics: one for each definition that has some.
 use Rattle.std.specs.List.{starts_with}
 use Rattle.std.specs.Prelude.{◌≡◌, ℕ, ◌+◌, ◌-◌, ◌^◌, ◌==◌, if◌then◌else◌, Bool, not, List, [], ◌∷◌, ◌++◌, length, map}
 use Rattle.std.specs.Prelude.{take, min, codes, decimal, take_while, Option, None}
 use Rattle.lexical_grammar.specs.Characters.{is_line_terminator}
 use Rattle.apollo_lexer.specs.Diagnostics.{Diagnostic, subject_text}
 use Rattle.first_errors.specs.Groups.{Group, groups}
-use Rattle.editor_diagnostics.specs.Remarks.{Remarked, with_brace}
-use Rattle.editor_diagnostics.specs.declared.remark.Severity.TheVariants.{Error}
+use Rattle.editor_diagnostics.specs.Diagnostics.{Diagnosis, with_brace}
+use Rattle.editor_diagnostics.specs.declared.diagnostic.Severity.TheVariants.{Error}
 use Rattle.editor_diagnostics.specs.declared.syntax.ErrorGroup.{ErrorGroup}
 
 -- ---- words
@@ -42,7 +42,7 @@ others_words n = if n == 0 then [] else codes " ("
 abbrev pub as_group : ErrorGroup → Group
 as_group g = record { first = g.first.now; others = g.others }
 
--- ---- remarks
+-- ---- diagnostics
 
 -- the end of the text that an error is about, or of that text's first line; no offset is greater than 2 ^ 64 - 1
 abbrev pub mark_end : Diagnostic → ℕ
@@ -50,8 +50,8 @@ mark_end error = min (error.index + length (take_while (λ c. not (is_line_termi
     (2 ^ 64 - 1)
 
 -- an error is marked from where it begins
-abbrev pub syntax_remark : Group → Remarked
-syntax_remark group = record {
+abbrev pub syntax_diagnostic : Group → Diagnosis
+syntax_diagnostic group = record {
   start = group.first.index;
   end = mark_end group.first;
   code = codes "syntax";
@@ -60,9 +60,9 @@ syntax_remark group = record {
   open_brace = None;
 }
 
--- the number of further remarks, at the front of the text
-abbrev pub more_remarks : ℕ → List Remarked
-more_remarks n =
+-- the number of further diagnostics, at the front of the text
+abbrev pub more_diagnostics : ℕ → List Diagnosis
+more_diagnostics n =
     if n == 0 then [] else record {
       start = 0;
       end = 0;
@@ -72,15 +72,15 @@ more_remarks n =
       open_brace = None;
     } ∷ []
 
--- one remark for each definition that has errors, about the first of them, and where there are more than a hundred
+-- one diagnostic for each definition that has errors, about the first of them, and where there are more than a hundred
 -- their number
-abbrev pub syntax_remarks : List ℕ → List Diagnostic → List Remarked
-syntax_remarks starts errors =
-    map syntax_remark (take 100 (groups starts errors)) ++ more_remarks (length (groups starts errors) - 100)
+abbrev pub syntax_diagnostics : List ℕ → List Diagnostic → List Diagnosis
+syntax_diagnostics starts errors =
+    map syntax_diagnostic (take 100 (groups starts errors)) ++ more_diagnostics (length (groups starts errors) - 100)
 
--- where there are errors, the first remark is about the first of them, and may name a brace
-abbrev pub IsAboutFirst : List Diagnostic → List Remarked → Type 0
-IsAboutFirst [] remarks = remarks ≡ []
-IsAboutFirst (error ∷ errors) remarks =
-    (others : ℕ) × (brace : Option ℕ) × (more : List Remarked)
-    × (remarks ≡ with_brace brace (syntax_remark (record { first = error; others = others }) ∷ more))
+-- where there are errors, the first diagnostic is about the first of them, and may name a brace
+abbrev pub IsAboutFirst : List Diagnostic → List Diagnosis → Type 0
+IsAboutFirst [] diagnostics = diagnostics ≡ []
+IsAboutFirst (error ∷ errors) diagnostics =
+    (others : ℕ) × (brace : Option ℕ) × (more : List Diagnosis)
+    × (diagnostics ≡ with_brace brace (syntax_diagnostic (record { first = error; others = others }) ∷ more))

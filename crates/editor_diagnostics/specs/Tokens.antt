@@ -1,13 +1,13 @@
--- The tokens of a notice, part by part.
+-- The tokens of a notification, part by part.
 use Rattle.std.specs.Fmt.{signed_decimal}
 use Rattle.std.specs.List.{flat_map}
 use Rattle.std.specs.Prelude.{ℕ, ℤ, List, [], ◌∷◌, Option, Some, None, codes}
 use Rattle.json.specs.Token.{Token, begin_object, end_object, begin_array, end_array, key, string, number}
 use Rattle.json.specs.Tree.{json_tokens}
 use Rattle.line_index.specs.declared.PositionEncoding.{PositionEncoding}
-use Rattle.editor_diagnostics.specs.Publication.{remark_diagnostic}
-use Rattle.editor_diagnostics.specs.Remarks.{as_remarked}
-use Rattle.editor_diagnostics.specs.declared.remark.Remark.{Remark}
+use Rattle.editor_diagnostics.specs.Diagnostics.{as_diagnosis}
+use Rattle.editor_diagnostics.specs.Publication.{diagnostic_value}
+use Rattle.editor_diagnostics.specs.declared.diagnostic.Diagnostic.{Diagnostic}
 
 -- the parameters, up to the diagnostics
 abbrev pub front_tokens : List ℕ → Option ℤ → List Token
@@ -27,8 +27,9 @@ abbrev pub brace_end : List Token
 brace_end = end_object ∷ key (codes "message") ∷ string (codes "this { is never closed") ∷ end_object
     ∷ end_array ∷ end_object ∷ []
 
-abbrev pub remark_tokens : List ℕ → PositionEncoding → List ℕ → Remark → List Token
-remark_tokens uri encoding text remark = json_tokens (remark_diagnostic uri encoding text (as_remarked remark))
+abbrev pub diagnostic_tokens : List ℕ → PositionEncoding → List ℕ → Diagnostic → List Token
+diagnostic_tokens uri encoding text diagnostic =
+    json_tokens (diagnostic_value uri encoding text (as_diagnosis diagnostic))
 
-abbrev pub tokens_of_remarks : List ℕ → PositionEncoding → List ℕ → List Remark → List Token
-tokens_of_remarks uri encoding text = flat_map (remark_tokens uri encoding text)
+abbrev pub tokens_of_diagnostics : List ℕ → PositionEncoding → List ℕ → List Diagnostic → List Token
+tokens_of_diagnostics uri encoding text = flat_map (diagnostic_tokens uri encoding text)

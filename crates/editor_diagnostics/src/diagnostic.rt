@@ -1,107 +1,46 @@
-// One diagnostic as the protocol has it.
-ghost use Rattle.std.specs.Prelude.{◌≡◌, ◌++◌, OnOk, Some, flat_map};
-ghost use Rattle.json.specs.Json.{Members};
-ghost use Rattle.json.specs.Tree.{json_tokens, members_tokens};
-ghost use Rattle.rpc_messages.specs.Pieces.{tokens_of};
-ghost use Rattle.editor_diagnostics.specs.Publication.{related_members, remark_diagnostic, words_of_remark};
-ghost use Rattle.editor_diagnostics.specs.Remarks.{as_remarked};
-ghost use Rattle.editor_diagnostics.specs.Tokens.{brace_front};
+// Diagnostics on a document.
+ghost use Rattle.std.specs.Prelude.{◌≡◌, map};
+ghost use Rattle.editor_diagnostics.specs.Diagnostics.{as_diagnosis, severity_number, with_brace};
 
-use crate::positions::Positions;
-use crate::remark::Remark;
-use rpc_messages::Piece;
-use std::alloc::AllocError;
-
-// What follows the range of a remark, up to its last members.
-fn remark_words<'p>(remark: &'p Remark) -> [Piece<'p>; 8]
-    ensures { (others : Members)
-        → flat_map tokens_of result
-        ++ members_tokens others ≡ members_tokens (words_of_remark (as_remarked remark.now) others) }
-{
-    [
-        Piece::Key("code"),
-        Piece::Text(remark.code),
-        Piece::Key("severity"),
-        Piece::Count(remark.severity.number()),
-        Piece::Key("source"),
-        Piece::Text("gqlls"),
-        Piece::Key("message"),
-        Piece::Text(remark.message.as_str()),
-    ]
+/// How serious a diagnostic is: a `DiagnosticSeverity` (Language Server Protocol 3.17).
+#[derive(Clone, Copy)]
+pub enum Severity {
+    Error,
+    Warning,
 }
 
-// What is in front of the range of a brace.
-fn brace_front<'p>(uri: &'p str) -> [Piece<'p>; 8]
-    ensures { flat_map tokens_of result ≡ brace_front uri.now }
-{
-    [
-        Piece::Key("relatedInformation"),
-        Piece::Array,
-        Piece::Object,
-        Piece::Key("location"),
-        Piece::Object,
-        Piece::Key("uri"),
-        Piece::Text(uri),
-        Piece::Key("range"),
-    ]
-}
-
-// What follows that range, with the end of the diagnostic.
-const BRACE_END: [Piece<'static>; 6] = [
-    Piece::EndObject,
-    Piece::Key("message"),
-    Piece::Text("this { is never closed"),
-    Piece::EndObject,
-    Piece::EndArray,
-    Piece::EndObject,
-];
-
-// Adds the brace that a remark names, and ends the diagnostic.
-fn push_brace<'p>(
-    pieces: &mut Vec<Piece<'p>>,
-    uri: &'p str,
-    positions: &Positions<'_>,
-    brace: usize,
-) -> Result<(), AllocError>
-    ensures { OnOk result (flat_map tokens_of pieces.new.items ≡ flat_map tokens_of pieces.old.items
-        ++ members_tokens (related_members uri.now positions.now.encoding positions.now.text.now (Some brace))) }
-{
-    pieces.extend_from_slice(&brace_front(uri))?;
-    pieces.extend_from_slice(&positions.range(brace, brace.saturating_add(1)))?;
-    pieces.extend_from_slice(&BRACE_END)?;
-    Ok(())
-}
-
-// Adds the brace that a remark names, if it names one, and ends the diagnostic.
-fn push_end<'p>(
-    pieces: &mut Vec<Piece<'p>>,
-    uri: &'p str,
-    positions: &Positions<'_>,
-    brace: Option<usize>,
-) -> Result<(), AllocError>
-    ensures { OnOk result (flat_map tokens_of pieces.new.items ≡ flat_map tokens_of pieces.old.items
-        ++ members_tokens (related_members uri.now positions.now.encoding positions.now.text.now brace)) }
-{
-    match brace {
-        Some(brace) => push_brace(pieces, uri, positions, brace),
-        None => pieces.extend_from_slice(&[Piece::EndObject]),
+impl Severity {
+    /// The protocol's number of it.
+    pub(crate) fn number(self) -> usize
+        ensures { result ≡ severity_number self }
+    {
+        match self {
+            Severity::Error => 1,
+            Severity::Warning => 2,
+        }
     }
 }
 
-/// Adds the diagnostic of a remark on the document with this name.
-pub(crate) fn push_remark<'p>(
-    pieces: &mut Vec<Piece<'p>>,
-    uri: &'p str,
-    positions: &Positions<'_>,
-    remark: &'p Remark,
-) -> Result<(), AllocError>
-    ensures { OnOk result (flat_map tokens_of pieces.new.items ≡ flat_map tokens_of pieces.old.items
-        ++ json_tokens (remark_diagnostic uri.now positions.now.encoding positions.now.text.now
-        (as_remarked remark.now))) }
+/// What is wrong with a part of a document, or may be.
+#[derive(Drop)]
+pub struct Diagnostic {
+    /// The byte offset at which the part of the text begins that it is about.
+    pub start: usize,
+    /// The byte offset at which that part ends.
+    pub end: usize,
+    /// The rule that it is about (`Diagnostic.code`).
+    pub code: &'static str,
+    pub severity: Severity,
+    pub message: String,
+    /// The byte offset of a brace that is never closed, where that is what is wrong.
+    pub open_brace: Option<usize>,
+}
+
+/// Has the first of some diagnostics name a brace that is never closed, by its byte offset, or none.
+pub fn name_brace(diagnostics: &mut [Diagnostic], brace: Option<usize>)
+    ensures { map as_diagnosis diagnostics.new ≡ with_brace brace (map as_diagnosis diagnostics.old) }
 {
-    pieces.extend_from_slice(&[Piece::Object, Piece::Key("range")])?;
-    pieces.extend_from_slice(&positions.range(remark.start, remark.end))?;
-    pieces.extend_from_slice(&remark_words(remark))?;
-    push_end(pieces, uri, positions, remark.open_brace)?;
-    Ok(())
+    if !diagnostics.is_empty() {
+        diagnostics[0].open_brace = brace;
+    }
 }

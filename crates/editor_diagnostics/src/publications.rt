@@ -1,19 +1,19 @@
-// The notice of the remarks on a document to a client.
+// The notification of the diagnostics on a document to a client.
 ghost use Rattle.std.specs.Prelude.{◌≡◌, ◌++◌, ◌∷◌, [], IfOk, OnOk, None, flat_map, map};
 ghost use Rattle.json.specs.Json.{Members, object};
 ghost use Rattle.json.specs.Token.{end_array, end_object};
 ghost use Rattle.json.specs.Tree.{json_tokens};
 ghost use Rattle.rpc_messages.specs.Answers.{AreOfObject};
-ghost use Rattle.rpc_messages.specs.Messages.{IsNotice, IsNoticeOf};
+ghost use Rattle.rpc_messages.specs.Messages.{IsNotification, IsNotificationOf};
 ghost use Rattle.rpc_messages.specs.Pieces.{tokens_of};
-ghost use Rattle.editor_diagnostics.specs.Publication.{IsNoticeAbout, IsPublication, method};
-ghost use Rattle.editor_diagnostics.specs.Remarks.{as_remarked};
-ghost use Rattle.editor_diagnostics.specs.Tokens.{front_tokens, tokens_of_remarks};
+ghost use Rattle.editor_diagnostics.specs.Publication.{IsNotificationAbout, IsPublication, method};
+ghost use Rattle.editor_diagnostics.specs.Diagnostics.{as_diagnosis};
+ghost use Rattle.editor_diagnostics.specs.Tokens.{front_tokens, tokens_of_diagnostics};
 
-use crate::diagnostic::push_remark;
+use crate::diagnostic::Diagnostic;
+use crate::diagnostic_pieces::push_diagnostic;
 use crate::positions::Positions;
-use crate::remark::Remark;
-use rpc_messages::{Piece, notice};
+use rpc_messages::{Piece, notification};
 use std::alloc::{AllocError, Global};
 
 const METHOD: &str = "textDocument/publishDiagnostics";
@@ -47,61 +47,62 @@ fn push_front<'p>(
     }
 }
 
-// Adds the diagnostics of remarks.
-fn push_remarks<'p>(
+// Adds the pieces of some diagnostics.
+fn push_diagnostics<'p>(
     pieces: &mut Vec<Piece<'p>>,
     uri: &'p str,
     positions: &Positions<'_>,
-    remarks: &'p [Remark],
+    diagnostics: &'p [Diagnostic],
 ) -> Result<(), AllocError>
     ensures { OnOk result (flat_map tokens_of pieces.new.items ≡ flat_map tokens_of pieces.old.items
-        ++ tokens_of_remarks uri.now positions.now.encoding positions.now.text.now remarks.now) }
+        ++ tokens_of_diagnostics uri.now positions.now.encoding positions.now.text.now diagnostics.now) }
 {
-    for remark in remarks {
-        push_remark(pieces, uri, positions, remark)?;
+    for diagnostic in diagnostics {
+        push_diagnostic(pieces, uri, positions, diagnostic)?;
     }
     Ok(())
 }
 
-// Ends the parameters, and gives the notice.
+// Ends the parameters, and gives the notification.
 fn end(alloc: Global, pieces: &mut Vec<Piece<'_>>) -> Result<Vec<u8>, AllocError>
     requires { AreOfObject (flat_map tokens_of pieces.old.items ++ end_array ∷ end_object ∷ []) }
     ensures params { IfOk result
         (λ body. (members : Members)
         → flat_map tokens_of pieces.old.items ++ end_array ∷ end_object ∷ [] ≡ json_tokens (object members)
-        → IsNoticeOf method members body.items) }
-    ensures notifies { IfOk result (λ body. IsNotice body.items) }
+        → IsNotificationOf method members body.items) }
+    ensures notifies { IfOk result (λ body. IsNotification body.items) }
 {
     pieces.extend_from_slice(&[Piece::EndArray, Piece::EndObject])?;
-    notice(alloc, METHOD, pieces.as_slice())
+    notification(alloc, METHOD, pieces.as_slice())
 }
 
-/// The notice of the remarks on a document with this name, version and text. It fails only where memory is refused.
+/// The notification of the diagnostics on a document with this name, version and text. It fails only where memory is
+/// refused.
 pub fn publication(
     alloc: Global,
     uri: &str,
     version: Option<i64>,
     positions: &Positions<'_>,
-    remarks: &[Remark],
+    diagnostics: &[Diagnostic],
 ) -> Result<Vec<u8>, AllocError>
-    ensures notifies { IfOk result (λ body. IsNotice body.items) }
+    ensures notifies { IfOk result (λ body. IsNotification body.items) }
     ensures published { IfOk result
         (λ body. IsPublication uri.now version positions.now.encoding positions.now.text.now
-        (map as_remarked remarks.now)
+        (map as_diagnosis diagnostics.now)
         body.items) }
 {
     let mut pieces = Vec::new(alloc);
     push_front(&mut pieces, uri, version)?;
     // a slice of its own, since no more than two lifetimes of the signature may meet in the pieces
-    push_remarks(&mut pieces, uri, positions, &remarks[..])?;
+    push_diagnostics(&mut pieces, uri, positions, &diagnostics[..])?;
     let body = end(alloc, &mut pieces)?;
     Ok(body)
 }
 
-/// The notice that takes all remarks on a document back. It fails only where memory is refused.
+/// The notification that takes all diagnostics on a document back. It fails only where memory is refused.
 pub fn withdrawal(alloc: Global, uri: &str) -> Result<Vec<u8>, AllocError>
-    ensures notifies { IfOk result (λ body. IsNotice body.items) }
-    ensures withdrawn { IfOk result (λ body. IsNoticeAbout uri.now None [] body.items) }
+    ensures notifies { IfOk result (λ body. IsNotification body.items) }
+    ensures withdrawn { IfOk result (λ body. IsNotificationAbout uri.now None [] body.items) }
 {
     let mut pieces = Vec::new(alloc);
     push_front(&mut pieces, uri, None)?;

@@ -1,20 +1,20 @@
-// Syntax errors as remarks.
+// Syntax errors as diagnostics.
 ghost use Rattle.std.specs.Prelude.{◌≡◌, ◌++◌, IfOk, OnOk, length, map, not, string_bytes, take_while};
 ghost use Rattle.lexical_grammar.specs.Characters.{is_line_terminator};
-ghost use Rattle.editor_diagnostics.specs.Remarks.{as_remarked};
+ghost use Rattle.editor_diagnostics.specs.Diagnostics.{as_diagnosis};
 ghost use Rattle.first_errors.specs.Groups.{group_of, groups, is_earlier};
-ghost use Rattle.editor_diagnostics.specs.Syntax.{IsAboutFirst, as_group, mark_end, more_remarks, noun_of};
-ghost use Rattle.editor_diagnostics.specs.Syntax.{others_words, syntax_remark, syntax_remarks, words_for};
+ghost use Rattle.editor_diagnostics.specs.Syntax.{IsAboutFirst, as_group, mark_end, more_diagnostics, noun_of};
+ghost use Rattle.editor_diagnostics.specs.Syntax.{others_words, syntax_diagnostic, syntax_diagnostics, words_for};
 
+use crate::diagnostic::{Diagnostic, Severity};
 use crate::message_words::words_for;
-use crate::remark::{Remark, Severity};
 use apollo_lexer::Error;
 use std::alloc::{AllocError, Global};
 
-// How many remarks on syntax errors of a document a client gets.
+// How many diagnostics on syntax errors of a document a client gets.
 const MOST: usize = 100;
 
-// The rule that these remarks are about.
+// The rule that these diagnostics are about.
 const SYNTAX: &str = "syntax";
 
 // The first of some errors, and how many others there are.
@@ -116,10 +116,10 @@ fn message_of(alloc: Global, group: &ErrorGroup<'_>) -> Result<String, AllocErro
     Ok(text)
 }
 
-fn remark_of(alloc: Global, group: &ErrorGroup<'_>) -> Result<Remark, AllocError>
-    ensures { IfOk result (λ remark. as_remarked remark ≡ syntax_remark (as_group group.now)) }
+fn diagnostic_of(alloc: Global, group: &ErrorGroup<'_>) -> Result<Diagnostic, AllocError>
+    ensures { IfOk result (λ diagnostic. as_diagnosis diagnostic ≡ syntax_diagnostic (as_group group.now)) }
 {
-    Ok(Remark {
+    Ok(Diagnostic {
         start: group.first.index(),
         end: end_of(group.first),
         code: SYNTAX,
@@ -129,26 +129,27 @@ fn remark_of(alloc: Global, group: &ErrorGroup<'_>) -> Result<Remark, AllocError
     })
 }
 
-fn remarks_of(alloc: Global, groups: &[ErrorGroup<'_>]) -> Result<Vec<Remark>, AllocError>
-    ensures { IfOk result (λ found. map as_remarked found.items ≡ map syntax_remark (map as_group groups.now)) }
+fn diagnostics_of(alloc: Global, groups: &[ErrorGroup<'_>]) -> Result<Vec<Diagnostic>, AllocError>
+    ensures { IfOk result (λ found. map as_diagnosis found.items ≡ map syntax_diagnostic (map as_group groups.now)) }
 {
     let mut found = Vec::new(alloc);
     for group in groups {
-        found.push(remark_of(alloc, group)?)?;
+        found.push(diagnostic_of(alloc, group)?)?;
     }
     Ok(found)
 }
 
-// Adds how many more remarks there would be, unless there are none.
-fn push_more(alloc: Global, found: &mut Vec<Remark>, more: usize) -> Result<(), AllocError>
-    ensures { OnOk result (map as_remarked found.new.items ≡ map as_remarked found.old.items ++ more_remarks more) }
+// Adds how many more diagnostics there would be, unless there are none.
+fn push_more(alloc: Global, found: &mut Vec<Diagnostic>, more: usize) -> Result<(), AllocError>
+    ensures { OnOk result (map as_diagnosis found.new.items
+        ≡ map as_diagnosis found.old.items ++ more_diagnostics more) }
 {
     if more == 0 {
         return Ok(());
     }
     let noun = noun_for(more);
     let message = format!(in alloc; "{more} more {noun}")?;
-    found.push(Remark {
+    found.push(Diagnostic {
         start: 0,
         end: 0,
         code: SYNTAX,
@@ -159,21 +160,22 @@ fn push_more(alloc: Global, found: &mut Vec<Remark>, more: usize) -> Result<(), 
     Ok(())
 }
 
-/// The remarks on syntax errors of a document, whose definitions begin at some byte offsets: one for each definition
-/// that has errors, about the first of them, with the number of the others; of a hundred definitions, and then one that
-/// says how many more have errors. It fails only where memory is refused.
-pub fn syntax_remarks(
+/// The diagnostics on syntax errors of a document, whose definitions begin at some byte offsets: one for each
+/// definition that has errors, about the first of them, with the number of the others; of a hundred definitions, and
+/// then one that says how many more have errors. It fails only where memory is refused.
+pub fn syntax_diagnostics(
     alloc: Global,
     starts: &[usize],
     errors: &[Error],
-) -> Result<Vec<Remark>, AllocError>
-    ensures remarks { IfOk result (λ found. map as_remarked found.items ≡ syntax_remarks starts.now errors.now) }
-    ensures first { IfOk result (λ found. IsAboutFirst errors.now (map as_remarked found.items)) }
+) -> Result<Vec<Diagnostic>, AllocError>
+    ensures diagnostics { IfOk result
+        (λ found. map as_diagnosis found.items ≡ syntax_diagnostics starts.now errors.now) }
+    ensures first { IfOk result (λ found. IsAboutFirst errors.now (map as_diagnosis found.items)) }
 {
     let groups = groups(alloc, starts, errors)?;
     let groups = groups.as_slice();
     let most = MOST.min(groups.len());
-    let mut found = remarks_of(alloc, &groups[..most])?;
+    let mut found = diagnostics_of(alloc, &groups[..most])?;
     push_more(alloc, &mut found, groups.len() - most)?;
     Ok(found)
 }

@@ -1,4 +1,4 @@
 pub mod Braces
 pub mod Fragments
 pub mod Mending
-pub mod Remarks
+pub mod Diagnostics

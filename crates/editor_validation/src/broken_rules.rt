@@ -1,19 +1,19 @@
-// Broken rules as remarks on a document.
+// Broken rules as diagnostics on a document.
 ghost use Rattle.std.specs.Prelude.{◌≡◌, IfOk, map};
 ghost use Rattle.apollo_tree.specs.References.{node_place};
 ghost use Rattle.validation_rules.specs.Violations.{as_breach};
-ghost use Rattle.editor_diagnostics.specs.Remarks.{as_remarked};
+ghost use Rattle.editor_diagnostics.specs.Diagnostics.{as_diagnosis};
 ghost use Rattle.editor_validation.specs.Fragments.{as_fragments};
-ghost use Rattle.editor_validation.specs.Remarks.{AreRemarks, marked, names, remark_of, severity_of};
+ghost use Rattle.editor_validation.specs.Diagnostics.{AreDiagnostics, marked, names, diagnostic_of, severity_of};
 
 use crate::fragments::FragmentNames;
 use crate::other_documents::unmended;
 use apollo_tree::{SyntaxKind, SyntaxNode};
 use document_validation::{Rule, Violation, message, validate};
-use editor_diagnostics::{Remark, Severity};
+use editor_diagnostics::{Diagnostic, Severity};
 use std::alloc::{AllocError, Global};
 
-// How many remarks on a document a client gets.
+// How many diagnostics on a document a client gets.
 const MOST: usize = 100;
 
 // Among how many violations those are that no other document mends.
@@ -57,11 +57,11 @@ fn marked<'t>(node: &SyntaxNode<'t>) -> SyntaxNode<'t>
     *node
 }
 
-fn remark_of(alloc: Global, violation: &Violation<'_>) -> Result<Remark, AllocError>
-    ensures { IfOk result (λ remark. as_remarked remark ≡ remark_of (as_breach violation.now)) }
+fn diagnostic_of(alloc: Global, violation: &Violation<'_>) -> Result<Diagnostic, AllocError>
+    ensures { IfOk result (λ diagnostic. as_diagnosis diagnostic ≡ diagnostic_of (as_breach violation.now)) }
 {
     let range = marked(&violation.site.node).text_range();
-    Ok(Remark {
+    Ok(Diagnostic {
         start: range.start(),
         end: range.end(),
         code: violation.rule.name(),
@@ -71,29 +71,33 @@ fn remark_of(alloc: Global, violation: &Violation<'_>) -> Result<Remark, AllocEr
     })
 }
 
-fn remarks_of(alloc: Global, violations: &[Violation<'_>]) -> Result<Vec<Remark>, AllocError>
-    ensures { IfOk result (λ found. map as_remarked found.items ≡ map remark_of (map as_breach violations.now)) }
+fn diagnostics_of(
+    alloc: Global,
+    violations: &[Violation<'_>],
+) -> Result<Vec<Diagnostic>, AllocError>
+    ensures { IfOk result (λ found. map as_diagnosis found.items ≡ map diagnostic_of (map as_breach violations.now)) }
 {
     let mut found = Vec::new(alloc);
     for violation in violations {
-        found.push(remark_of(alloc, violation)?)?;
+        found.push(diagnostic_of(alloc, violation)?)?;
     }
     Ok(found)
 }
 
-/// One remark for each place at which a document breaks a rule of validation and no other document mends that, by the
-/// root of its tree and the fragments of the others; at most a hundred of them. It fails only where memory is refused.
-pub(crate) fn rule_remarks<'t>(
+/// One diagnostic for each place at which a document breaks a rule of validation and no other document mends that, by
+/// the root of its tree and the fragments of the others; at most a hundred of them. It fails only where memory is
+/// refused.
+pub(crate) fn rule_diagnostics<'t>(
     alloc: Global,
     document: &SyntaxNode<'t>,
     others: &[&'t FragmentNames],
-) -> Result<Vec<Remark>, AllocError>
-    ensures { IfOk result (λ found. AreRemarks (map (λ f. as_fragments f.now) others.now) (node_place document.now)
-        (map as_remarked found.items)) }
+) -> Result<Vec<Diagnostic>, AllocError>
+    ensures { IfOk result (λ found. AreDiagnostics (map (λ f. as_fragments f.now) others.now) (node_place document.now)
+        (map as_diagnosis found.items)) }
 {
     let violations = validate(alloc, &[*document], MOST_VIOLATIONS)?;
     let mut kept = unmended(alloc, violations.as_slice(), others)?;
     kept.truncate(MOST);
-    let found = remarks_of(alloc, kept.as_slice())?;
+    let found = diagnostics_of(alloc, kept.as_slice())?;
     Ok(found)
 }

@@ -11,5 +11,5 @@ pub mod Messages
 pub mod Numbers
 pub mod Others
 pub mod Own
-pub mod SameNotice
+pub mod SameNotification
 pub mod Texts

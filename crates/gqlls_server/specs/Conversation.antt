@@ -6,8 +6,8 @@ use Rattle.json.specs.Json.{Json}
 use Rattle.line_index.specs.declared.PositionEncoding.TheVariants.{Utf8}
 use Rattle.rpc_messages.specs.Messages.{IsResult}
 use Rattle.rpc_messages.specs.declared.reply.Reply.{Reply}
-use Rattle.rpc_messages.specs.declared.reply.Reply.TheVariants.{Nothing, Answer, Notice, Request, Exit}
-use Rattle.editor_diagnostics.specs.Publication.{IsNoticeAbout}
+use Rattle.rpc_messages.specs.declared.reply.Reply.TheVariants.{Nothing, Answer, Notification, Request, Exit}
+use Rattle.editor_diagnostics.specs.Publication.{IsNotificationAbout}
 use Rattle.editor_validation.specs.Fragments.{Fragments}
 use Rattle.gqlls_server.specs.Announcement.{IsAnnounced}
 use Rattle.gqlls_server.specs.Diagnostics.{IsDiagnosticsNotification, Notifies}
@@ -27,7 +27,7 @@ use Rattle.gqlls_server.specs.declared.server.Stage.TheVariants.{New, Running, S
 abbrev pub Answers : (List ℕ → Type 0) → Reply → Type 0
 Answers IsSuch Nothing = ⊥
 Answers IsSuch (Answer body) = IsSuch body.items
-Answers IsSuch (Notice body) = ⊥
+Answers IsSuch (Notification body) = ⊥
 Answers IsSuch (Request body) = ⊥
 Answers IsSuch (Exit status) = ⊥
 
@@ -108,7 +108,7 @@ pub record IsIgnored (reply : Reply) (old new : Dialogue) : Type 0 where
 abbrev pub Requests : (List ℕ → Type 0) → Reply → Type 0
 Requests IsSuch Nothing = ⊥
 Requests IsSuch (Answer body) = ⊥
-Requests IsSuch (Notice body) = ⊥
+Requests IsSuch (Notification body) = ⊥
 Requests IsSuch (Request body) = IsSuch body.items
 Requests IsSuch (Exit status) = ⊥
 
@@ -157,7 +157,7 @@ Changes params reply old new =
 -- a document isn't open any more, and its errors are taken back
 pub record Withdraws (uri : List ℕ) (reply : Reply) (old new : Dialogue) : Type 0 where
   pub sets : Sets uri None None old new
-  pub notification : Notifies (IsNoticeAbout uri None []) reply
+  pub notification : Notifies (IsNotificationAbout uri None []) reply
 
 -- `textDocument/didClose`: where the document isn't open, the message is ignored
 abbrev pub Closes : Json → Reply → Dialogue → Dialogue → Type 0

@@ -5,10 +5,10 @@ ghost use Rattle.std.specs.BTreeMap.{IsOrdered, get_by_text, values};
 ghost use Rattle.std.specs.BTreeSet.{contains_text};
 ghost use Rattle.std.specs.String.{string_cmp};
 ghost use Rattle.apollo_tree.specs.References.{node_place};
-ghost use Rattle.editor_diagnostics.specs.Remarks.{as_remarked};
+ghost use Rattle.editor_diagnostics.specs.Diagnostics.{as_diagnosis};
 ghost use Rattle.editor_validation.specs.Fragments.{Fragments, as_fragments};
 ghost use Rattle.formatter.specs.Comments.{HasNoDefinitions};
-ghost use Rattle.rpc_messages.specs.Messages.{IsNotice};
+ghost use Rattle.rpc_messages.specs.Messages.{IsNotification};
 ghost use Rattle.gqlls_server.specs.Parameters.{client_edit};
 ghost use Rattle.gqlls_server.specs.Dialogue.{IsChanged, Updates};
 ghost use Rattle.gqlls_server.specs.Files.{IsSource};
@@ -16,12 +16,12 @@ ghost use Rattle.gqlls_server.specs.Parsing.{IsMended, IsParse, IsParsed};
 ghost use Rattle.gqlls_server.specs.Renaming.{AreKnown, AreParsed, KnownFile};
 ghost use Rattle.gqlls_server.specs.State.{AreBeside, entries_beside, entries_that, entry_of, file_of, files, is_of};
 ghost use Rattle.gqlls_server.specs.State.{is_other, is_own, is_stored, known_of, names_in, names_of};
-ghost use Rattle.gqlls_server.specs.Diagnostics.{AreRemarksOf, IsDiagnosticsNotification};
+ghost use Rattle.gqlls_server.specs.Diagnostics.{AreDiagnosticsOf, IsDiagnosticsNotification};
 
 use apollo_parser::{DocumentRoot, Limits, Parser, SyntaxNode, SyntaxTree};
-use editor_diagnostics::{Positions, Remark, publication};
+use editor_diagnostics::{Diagnostic, Positions, publication};
 use editor_text::{Change, OpenDocument, closed};
-use editor_validation::{FragmentNames, fragment_names, remarks};
+use editor_validation::{FragmentNames, diagnostics, fragment_names};
 use embedded_documents::{HostLanguage, is_in_document, masked};
 use file_uris::normalized;
 use formatter::has_no_definitions;
@@ -214,26 +214,26 @@ impl Document {
         source_in(&self.content, &self.masked)
     }
 
-    // The remarks on it, by the fragments of the other documents: none where it has no definitions. Where the client
-    // takes related information, the first one may name a brace.
-    fn remarks<'a>(
+    // The diagnostics on it, by the fragments of the other documents: none where it has no definitions. Where the
+    // client takes related information, the first one may name a brace.
+    fn diagnostics<'a>(
         &'a self,
         alloc: Global,
         others: &[&'a FragmentNames],
         takes_related: bool,
-    ) -> Result<Vec<Remark>, AllocError>
+    ) -> Result<Vec<Diagnostic>, AllocError>
         ensures said { IfOk result
             (λ found. (¬ HasNoDefinitions self.now.source)
-            → AreRemarksOf takes_related (map (λ f. as_fragments f.now) others.now) self.now.parsed
-            (map as_remarked found.items)) }
-        ensures silent { IfOk result (λ found. HasNoDefinitions self.now.source → map as_remarked found.items ≡ []) }
+            → AreDiagnosticsOf takes_related (map (λ f. as_fragments f.now) others.now) self.now.parsed
+            (map as_diagnosis found.items)) }
+        ensures silent { IfOk result (λ found. HasNoDefinitions self.now.source → map as_diagnosis found.items ≡ []) }
         ensures parsed { IfOk result (λ found. IsParsed self.now) }
     {
         let root = self.tree.root();
         if has_no_definitions(self.source()) {
             return Ok(Vec::new(alloc));
         }
-        let found = remarks(
+        let found = diagnostics(
             alloc,
             &root,
             self.tree.errors().as_slice(),
@@ -243,8 +243,8 @@ impl Document {
         Ok(found)
     }
 
-    /// The notice of the remarks on it, by its name, the version that the client gave it, the fragments of the other
-    /// documents, and whether the client takes related information.
+    /// The notification of the diagnostics on it, by its name, the version that the client gave it, the fragments of
+    /// the other documents, and whether the client takes related information.
     pub(crate) fn notification<'a>(
         &'a self,
         alloc: Global,
@@ -253,14 +253,14 @@ impl Document {
         others: &[&'a FragmentNames],
         takes_related: bool,
     ) -> Result<Vec<u8>, AllocError>
-        ensures notifies { IfOk result (λ body. IsNotice body.items) }
+        ensures notifies { IfOk result (λ body. IsNotification body.items) }
         ensures published { IfOk result
             (λ body. IsDiagnosticsNotification takes_related uri.now version self.now.file self.now.fragments
             (map (λ f. as_fragments f.now) others.now) body.items) }
     {
         let positions = self.positions(alloc)?;
-        let remarks = self.remarks(alloc, others, takes_related)?;
-        let body = publication(alloc, uri, version, &positions, remarks.as_slice())?;
+        let diagnostics = self.diagnostics(alloc, others, takes_related)?;
+        let body = publication(alloc, uri, version, &positions, diagnostics.as_slice())?;
         Ok(body)
     }
 
@@ -465,8 +465,8 @@ fn file_fragments<'d>(
     Ok(found)
 }
 
-/// The notice of the remarks on a document beside others, by its name, the version that the client gave it, and whether
-/// the client takes related information.
+/// The notification of the diagnostics on a document beside others, by its name, the version that the client gave it,
+/// and whether the client takes related information.
 pub(crate) fn diagnostics_notification(
     alloc: Global,
     others: Documents<'_>,
@@ -475,7 +475,7 @@ pub(crate) fn diagnostics_notification(
     version: Option<i64>,
     takes_related: bool,
 ) -> Result<Vec<u8>, AllocError>
-    ensures notifies { IfOk result (λ body. IsNotice body.items) }
+    ensures notifies { IfOk result (λ body. IsNotification body.items) }
     ensures published { IfOk result (λ body. (names : List Fragments)
         × AreBeside (names_in others.entry.opened.now) (names_in others.entry.files.now)
         (is_own uri.now others.entry.opened.now) names

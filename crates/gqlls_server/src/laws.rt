@@ -10,10 +10,10 @@ ghost use Rattle.gqlls_server.specs.Diagnostics.{IsDiagnosticsNotification};
 /// What is published of a GraphQL document depends on its text, its limits, which fragments the other documents have,
 /// how the client counts columns, and whether it takes related information. It does not depend on how the text came
 /// about, by one change or by many, nor on the order of the other documents. Two conversations that agree in these
-/// publish the same remarks.
+/// publish the same diagnostics.
 ///
-/// Left out are texts without definitions, of which nothing is remarked.
-pub fn same_notice()
+/// Left out are texts without definitions, of which nothing is marked.
+pub fn same_notification()
     ensures { (takes_related : Bool) (uri : List ℕ) (version : Option ℤ) (file : OpenFile)
         (fragments same_fragments : Fragments) (others same : List Fragments)
         (first second : List ℕ) → file.host ≡ None → (¬ HasNoDefinitions file.content.text)

@@ -241,7 +241,7 @@ impl Server {
             self.takes_related,
         )?;
         insert(alloc, &mut self.documents, uri, document)?;
-        Ok(Reply::Notice(notification))
+        Ok(Reply::Notification(notification))
     }
 
     // Opens a document, and publishes its errors.
@@ -297,7 +297,7 @@ impl Server {
             return Ok(Reply::Nothing);
         }
         let notification = withdrawal(alloc, uri)?;
-        Ok(Reply::Notice(notification))
+        Ok(Reply::Notification(notification))
     }
 
     // What a notification brings about.

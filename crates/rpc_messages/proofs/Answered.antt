@@ -9,9 +9,11 @@ use Rattle.json.specs.Json.{Json, Members}
 use Rattle.json.specs.Token.{Token, end_object}
 use Rattle.json.specs.Tree.{json_tokens}
 use Rattle.rpc_messages.proofs.Nested.{after_both, nests, value_of}
-use Rattle.rpc_messages.specs.Answers.{AreOfObject, HasTokens, IsAnswerOf, answer_front, error_member, notice_front}
+use Rattle.rpc_messages.specs.Answers.{AreOfObject, HasTokens, IsAnswerOf, answer_front, error_member}
+use Rattle.rpc_messages.specs.Answers.{notification_front}
 use Rattle.rpc_messages.specs.Answers.{request_front, response_front}
-use Rattle.rpc_messages.specs.Messages.{IsAnswer, IsError, IsNotice, IsNoticeOf, IsRequest, IsRequestOf, IsResult}
+use Rattle.rpc_messages.specs.Messages.{IsAnswer, IsError, IsNotification, IsNotificationOf, IsRequest, IsRequestOf}
+use Rattle.rpc_messages.specs.Messages.{IsResult}
 use Rattle.rpc_messages.specs.Nesting.{after_all}
 use Rattle.rpc_messages.specs.declared.nesting.Expected.{Expected}
 use Rattle.rpc_messages.specs.declared.nesting.Expected.TheVariants.{Value}
@@ -86,7 +88,7 @@ still_nested old new ts was now added long so_far more =
 pub still_long : (old new ts : List Token) → new ≡ old ++ ts → 6 ≤ length old → 6 ≤ length new
 still_long old new ts added long = omega (arith, ap length added, length-append old ts, long)
 
--- ---- notices and requests
+-- ---- notifications and requests
 
 -- parameters that are those of an object
 as_object : (front ts : List Token) (body : List ℕ) (members : Members) → ts ≡ json_tokens (json.object members)
@@ -94,18 +96,18 @@ as_object : (front ts : List Token) (body : List ℕ) (members : Members) → ts
     → HasTokens (front ++ (json_tokens (json.object members) ++ end_object ∷ [])) body
 as_object front ts body members e h = subst (λ (x : List Token). HasTokens (front ++ (x ++ end_object ∷ [])) body) e h
 
-pub notice_text : (method : List ℕ) (ts : List Token) (body : List ℕ) (members : Members)
+pub notification_text : (method : List ℕ) (ts : List Token) (body : List ℕ) (members : Members)
     → ts ≡ json_tokens (json.object members)
-    → HasTokens (notice_front method ++ (ts ++ end_object ∷ [])) body → IsNoticeOf method members body
-notice_text method ts body members e h =
-    let is = as_object (notice_front method) ts body members e h in
+    → HasTokens (notification_front method ++ (ts ++ end_object ∷ [])) body → IsNotificationOf method members body
+notification_text method ts body members e h =
+    let is = as_object (notification_front method) ts body members e h in
     record { utf8 = is.utf8; is = is.is }
 
 pub notifies : (method : List ℕ) (ts : List Token) (body : List ℕ) → AreOfObject ts
-    → HasTokens (notice_front method ++ (ts ++ end_object ∷ [])) body
-    → IsNotice body
+    → HasTokens (notification_front method ++ (ts ++ end_object ∷ [])) body
+    → IsNotification body
 notifies method ts body o h =
-    record { method = method; params = o.members; notifies = notice_text method ts body o.members o.is h }
+    record { method = method; params = o.members; notifies = notification_text method ts body o.members o.is h }
 
 pub request_text : (id method : List ℕ) (ts : List Token) (body : List ℕ) (members : Members)
     → ts ≡ json_tokens (json.object members)

@@ -31,12 +31,12 @@ error_member code text =
     key (codes "error") ∷ begin_object ∷ key (codes "code") ∷ number (signed_decimal code) ∷ key (codes "message")
     ∷ string text ∷ end_object ∷ []
 
--- the members of a notice or a request up to its parameters
+-- the members of a notification or a request up to its parameters
 abbrev pub call_front : List ℕ → List Token
 call_front method = key (codes "method") ∷ string method ∷ key (codes "params") ∷ []
 
-abbrev pub notice_front : List ℕ → List Token
-notice_front method = begin_object ∷ key (codes "jsonrpc") ∷ string (codes "2.0") ∷ call_front method
+abbrev pub notification_front : List ℕ → List Token
+notification_front method = begin_object ∷ key (codes "jsonrpc") ∷ string (codes "2.0") ∷ call_front method
 
 abbrev pub request_front : List ℕ → List ℕ → List Token
 request_front id method =

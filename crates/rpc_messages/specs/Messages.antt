@@ -1,4 +1,4 @@
--- What has to be answered, and what an answer, a notice and a request of the server are.
+-- What has to be answered, and what an answer, a notification and a request of the server are.
 use Rattle.std.specs.Fmt.{signed_decimal}
 use Rattle.std.specs.Prelude.{◌≡◌, ◌⊎◌, ℕ, ℤ, List, Option, Some, None, codes}
 use Rattle.std.specs.Str.{IsUtf8}
@@ -42,7 +42,7 @@ IsExit message = (get (codes "id") message ≡ None) × (get (codes "method") me
 abbrev pub AsksForEnd : List ℕ → Type 0
 AsksForEnd body = (message : Json) × IsJson body message × IsExit message
 
--- ---- answers, notices and requests
+-- ---- answers, notifications and requests
 
 -- the body is JSON text of this value, however deep it nests
 pub record IsTextOf (value : Json) (body : List ℕ) : Type 0 where
@@ -89,9 +89,9 @@ notification method params =
     object (member (codes "jsonrpc") (string (codes "2.0"))
     (member (codes "method") (string method) (member (codes "params") (object params) no_members)))
 
--- the body is a notice of this method with these parameters
-abbrev pub IsNoticeOf : List ℕ → Members → List ℕ → Type 0
-IsNoticeOf method params body = IsTextOf (notification method params) body
+-- the body is a notification of this method with these parameters
+abbrev pub IsNotificationOf : List ℕ → Members → List ℕ → Type 0
+IsNotificationOf method params body = IsTextOf (notification method params) body
 
 -- a request (section 4) with an id that is a text: the same with this id
 abbrev pub request : List ℕ → List ℕ → Members → Json
@@ -111,8 +111,8 @@ pub record IsRequest (body : List ℕ) : Type 0 where
   pub params : Members
   pub requests : IsRequestOf id method params body
 
--- the body is a notice, and no answer
-pub record IsNotice (body : List ℕ) : Type 0 where
+-- the body is a notification, and no answer
+pub record IsNotification (body : List ℕ) : Type 0 where
   pub method : List ℕ
   pub params : Members
-  pub notifies : IsNoticeOf method params body
+  pub notifies : IsNotificationOf method params body

@@ -5,7 +5,7 @@ use Rattle.json.specs.Find.{as_str, get}
 use Rattle.json.specs.Json.{Json, null}
 use Rattle.rpc_messages.specs.Messages.{IsError, IsJson, IsNoJson}
 use Rattle.rpc_messages.specs.declared.reply.Reply.{Reply}
-use Rattle.rpc_messages.specs.declared.reply.Reply.TheVariants.{Nothing, Answer, Notice, Request, Exit}
+use Rattle.rpc_messages.specs.declared.reply.Reply.TheVariants.{Nothing, Answer, Notification, Request, Exit}
 
 -- the parameters of a message: null where it has none
 abbrev pub params_of : Json → Json
@@ -19,7 +19,7 @@ method_of method = unwrap_or (as_str method) (codes "")
 abbrev pub IsRefusal : ℤ → Reply → Type 0
 IsRefusal code Nothing = ⊥
 IsRefusal code (Answer body) = (text : List ℕ) × IsError null code text body.items
-IsRefusal code (Notice body) = ⊥
+IsRefusal code (Notification body) = ⊥
 IsRefusal code (Request body) = ⊥
 IsRefusal code (Exit status) = ⊥
 

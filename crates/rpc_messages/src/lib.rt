@@ -1,5 +1,5 @@
 //! The messages of JSON-RPC 2.0, as the Language Server Protocol uses them: what has to be answered, and how answers,
-//! notices and requests are written.
+//! notifications and requests are written.
 //!
 //! `handle` reads the body of a message, and has a `Service` answer it. A request gets exactly one answer: an object
 //! with its id and either a result or an error. What is no message, and a body that is not read as JSON, is refused
@@ -15,7 +15,7 @@ mod pieces;
 mod reply;
 mod service;
 
-pub use message::{LongAnswer, answer, code, notice, refusal, request};
+pub use message::{LongAnswer, answer, code, notification, refusal, request};
 pub use pieces::Piece;
 pub use reply::Reply;
 pub use service::{Service, handle};

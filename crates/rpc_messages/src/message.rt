@@ -5,8 +5,9 @@ ghost use Rattle.json.specs.Token.{end_object};
 ghost use Rattle.json.specs.Tree.{HasNumbers, json_tokens};
 ghost use Rattle.json.specs.Value.{value_view};
 ghost use Rattle.rpc_messages.specs.Answers.{AreOfObject, HasTokens, IsAnswerOf, call_front, error_member, id_token};
-ghost use Rattle.rpc_messages.specs.Answers.{notice_front, request_front, response_front};
-ghost use Rattle.rpc_messages.specs.Messages.{IsAnswer, IsError, IsNotice, IsNoticeOf, IsRequest, IsRequestOf};
+ghost use Rattle.rpc_messages.specs.Answers.{notification_front, request_front, response_front};
+ghost use Rattle.rpc_messages.specs.Messages.{IsAnswer, IsError, IsNotification, IsNotificationOf, IsRequest};
+ghost use Rattle.rpc_messages.specs.Messages.{IsRequestOf};
 ghost use Rattle.rpc_messages.specs.Pieces.{Adds, tokens_of};
 
 use crate::nesting::Nesting;
@@ -206,10 +207,14 @@ fn put_call(out: &mut Writer, method: &str, params: &[Piece<'_>]) -> Result<(), 
     put_all(out, params)
 }
 
-// The body of a notice.
-fn notice_body(alloc: Global, method: &str, params: &[Piece<'_>]) -> Result<Vec<u8>, AllocError>
+// The body of a notification.
+fn notification_body(
+    alloc: Global,
+    method: &str,
+    params: &[Piece<'_>],
+) -> Result<Vec<u8>, AllocError>
     ensures { IfOk result (λ body. HasTokens
-        (notice_front method.now ++ (flat_map tokens_of params.now ++ end_object ∷ [])) body.items) }
+        (notification_front method.now ++ (flat_map tokens_of params.now ++ end_object ∷ [])) body.items) }
 {
     let mut out = Writer::new(Vec::new(alloc));
     put_all(
@@ -245,16 +250,20 @@ fn request_body(
     end(out)
 }
 
-/// A notice of the server: a method, and the pieces of its parameters, which are an object. It fails only where memory
-/// is refused.
-pub fn notice(alloc: Global, method: &str, params: &[Piece<'_>]) -> Result<Vec<u8>, AllocError>
+/// A notification of the server: a method, and the pieces of its parameters, which are an object. It fails only where
+/// memory is refused.
+pub fn notification(
+    alloc: Global,
+    method: &str,
+    params: &[Piece<'_>],
+) -> Result<Vec<u8>, AllocError>
     requires { AreOfObject (flat_map tokens_of params.now) }
     ensures params { IfOk result
         (λ body. (members : Members) → flat_map tokens_of params.now ≡ json_tokens (object members)
-        → IsNoticeOf method.now members body.items) }
-    ensures notifies { IfOk result (λ body. IsNotice body.items) }
+        → IsNotificationOf method.now members body.items) }
+    ensures notifies { IfOk result (λ body. IsNotification body.items) }
 {
-    let body = notice_body(alloc, method, params)?;
+    let body = notification_body(alloc, method, params)?;
     Ok(body)
 }
 

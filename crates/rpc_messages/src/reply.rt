@@ -8,7 +8,7 @@ pub enum Reply {
     /// It answers a request, or refuses a message, with this body.
     Answer(Vec<u8>),
     /// It tells the client something by itself, with this body.
-    Notice(Vec<u8>),
+    Notification(Vec<u8>),
     /// It asks the client for something, with this body.
     Request(Vec<u8>),
     /// It ends, with this exit status.

@@ -7,7 +7,7 @@ use Rattle.json.specs.Json.{Json}
 use Rattle.rpc_messages.specs.Messages.{Asks, AsksForEnd}
 use Rattle.rpc_messages.specs.Replies.{EndsOnlyIf, Replies}
 use Rattle.rpc_messages.specs.declared.reply.Reply.{Reply}
-use Rattle.rpc_messages.specs.declared.reply.Reply.TheVariants.{Nothing, Answer, Notice, Request, Exit}
+use Rattle.rpc_messages.specs.declared.reply.Reply.TheVariants.{Nothing, Answer, Notification, Request, Exit}
 use Rattle.rpc_serving.specs.Exchange.{Exchange, waits, replied, ended, passed_over, said_for, status_of}
 use Rattle.rpc_serving.specs.Frames.{BeginsWithFrame, HasNoFrame, IsSkipped, NeverHasFrame}
 
@@ -22,7 +22,7 @@ asks_for_end : (asks : Type 0) (reply : Reply) (status : ℕ) → EndsOnlyIf ask
     → status_of reply ≡ Some status → asks
 asks_for_end asks Nothing status h some = absurd (none-some status some)
 asks_for_end asks (Answer body) status h some = absurd (none-some status some)
-asks_for_end asks (Notice body) status h some = absurd (none-some status some)
+asks_for_end asks (Notification body) status h some = absurd (none-some status some)
 asks_for_end asks (Request body) status h some = absurd (none-some status some)
 asks_for_end asks (Exit code) status h some = h
 

@@ -4,14 +4,14 @@ use Rattle.json.specs.Json.{Json}
 use Rattle.rpc_messages.specs.Messages.{Asks, AsksForEnd}
 use Rattle.rpc_messages.specs.Replies.{Replies}
 use Rattle.rpc_messages.specs.declared.reply.Reply.{Reply}
-use Rattle.rpc_messages.specs.declared.reply.Reply.TheVariants.{Nothing, Answer, Notice, Request, Exit}
+use Rattle.rpc_messages.specs.declared.reply.Reply.TheVariants.{Nothing, Answer, Notification, Request, Exit}
 use Rattle.rpc_serving.specs.Frames.{BeginsWithFrame, HasNoFrame, NeverHasFrame, frame_of}
 
 -- what is said for a reply: one frame, or nothing
 abbrev pub said_for : Reply → List ℕ
 said_for Nothing = []
 said_for (Answer body) = frame_of body.items
-said_for (Notice body) = frame_of body.items
+said_for (Notification body) = frame_of body.items
 said_for (Request body) = frame_of body.items
 said_for (Exit status) = []
 
@@ -19,7 +19,7 @@ said_for (Exit status) = []
 abbrev pub status_of : Reply → Option ℕ
 status_of Nothing = None
 status_of (Answer body) = None
-status_of (Notice body) = None
+status_of (Notification body) = None
 status_of (Request body) = None
 status_of (Exit status) = Some status
 

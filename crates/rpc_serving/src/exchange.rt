@@ -24,7 +24,7 @@ fn say(alloc: Global, said: &mut Vec<u8>, reply: &Reply) -> Result<Option<u8>, A
     match reply {
         Reply::Nothing => Ok(None),
         Reply::Exit(status) => Ok(Some(*status)),
-        Reply::Answer(body) | Reply::Notice(body) | Reply::Request(body) => {
+        Reply::Answer(body) | Reply::Notification(body) | Reply::Request(body) => {
             put_frame(alloc, said, body.as_slice())?;
             Ok(None)
         }

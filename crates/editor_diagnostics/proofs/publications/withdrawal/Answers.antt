@@ -1,6 +1,6 @@
 use Rattle.std.proofs.Common.{List, [], ◌∷◌, ◌++◌, None, ap, sym, ◌∙◌}
 use Rattle.json.specs.Token.{Token, end_array, end_object}
-use Rattle.editor_diagnostics.proofs.RemarkTokens.{params_tokens}
+use Rattle.editor_diagnostics.proofs.DiagnosticTokens.{params_tokens}
 use Rattle.editor_diagnostics.proofs.publications.withdrawal.Goals as goal
 use Rattle.editor_diagnostics.specs.Publication.{publish_params}
 

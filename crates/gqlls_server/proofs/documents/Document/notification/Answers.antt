@@ -1,18 +1,18 @@
 use Rattle.std.proofs.Common.{◌≡◌, List, [], map, subst, sym}
 use denote.Ref.{Bor}
 use Rattle.formatter.specs.Comments.{HasNoDefinitions}
-use Rattle.editor_diagnostics.specs.Remarks.{as_remarked}
-use Rattle.editor_diagnostics.specs.declared.remark.Remark.{Remark}
+use Rattle.editor_diagnostics.specs.Diagnostics.{as_diagnosis}
+use Rattle.editor_diagnostics.specs.declared.diagnostic.Diagnostic.{Diagnostic}
 use Rattle.editor_validation.specs.Fragments.{as_fragments}
 use Rattle.editor_validation.specs.declared.fragments.FragmentNames.{FragmentNames}
 use Rattle.gqlls_server.proofs.Texts.{same_publication}
 use Rattle.gqlls_server.proofs.documents.Document.notification.Goals as goal
-use Rattle.gqlls_server.specs.Diagnostics.{AreRemarksOf}
+use Rattle.gqlls_server.specs.Diagnostics.{AreDiagnosticsOf}
 
 pub returns-clause-published : goal.returns-clause-published
 returns-clause-published c =
     let document = c.args.self.now in
-    let parsed = c.in_ok-remarks.ensures.parsed in
+    let parsed = c.in_ok-diagnostics.ensures.parsed in
     let found = sym c.as_slice.ensures.value in
     let others = map (λ (f : Bor FragmentNames). as_fragments f.now) c.args.others.now in
     record {
@@ -21,13 +21,13 @@ returns-clause-published c =
       parsed = document.parsed;
       promise = parsed.promise;
       named = parsed.named;
-      remarks = map as_remarked c.as_slice.result.now;
+      diagnostics = map as_diagnosis c.as_slice.result.now;
       said = subst
-          (λ (found : List Remark). (¬ HasNoDefinitions document.source)
-          → AreRemarksOf c.args.takes_related others document.parsed (map as_remarked found)) found
-          c.in_ok-remarks.ensures.said;
-      silent = subst (λ (found : List Remark). HasNoDefinitions document.source → map as_remarked found ≡ []) found
-          c.in_ok-remarks.ensures.silent;
+          (λ (found : List Diagnostic). (¬ HasNoDefinitions document.source)
+          → AreDiagnosticsOf c.args.takes_related others document.parsed (map as_diagnosis found)) found
+          c.in_ok-diagnostics.ensures.said;
+      silent = subst (λ (found : List Diagnostic). HasNoDefinitions document.source → map as_diagnosis found ≡ []) found
+          c.in_ok-diagnostics.ensures.silent;
       published = same_publication _ _ _ _ _ _ _ _ c.in_ok-positions.ensures.encoding c.in_ok-positions.ensures.text
           c.in_ok-body.ensures.published;
     }

@@ -1,7 +1,7 @@
 use Rattle.std.proofs.Common.{ap, refl, rules}
 use Rattle.std.specs.Prelude.{option_map}
 use Rattle.json.specs.Value.{value_view}
-use Rattle.rpc_messages.specs.declared.reply.Reply.TheVariants.{Notice}
+use Rattle.rpc_messages.specs.declared.reply.Reply.TheVariants.{Notification}
 use Rattle.gqlls_server.proofs.Maps.{updated}
 use Rattle.gqlls_server.proofs.Messages.{closes, found_in}
 use Rattle.gqlls_server.proofs.server.Server.close.Goals as goal
@@ -11,7 +11,7 @@ use Rattle.gqlls_server.specs.declared.server.Server.{Server}
 pub returns-clause-closes : goal.returns-clause-closes
 returns-clause-closes c =
     let after : Server = record c.args.self.now { documents = c.remove.new.self } in
-    closes (value_view c.args.params.now) (Notice c.in_ok-notification.notification)
+    closes (value_view c.args.params.now) (Notification c.in_ok-notification.notification)
     (dialogue_of c.args.self.now) (dialogue_of after)
     c.in-Some.uri.now file_of c.remove.result
     (found_in _ _ _ _ c.uri_of.ensures c.in-Some.is) (ap (option_map file_of) c.remove.ensures.value) (search rules)

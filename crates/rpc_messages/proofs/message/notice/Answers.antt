@@ -1,8 +1,0 @@
-use Rattle.rpc_messages.proofs.Answered.{notice_text, notifies}
-use Rattle.rpc_messages.proofs.message.notice.Goals as goal
-
-pub returns-clause-params : goal.returns-clause-params
-returns-clause-params c = λ members e. notice_text _ _ _ members e c.in_ok-body.ensures
-
-pub returns-clause-notifies : goal.returns-clause-notifies
-returns-clause-notifies c = notifies _ _ _ c.requires c.in_ok-body.ensures
