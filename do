@@ -59,6 +59,11 @@ must() {
     "$@" || { echo "./do quick: $* failed. $mend" >&2; failed=1; }
 }
 
+# Whether each file of Rattle is as `rt fmt` writes it.
+are_formatted() {
+    find crates -name '*.rt' -print0 -o -name '*.antt' -print0 | xargs -0 rattle fmt --check
+}
+
 quick() {
     failed=0
     must "Run ./do generate." tools/generate/run --check
@@ -74,6 +79,7 @@ quick() {
     must "Break the line, part the paragraph, or write the sentence in other words." tools/words
     must "Run ./do generate." release/packages/run table --check
     must "Run tools/imports." tools/imports --check
+    must "Run rt fmt in the folder of the crate." are_formatted
     must "Mend the line." tools/lint
     return $failed
 }
