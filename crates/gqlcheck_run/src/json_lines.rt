@@ -7,7 +7,7 @@ ghost use Rattle.gqlcheck_run.specs.Places.{BeginsWithJson};
 ghost use Rattle.gqlcheck_run.specs.Rendering.{BeginsAtFirst};
 
 use crate::json_members::{
-    begun, close_object, ended, open_object, put_end, put_flag, put_number, put_text,
+    close_object, lines_of, object_writer, open_object, put_end, put_flag, put_number, put_text,
 };
 use crate::others::Others;
 use crate::places::{Part, column_of, line_of, offset_within, part_between};
@@ -179,11 +179,11 @@ fn finding_line<A: Allocator + Copy>(
         → BeginsWithJson name.now source.now (min finding.now.start (length source.now)) it.items) }
 {
     let part = part_between(source, finding.start, finding.end);
-    let mut out = begun(lines)?;
+    let mut out = object_writer(lines)?;
     put_position(&mut out, name, source, index, part.start)?;
     put_extent(&mut out, source, index, part)?;
     put_finding(&mut out, others, name, source, index, finding)?;
-    ended(out)
+    lines_of(out)
 }
 
 // The line that says how many more findings there are.
@@ -194,11 +194,11 @@ fn more_line<A: Allocator>(
 ) -> Result<Vec<u8, A>, AllocError>
     ensures { IfOk result (λ it. BeginsWith it.items lines.items) }
 {
-    let mut out = begun(lines)?;
+    let mut out = object_writer(lines)?;
     put_text(&mut out, "file", name)?;
     put_number(&mut out, "more", report.more as u64)?;
     put_flag(&mut out, "atLeast", report.at_least)?;
-    ended(out)
+    lines_of(out)
 }
 
 fn put_figures<A: Allocator>(
@@ -228,12 +228,12 @@ fn operation_line<A: Allocator>(
     ensures { IfOk result (λ it. BeginsWith it.items lines.items) }
 {
     let start = offset_within(source, operation.start);
-    let mut out = begun(lines)?;
+    let mut out = object_writer(lines)?;
     put_position(&mut out, name, source, index, start)?;
     put_number(&mut out, "offset", start as u64)?;
     put_text(&mut out, "operation", operation.name.as_str())?;
     put_figures(&mut out, operation)?;
-    ended(out)
+    lines_of(out)
 }
 
 // A line for each finding.

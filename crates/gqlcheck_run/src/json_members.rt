@@ -9,7 +9,7 @@ use line_index::LineIndex;
 use std::alloc::{AllocError, Allocator};
 
 /// A line that an object begins, behind the others.
-pub fn begun<A: Allocator>(lines: Vec<u8, A>) -> Result<Writer<A>, AllocError>
+pub fn object_writer<A: Allocator>(lines: Vec<u8, A>) -> Result<Writer<A>, AllocError>
     ensures before { IfOk result (λ out. out.before ≡ lines.items) }
     ensures tokens { IfOk result (λ out. out.tokens ≡ begin_object ∷ []) }
 {
@@ -19,7 +19,7 @@ pub fn begun<A: Allocator>(lines: Vec<u8, A>) -> Result<Writer<A>, AllocError>
 }
 
 /// All of that, with the end of the line's object and its line feed.
-pub fn ended<A: Allocator>(mut out: Writer<A>) -> Result<Vec<u8, A>, AllocError>
+pub fn lines_of<A: Allocator>(mut out: Writer<A>) -> Result<Vec<u8, A>, AllocError>
     ensures { IfOk result (λ lines. IsEnded out lines.items) }
 {
     out.end_object()?;

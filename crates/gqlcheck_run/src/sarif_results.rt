@@ -10,7 +10,8 @@ ghost use Rattle.gqlcheck_run.specs.SarifResults.{artifact_location, artifact_ur
 ghost use Rattle.gqlcheck_run.specs.SarifResults.{region, scheme_of, separator};
 
 use crate::json_members::{
-    begun, close_list, close_object, ended, open_list, open_object, put_end, put_number, put_text,
+    close_list, close_object, lines_of, object_writer, open_list, open_object, put_end, put_number,
+    put_text,
 };
 use crate::others::Others;
 use crate::places::{Part, column_of, line_of, part_between};
@@ -259,7 +260,7 @@ fn finding_line<A: Allocator + Copy>(
 {
     let part = part_between(source, finding.start, finding.end);
     let lines = separated(lines, follows)?;
-    let mut out = begun(lines)?;
+    let mut out = object_writer(lines)?;
     put_locations(&mut out, uri, source, index, part)?;
     put_words(
         &mut out,
@@ -268,7 +269,7 @@ fn finding_line<A: Allocator + Copy>(
         finding.message.as_str(),
     )?;
     put_related_locations(&mut out, others, uri, source, index, finding.other)?;
-    ended(out)
+    lines_of(out)
 }
 
 // A line for each finding.
@@ -307,10 +308,10 @@ fn more_line<A: Allocator>(
 {
     let part = part_between(source, 0, 0);
     let lines = separated(lines, true)?;
-    let mut out = begun(lines)?;
+    let mut out = object_writer(lines)?;
     put_locations(&mut out, uri, source, index, part)?;
     put_words(&mut out, "MoreFindings", "note", message)?;
-    ended(out)
+    lines_of(out)
 }
 
 // The lines with that one, if there are more.

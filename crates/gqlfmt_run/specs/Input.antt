@@ -35,16 +35,16 @@ IsShown Diff name source text Found output = (text ≢ source) × IsDiff name ou
 IsShown mode name source text settled output = ⊥
 
 -- what is written of a text that is left alone: the text itself, and nothing in a mode that shows what would change
-abbrev pub kept : Mode → List ℕ → List ℕ
-kept Write source = source
-kept Print source = source
-kept Check source = []
-kept Diff source = []
+abbrev pub unformatted_output : Mode → List ℕ → List ℕ
+unformatted_output Write source = source
+unformatted_output Print source = source
+unformatted_output Check source = []
+unformatted_output Diff source = []
 
 -- That is written of an input, by how that ended.
 abbrev pub PassesOn : Mode → Result Settled Fault → List ℕ → Account → Account → Type 0
-PassesOn mode (Ok settled) input old new = (settled ≡ Done) × (new ≡ moved old (kept mode input))
+PassesOn mode (Ok settled) input old new = (settled ≡ Done) × (new ≡ moved old (unformatted_output mode input))
 PassesOn mode (Err fault.Read) input old new = new ≡ old
 PassesOn mode (Err fault.Utf8) input old new = ⊥
 PassesOn mode (Err fault.Memory) input old new = new ≡ old
-PassesOn mode (Err fault.Write) input old new = IsBroken (kept mode input) old new
+PassesOn mode (Err fault.Write) input old new = IsBroken (unformatted_output mode input) old new

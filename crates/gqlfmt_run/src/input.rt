@@ -5,19 +5,19 @@ ghost use Rattle.byte_streams.specs.declared.fault.Fault.TheVariants.{Read};
 ghost use Rattle.gqlfmt_run.specs.declared.settlement.Settled.TheVariants.{Refused};
 ghost use Rattle.gqlfmt_run.specs.Complaints.{IsSilent, SaysReason};
 ghost use Rattle.gqlfmt_run.specs.Formatting.{IsLaidOut, IsRefused};
-ghost use Rattle.gqlfmt_run.specs.Input.{IsOutput, PassesOn, kept};
+ghost use Rattle.gqlfmt_run.specs.Input.{IsOutput, PassesOn, unformatted_output};
 
 use crate::job::Job;
 use crate::settlement::Settled;
-use crate::shown_changes::shown;
+use crate::shown_changes::formatted_output;
 use byte_streams::{Fault, Sink, Source, read_to_end, write_all};
 use command_lines::gqlfmt::Mode;
 use formatter::DocumentFormatter;
 use std::alloc::{AllocError, Allocator};
 
 // What is written of a text that is left alone.
-fn kept(mode: Mode, bytes: &[u8]) -> &[u8]
-    ensures { result.now ≡ kept mode bytes.now }
+fn unformatted_output(mode: Mode, bytes: &[u8]) -> &[u8]
+    ensures { result.now ≡ unformatted_output mode bytes.now }
 {
     match mode {
         Mode::Write | Mode::Print => bytes,
@@ -71,7 +71,9 @@ impl<A: Allocator + Copy, L: DocumentFormatter> Job<'_, A, L> {
     {
         match self.format_or_complain(complaints, name, source)? {
             Some(text) => {
-                let (settled, output) = shown(self.alloc, self.mode, name, source, text)?;
+                let (settled, output) = formatted_output(
+                    self.alloc, self.mode, name, source, text,
+                )?;
                 Ok((settled, output))
             }
             None => Ok((Settled::Refused, String::new(self.alloc))),
@@ -129,7 +131,7 @@ impl<A: Allocator + Copy, L: DocumentFormatter> Job<'_, A, L> {
             × PassesOn self.now.mode result input (W.account writer.old) (W.account writer.new) }
     {
         let bytes = read_to_end(self.alloc, reader)?;
-        write_all(writer, kept(self.mode, bytes.as_slice()))?;
+        write_all(writer, unformatted_output(self.mode, bytes.as_slice()))?;
         Ok(Settled::Done)
     }
 }

@@ -12,7 +12,7 @@ use std::alloc::{AllocError, Allocator};
 /// What comes of a source of this name that has this formatted text, and what is written of it. In the modes write and
 /// print that is the formatted text. In the modes check and diff it is the quoted name as a line, or the changes from
 /// the source, and nothing where formatting changes nothing.
-pub fn shown<A: Allocator + Copy>(
+pub fn formatted_output<A: Allocator + Copy>(
     alloc: A,
     mode: Mode,
     name: &str,

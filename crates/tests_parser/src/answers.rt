@@ -18,48 +18,48 @@ impl Answers {
         }
     }
 
-    fn note(&mut self, written: Result<(), AllocError>) {
+    fn check(&mut self, written: Result<(), AllocError>) {
         self.is_whole = self.is_whole && written.is_ok();
     }
 
-    pub fn say(&mut self, words: &str) {
+    pub fn push_text(&mut self, words: &str) {
         let written = self.text.push_str(words);
-        self.note(written);
+        self.check(written);
     }
 
     pub fn end_line(&mut self) {
-        self.say("\n");
+        self.push_text("\n");
     }
 
     /// The value as it is shown to people.
     pub fn show<T: Display>(&mut self, value: &T) {
         let written = write!(self.text, "{value}");
-        self.note(written);
+        self.check(written);
     }
 
     /// The value as it is shown to programmers.
     pub fn debug<T: Debug>(&mut self, value: &T) {
         let written = write!(self.text, "{value:?}");
-        self.note(written);
+        self.check(written);
     }
 
     /// The same as `debug`, and the words after it.
     pub fn write<T: Debug>(&mut self, value: &T, after: &str) {
         self.debug(value);
-        self.say(after);
+        self.push_text(after);
     }
 
     /// The text that was made, and the words after it.
     pub fn made(&mut self, text: Result<String, AllocError>, after: &str) {
         match text {
             Ok(text) => self.write(&text.as_str(), after),
-            Err(refused) => self.note(Err(refused)),
+            Err(refused) => self.check(Err(refused)),
         }
     }
 
     /// The same as `debug` after a space.
     pub fn put<T: Debug>(&mut self, value: &T) {
-        self.say(" ");
+        self.push_text(" ");
         self.debug(value);
     }
 

@@ -163,7 +163,7 @@ fn leaves() -> [Row; 6] {
 
 fn put_rows(found: &mut Answers, rows: &[Row]) {
     for (name, kind) in rows {
-        found.say(name);
+        found.push_text(name);
         found.put(kind);
         found.end_line();
     }
@@ -171,7 +171,7 @@ fn put_rows(found: &mut Answers, rows: &[Row]) {
 
 // The kinds that a choice takes.
 fn put_choice<'t, N: CstNode<'t>>(found: &mut Answers, name: &str) {
-    found.say(name);
+    found.push_text(name);
     for number in 0..SyntaxKind::COUNT {
         if let Some(kind) = SyntaxKind::from_u16(number)
             && N::can_cast(kind)

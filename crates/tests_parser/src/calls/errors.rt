@@ -20,7 +20,7 @@ fn about_a_limit(alloc: Global) -> Result<Error, AllocError> {
 
 fn put_error(found: &mut Answers, error: &Error) {
     found.show(error);
-    found.say("|");
+    found.push_text("|");
     found.put(error);
     found.put(&error.message());
     found.put(&error.data());
@@ -31,7 +31,7 @@ fn put_error(found: &mut Answers, error: &Error) {
 }
 
 fn put_comparison(found: &mut Answers, error: &Error, other: &Error) {
-    found.say("equal:");
+    found.push_text("equal:");
     found.put(&(*error == *other));
     found.end_line();
 }
@@ -59,7 +59,7 @@ fn hash_of(error: &Error) -> u64 {
 fn put_clone(alloc: Global, found: &mut Answers, error: &Error) -> Result<(), AllocError> {
     let copy = error.try_clone(alloc)?;
     put_comparison(found, error, &copy);
-    found.say("one hash:");
+    found.push_text("one hash:");
     found.put(&(hash_of(error) == hash_of(&copy)));
     found.end_line();
     Ok(())

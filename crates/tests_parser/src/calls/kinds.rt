@@ -7,7 +7,7 @@ use lexical_grammar::{Edge, TokenKind, escape, hex_digits_len};
 fn put_token_kinds(found: &mut Answers) {
     let kind = TokenKind::StringValue;
     let copy = kind;
-    found.say("token kinds:");
+    found.push_text("token kinds:");
     found.put(&kind);
     found.put(&(copy == kind));
     found.put(&(kind == TokenKind::Name));
@@ -36,11 +36,11 @@ const ESCAPES: [&str; 15] = [
 
 fn put_escapes(found: &mut Answers) {
     for text in ESCAPES {
-        found.say(text);
+        found.push_text(text);
         found.put(&escape(text.as_bytes()));
         found.end_line();
     }
-    found.say("hex digits:");
+    found.push_text("hex digits:");
     found.put(&hex_digits_len(b"09afAFg"));
     found.end_line();
 }
@@ -56,7 +56,7 @@ const TOUCHING: [(TokenKind, &str, u8, u8); 4] = [
 fn put_touching(found: &mut Answers) {
     for (kind, text, after, joining) in TOUCHING {
         let edge = Edge::of(kind, text);
-        found.say(text);
+        found.push_text(text);
         found.put(&edge.may_touch(TokenKind::Name, after));
         found.put(&edge.may_touch(TokenKind::Name, joining));
         found.end_line();
@@ -67,7 +67,7 @@ fn put_touching(found: &mut Answers) {
 fn put_edges(found: &mut Answers) {
     let string = Edge::of(TokenKind::StringValue, "\"a\"");
     let blank = Edge::of(TokenKind::Whitespace, " ");
-    found.say("edges:");
+    found.push_text("edges:");
     found.put(&(string == Edge::of(TokenKind::RCurly, "}")));
     found.put(&blank.may_touch(TokenKind::Whitespace, b' '));
     found.end_line();
@@ -75,7 +75,7 @@ fn put_edges(found: &mut Answers) {
 
 // The numbers that are those of trivia, that are no kind's, or that give another kind's.
 fn put_numbers(found: &mut Answers) {
-    found.say("numbers:");
+    found.push_text("numbers:");
     for number in 0..=SyntaxKind::COUNT {
         match SyntaxKind::from_u16(number) {
             Some(kind) if kind.to_u16() == number && !kind.is_trivia() => {}
@@ -92,7 +92,7 @@ fn put_keywords(found: &mut Answers) {
         SyntaxKind::NAME,
         SyntaxKind::IDENT,
     ] {
-        found.say("kind:");
+        found.push_text("kind:");
         found.put(&kind);
         found.put(&kind.keyword());
         found.put(&kind.is(SyntaxKind::NAME));

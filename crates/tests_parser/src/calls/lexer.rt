@@ -25,7 +25,7 @@ fn put_items(alloc: Global, found: &mut Answers, lexer: Lexer<'_>) -> Result<(),
     for item in lexer {
         put_item(alloc, found, item)?;
     }
-    found.say("no more\n");
+    found.push_text("no more\n");
     Ok(())
 }
 
@@ -55,7 +55,7 @@ fn put_later_limits(alloc: Global, found: &mut Answers) -> Result<(), AllocError
 // Tokens and errors are listed apart.
 fn put_lists(alloc: Global, found: &mut Answers) -> Result<(), AllocError> {
     let (tokens, errors) = lexer_of("type Query { ..a a a a a a a a a }", 10).lex(alloc)?;
-    found.say("tokens:");
+    found.push_text("tokens:");
     found.put(&tokens.len());
     for error in &errors {
         put_listed(found, error);
@@ -77,7 +77,7 @@ fn put_counts(found: &mut Answers, tracker: &LimitTracker) {
 
 fn put_tracker(found: &mut Answers) {
     let mut tracker = LimitTracker::new(1);
-    found.say("tracker:");
+    found.push_text("tracker:");
     found.put(&tracker.check_and_increment());
     put_counts(found, &tracker);
     found.put(&tracker.check_and_increment());
@@ -85,20 +85,20 @@ fn put_tracker(found: &mut Answers) {
     tracker.decrement();
     put_counts(found, &tracker);
     found.put(&tracker);
-    found.say(" ");
+    found.push_text(" ");
     found.show(&tracker);
     found.end_line();
 }
 
 fn put_token(found: &mut Answers, token: Token<'_>) {
-    found.say(token.name());
+    found.push_text(token.name());
     found.put(&token.data());
     found.put(&token.index());
     found.end_line();
 }
 
 fn put_fault(found: &mut Answers, error: LexError<'_>) {
-    found.say("fault:");
+    found.push_text("fault:");
     found.put(&error.message_parts());
     found.put(&error.data());
     found.put(&error.index());
@@ -110,7 +110,7 @@ fn put_next(found: &mut Answers, lexer: &mut Lexer<'_>) {
     match lexer.next() {
         Some(Ok(token)) => put_token(found, token),
         Some(Err(error)) => put_fault(found, error),
-        None => found.say("nothing\n"),
+        None => found.push_text("nothing\n"),
     }
 }
 
@@ -119,12 +119,12 @@ fn put_copies(found: &mut Answers) {
     let mut lexer = lexer_of("a b", 2);
     put_next(found, &mut lexer);
     let mut copy = lexer;
-    found.say("copy:");
+    found.push_text("copy:");
     found.put(&(lexer.next() == copy.next_counted(&mut Steps::zero())));
     found.end_line();
     put_next(found, &mut lexer);
     put_next(found, &mut lexer);
-    found.say("highest count:");
+    found.push_text("highest count:");
     found.put(&lexer.limit_tracker().high);
     found.end_line();
 }

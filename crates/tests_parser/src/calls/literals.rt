@@ -11,7 +11,7 @@ const TEXTS: [&str; 4] = [
 ];
 
 fn put_lines(found: &mut Answers, text: &str) {
-    found.say("lines:");
+    found.push_text("lines:");
     for line in GraphQLLines::new(text) {
         found.put(&line);
     }
@@ -21,7 +21,7 @@ fn put_lines(found: &mut Answers, text: &str) {
 // No line follows the last.
 fn put_last_line(found: &mut Answers) {
     let mut lines = GraphQLLines::new("é");
-    found.say("next lines:");
+    found.push_text("next lines:");
     for _ in 0..3 {
         found.put(&lines.next());
     }
@@ -46,11 +46,11 @@ const RAW_VALUES: [&str; 10] = [
 ];
 
 fn put_strings(alloc: Global, found: &mut Answers) -> Result<(), AllocError> {
-    found.say("raw values:");
+    found.push_text("raw values:");
     for inside in INSIDES {
         found.put(&raw_value(inside, alloc)?.as_str());
     }
-    found.say("\nblock values:");
+    found.push_text("\nblock values:");
     for raw in RAW_VALUES {
         found.put(&block_value(raw, alloc)?.as_str());
     }
@@ -64,7 +64,7 @@ pub fn put_answers(alloc: Global, found: &mut Answers) -> Result<(), AllocError>
     }
     put_last_line(found);
     put_strings(alloc, found)?;
-    found.say("error:");
+    found.push_text("error:");
     found.put(&LiteralError::OutOfRange);
     found.put(&(LiteralError::OutOfRange == LiteralError::OutOfRange));
     found.end_line();

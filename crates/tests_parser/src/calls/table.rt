@@ -45,7 +45,7 @@ fn narrow_table(alloc: Global) -> Result<RecordTable<Global>, AllocError> {
 // The numbers of records, and the start and the size of each.
 fn put_table(found: &mut Answers, table: &RecordTable<Global>) {
     let records = table.as_records();
-    found.say("table:");
+    found.push_text("table:");
     found.put(&table.len());
     found.put(&records.len());
     for index in 0..records.len() {

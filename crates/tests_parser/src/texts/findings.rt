@@ -53,13 +53,13 @@ impl Parsed for TypeRoot {
 fn put_subject(found: &mut Answers, index: usize, is_limit: bool, is_eof: bool, data: &str) {
     found.write(&index, " ");
     if is_limit {
-        found.say("limit");
+        found.push_text("limit");
     } else if is_eof {
-        found.say("end");
+        found.push_text("end");
     } else {
         found.write(&data, "");
     }
-    found.say(": ");
+    found.push_text(": ");
 }
 
 fn put_error(found: &mut Answers, error: &Error) {
@@ -70,7 +70,7 @@ fn put_error(found: &mut Answers, error: &Error) {
         error.is_eof(),
         error.data(),
     );
-    found.say(error.message());
+    found.push_text(error.message());
     found.end_line();
 }
 
@@ -111,7 +111,7 @@ fn put_tree<R: Root>(found: &mut Answers, tree: &SyntaxTree<R, Global>) {
         tree.token_limit(),
         tree.recursion_limit(),
     );
-    found.say(", ");
+    found.push_text(", ");
     found.write(&tree.errors().len(), " errors\n");
 }
 
@@ -194,7 +194,7 @@ fn put_view<R: Parsed>(
             put_errors(found, tree);
             match R::typed(tree) {
                 Some(root) => put_nodes(alloc, found, root, view)?,
-                None => found.say("no type\n"),
+                None => found.push_text("no type\n"),
             }
         }
     }
@@ -247,9 +247,9 @@ fn put_borrowed_error(found: &mut Answers, error: &BorrowedError<'_>) {
         error.data(),
     );
     let (words, quoted, end) = error.message_parts();
-    found.say(words);
-    found.say(quoted);
-    found.say(end);
+    found.push_text(words);
+    found.push_text(quoted);
+    found.push_text(end);
     found.end_line();
 }
 
@@ -278,7 +278,7 @@ fn put_borrowed_tree(found: &mut Answers, tree: &BorrowedSyntaxTree<'_, Document
         tree.token_limit(),
         tree.recursion_limit(),
     );
-    found.say("; ");
+    found.push_text("; ");
     found.write(&tree.element(last), "\n");
 }
 
@@ -325,7 +325,7 @@ fn put_pointed(
     let tree = document(alloc, source)?;
     match pointer.to_node(&tree.root()) {
         Some(node) => found.write(&(node.kind(), node.text()), "\n"),
-        None => found.say("no node\n"),
+        None => found.push_text("no node\n"),
     }
     Ok(())
 }

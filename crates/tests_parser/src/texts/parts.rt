@@ -20,7 +20,7 @@ fn variable_name(definition: VariableDefinition<'_>) -> Option<&str> {
 
 // The names of the variables.
 fn put_variables(found: &mut Answers, list: VariableDefinitions<'_>) {
-    found.say("variables: ");
+    found.push_text("variables: ");
     for definition in list.variable_definitions() {
         found.write(&variable_name(definition), " ");
     }
@@ -29,7 +29,7 @@ fn put_variables(found: &mut Answers, list: VariableDefinitions<'_>) {
 
 // Its name, and whether it has a type, a description and a selection set.
 fn put_operation(found: &mut Answers, operation: OperationDefinition<'_>) {
-    found.say("operation ");
+    found.push_text("operation ");
     found.write(&name_text(operation.name()), ", type ");
     found.write(&operation.operation_type().is_some(), ", description ");
     found.write(&operation.description().is_some(), ", selections ");
@@ -53,7 +53,7 @@ fn described_as(definition: VariableDefinition<'_>) -> Option<StringValue<'_>> {
 }
 
 fn put_variable(alloc: Global, found: &mut Answers, definition: VariableDefinition<'_>) {
-    found.say("variable ");
+    found.push_text("variable ");
     found.write(&variable_name(definition), ": ");
     found.write(&type_name(definition.ty()), " ");
     if let Some(description) = described_as(definition) {
@@ -73,7 +73,7 @@ fn put_literal(alloc: Global, found: &mut Answers, value: Value<'_>) {
 }
 
 fn put_arguments(alloc: Global, found: &mut Answers, arguments: Arguments<'_>) {
-    found.say("arguments: ");
+    found.push_text("arguments: ");
     for argument in arguments.arguments() {
         if let Some(value) = argument.value() {
             put_literal(alloc, found, value);
@@ -87,7 +87,7 @@ fn alias_of(field: Field<'_>) -> Option<&str> {
 }
 
 fn put_field(alloc: Global, found: &mut Answers, field: Field<'_>) {
-    found.say("field ");
+    found.push_text("field ");
     found.write(&name_text(field.name()), ", alias ");
     found.write(&alias_of(field), "\n");
     match field.arguments() {
@@ -114,7 +114,7 @@ fn put_selection(found: &mut Answers, selection: Selection<'_>) {
 }
 
 fn put_selections(found: &mut Answers, set: SelectionSet<'_>) {
-    found.say("selections: ");
+    found.push_text("selections: ");
     for selection in set.selections() {
         put_selection(found, selection);
     }
@@ -122,7 +122,7 @@ fn put_selections(found: &mut Answers, set: SelectionSet<'_>) {
 }
 
 fn put_members(found: &mut Answers, members: UnionMemberTypes<'_>) {
-    found.say("members: ");
+    found.push_text("members: ");
     for member in members.named_types() {
         found.write(&name_text(member.name()), " ");
     }
@@ -130,7 +130,7 @@ fn put_members(found: &mut Answers, members: UnionMemberTypes<'_>) {
 }
 
 fn put_union(found: &mut Answers, union: UnionTypeDefinition<'_>) {
-    found.say("union ");
+    found.push_text("union ");
     found.write(&name_text(union.name()), "\n");
     match union.union_member_types() {
         Some(members) => put_members(found, members),
@@ -139,7 +139,7 @@ fn put_union(found: &mut Answers, union: UnionTypeDefinition<'_>) {
 }
 
 fn put_fields(found: &mut Answers, fields: FieldsDefinition<'_>) {
-    found.say("fields: ");
+    found.push_text("fields: ");
     for field in fields.field_definitions() {
         found.write(&name_text(field.name()), " ");
     }
@@ -147,7 +147,7 @@ fn put_fields(found: &mut Answers, fields: FieldsDefinition<'_>) {
 }
 
 fn put_object(found: &mut Answers, object: ObjectTypeDefinition<'_>) {
-    found.say("object type ");
+    found.push_text("object type ");
     found.write(&name_text(object.name()), "\n");
     match object.fields_definition() {
         Some(fields) => put_fields(found, fields),
@@ -177,7 +177,7 @@ fn value_text(definition: EnumValueDefinition<'_>) -> &str {
 
 // Each value, with the string of its first directive.
 fn put_enum_values(alloc: Global, found: &mut Answers, values: EnumValuesDefinition<'_>) {
-    found.say("enum values: ");
+    found.push_text("enum values: ");
     for value in values.enum_value_definitions() {
         found.write(&value_text(value), " ");
         if let Some(string) = string_of(value) {
@@ -193,7 +193,7 @@ fn location_text(location: DirectiveLocation<'_>) -> Option<&str> {
 
 // Each location, and whether it is `FIELD`.
 fn put_locations(found: &mut Answers, locations: DirectiveLocations<'_>) {
-    found.say("locations: ");
+    found.push_text("locations: ");
     for location in locations.directive_locations() {
         found.write(&location_text(location), " ");
         found.write(&location.field_token().is_some(), " ");
@@ -202,7 +202,7 @@ fn put_locations(found: &mut Answers, locations: DirectiveLocations<'_>) {
 }
 
 fn put_directive(found: &mut Answers, directive: DirectiveDefinition<'_>) {
-    found.say("directive ");
+    found.push_text("directive ");
     found.write(&name_text(directive.name()), ", repeatable ");
     found.write(&directive.repeatable_token().is_some(), ", on ");
     found.write(&directive.on_token().is_some(), "\n");
@@ -213,7 +213,7 @@ fn put_directive(found: &mut Answers, directive: DirectiveDefinition<'_>) {
 }
 
 fn put_inputs(found: &mut Answers, arguments: ArgumentsDefinition<'_>) {
-    found.say("arguments: ");
+    found.push_text("arguments: ");
     for argument in arguments.input_value_definitions() {
         found.write(&name_text(argument.name()), " ");
     }
@@ -221,7 +221,7 @@ fn put_inputs(found: &mut Answers, arguments: ArgumentsDefinition<'_>) {
 }
 
 fn put_field_definition(found: &mut Answers, field: FieldDefinition<'_>) {
-    found.say("field definition ");
+    found.push_text("field definition ");
     found.write(&name_text(field.name()), "\n");
     match field.arguments_definition() {
         Some(arguments) => put_inputs(found, arguments),
@@ -238,7 +238,7 @@ fn type_text(input: InputValueDefinition<'_>) -> Option<&str> {
 }
 
 fn put_input(found: &mut Answers, input: InputValueDefinition<'_>) {
-    found.say("input value ");
+    found.push_text("input value ");
     found.write(&name_text(input.name()), ": ");
     found.write(&type_text(input), " = ");
     found.write(&default_text(input), "\n");
@@ -255,7 +255,7 @@ fn put_definition(found: &mut Answers, definition: Definition<'_>) {
 }
 
 fn put_named_type(found: &mut Answers, ty: NamedType<'_>) {
-    found.say("named type ");
+    found.push_text("named type ");
     found.write(&name_text(ty.name()), "\n");
 }
 

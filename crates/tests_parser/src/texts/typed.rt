@@ -23,19 +23,19 @@ fn description_of(definition: Definition<'_>) -> Option<StringValue<'_>> {
 }
 
 fn put_definition(alloc: Global, found: &mut Answers, definition: Definition<'_>) {
-    found.say(definition.kind());
+    found.push_text(definition.kind());
     if let Some(name) = definition.name() {
-        found.say(" ");
-        found.say(name.text().as_str());
+        found.push_text(" ");
+        found.push_text(name.text().as_str());
     }
     if definition.is_executable_definition() {
-        found.say(", executable");
+        found.push_text(", executable");
     }
     if definition.is_extension_definition() {
-        found.say(", an extension");
+        found.push_text(", an extension");
     }
     if let Some(description) = description_of(definition) {
-        found.say(", described as ");
+        found.push_text(", described as ");
         found.made(description.to_string_in(alloc), "");
     }
     found.end_line();
@@ -58,7 +58,7 @@ fn put_value(alloc: Global, found: &mut Answers, node: SyntaxNode<'_>) {
     if let Some(integer) = IntValue::cast(node) {
         match i32::try_from(&integer) {
             Ok(number) => found.write(&number, "\n"),
-            Err(_) => found.say("out of range\n"),
+            Err(_) => found.push_text("out of range\n"),
         }
     }
 }

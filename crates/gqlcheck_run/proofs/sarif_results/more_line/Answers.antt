@@ -5,8 +5,8 @@ use Rattle.gqlcheck_run.proofs.sarif_results.more_line.Goals as goal
 use Rattle.gqlcheck_run.specs.SarifResults.{separator}
 
 pub returns : goal.returns
-returns g c = IfOk-weaker c.ended.result _ _ (λ it ended.
+returns g c = IfOk-weaker c.lines_of.result _ _ (λ it ended.
     grown_after _ c.args.lines.items (separator true) it.items
     (c.in_ok-put_words.ensures.adds.before ∙ c.in_ok-put_locations.ensures.1.before ∙ c.in_ok-out.ensures.before
     ∙ c.in_ok-lines.ensures) ended)
-    c.ended.ensures
+    c.lines_of.ensures
